@@ -1,0 +1,1 @@
+// Whether the parts of an encounter are in their ranges and orders.

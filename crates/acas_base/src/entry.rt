@@ -1,0 +1,28 @@
+// The journal's entries.
+use crate::Cells;
+
+/// One entry of the journal. Aircraft are told by their indices, and a send by its position in the
+/// journal, from 0.
+#[derive(Clone, Copy, Debug, PartialEq, Eq)]
+pub enum Entry {
+    /// `own` ends a cycle with these cells.
+    Commit {
+        own: u8,
+        cycle: u16,
+        cells: Cells,
+    },
+    /// `own` sends a message to `target`, its `number`th to it, from 1.
+    Send {
+        own: u8,
+        target: u8,
+        number: u16,
+        word: u64,
+    },
+    /// `own` takes a copy, from 0, of a message; `good` tells whether its word reads as a message.
+    Take {
+        own: u8,
+        send: u32,
+        copy: u8,
+        good: bool,
+    },
+}

@@ -1,0 +1,29 @@
+//! Plain data of encounters: what several rooms of the product share, and the words about it that
+//! several contracts cite.
+#![tactic(auto)]
+
+mod address;
+mod advisory;
+mod checks;
+mod craft;
+mod encounter;
+mod entry;
+mod level;
+mod link;
+mod view;
+
+pub use address::Address;
+pub use advisory::{Cell, Cells, Intent, Rank, ResMsg, Sense, Strength, Vrc};
+pub use craft::{CraftSpec, Gains, Kind, Leg, Miss};
+pub use encounter::Encounter;
+pub use entry::Entry;
+pub use level::{Level, Row};
+pub use link::{CopyPlan, Fate, LinkPlan};
+pub use view::{Picture, Seps, View};
+
+/// The most aircraft of an encounter, and so the number of views in a picture and of cells in a
+/// commit.
+pub const CRAFTS: usize = 16;
+
+#[cfg(test)]
+mod tests;
