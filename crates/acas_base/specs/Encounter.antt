@@ -27,6 +27,21 @@ pub record Parts : Type 0 where
   pub plans : List LinkPlan
   pub fates : List Fate
 
+-- The encounter of these parts.
+abbrev pub encounter_of : ℕ → ℕ → ℤ → Gains → Gains → List CraftSpec → List Leg → List Miss → List LinkPlan → List Fate → Parts
+encounter_of version cycles elevation range altitude crafts legs misses plans fates = record {
+  version = version;
+  cycles = cycles;
+  elevation = elevation;
+  range = range;
+  altitude = altitude;
+  crafts = crafts;
+  legs = legs;
+  misses = misses;
+  plans = plans;
+  fates = fates;
+}
+
 -- Format 1 or format 2.
 abbrev pub IsVersion : ℕ → Type 0
 IsVersion n = (1 ≤ n) × (n ≤ 2)
@@ -70,13 +85,17 @@ is_active craft = is_active_kind craft.kind
 abbrev pub AreApart : CraftSpec → CraftSpec → Type 0
 AreApart a b = a.address ≢ b.address
 
+-- The rates of a leg are in their ranges.
+pub record AreRates (leg : Leg) : Type 0 where
+  pub vx : IsWithin 2000 leg.vx
+  pub vy : IsWithin 2000 leg.vy
+  pub vz : IsWithin 10000 leg.vz
+
 -- A leg of one of so many aircraft.
 pub record IsLeg (count : ℕ) (leg : Leg) : Type 0 where
   pub craft : leg.craft < count
   pub from : IsCycle leg.from
-  pub vx : IsWithin 2000 leg.vx
-  pub vy : IsWithin 2000 leg.vy
-  pub vz : IsWithin 10000 leg.vz
+  pub rates : AreRates leg
 
 -- Two of so many aircraft.
 pub record IsPair (count a b : ℕ) : Type 0 where
@@ -113,18 +132,16 @@ pub record IsFate (count : ℕ) (fate : Fate) : Type 0 where
   pub number : IsCycle fate.number
   pub copies : AreCopies fate.copies fate.first fate.second fate.third
 
--- Ceilings and plans are of format 2 alone.
-pub record IsPlain (e : Parts) : Type 0 where
-  pub ceilings : All (λ (craft : CraftSpec). craft.ceiling ≡ None) e.crafts
-  pub plans : e.plans ≡ []
+-- What a text of format 1 can say: no ceilings and no plans.
+pub record IsPlain (crafts : List CraftSpec) (plans : List LinkPlan) : Type 0 where
+  pub no_ceiling : All (λ (craft : CraftSpec). craft.ceiling ≡ None) crafts
+  pub no_plan : plans ≡ []
 
--- The numbers of an encounter are in their ranges.
-pub record IsRun (e : Parts) : Type 0 where
-  pub version : IsVersion e.version
-  pub cycles : IsCycle e.cycles
-  pub elevation : IsElevation e.elevation
-  pub range : IsGains e.range
-  pub altitude : IsGains e.altitude
+-- The numbers of a run are in their ranges.
+pub record IsRun (version cycles : ℕ) (elevation : ℤ) : Type 0 where
+  pub format : IsVersion version
+  pub length : IsCycle cycles
+  pub terrain : IsElevation elevation
 
 -- Its aircraft: enough of them, and not too many for the format; each in its ranges; no two with one address; and at
 -- least one that is active.
@@ -135,20 +152,22 @@ pub record AreCrafts (version : ℕ) (crafts : List CraftSpec) : Type 0 where
   pub addresses : AllPairs AreApart crafts
   pub active : IsTrue (list_any is_active crafts)
 
--- Its records: each in its ranges and of its aircraft, and the lists in their orders.
-pub record AreRecords (count : ℕ) (e : Parts) : Type 0 where
-  pub legs : All (IsLeg count) e.legs
-  pub misses : All (IsMiss count) e.misses
-  pub plans : All (IsPlan count) e.plans
-  pub fates : All (IsFate count) e.fates
-  pub leg_order : IsRising leg_below e.legs
-  pub miss_order : IsRising miss_below e.misses
-  pub plan_order : IsRising plan_below e.plans
-  pub fate_order : IsRising fate_below e.fates
+-- Records of so many aircraft, each in its ranges, and in their order.
+abbrev pub AreListed : {X : Type 0} → (ℕ → X → Type 0) → (X → X → Bool) → ℕ → List X → Type 0
+AreListed Fits below count xs = All (Fits count) xs × IsRising below xs
+
+-- The four lists of records of so many aircraft.
+pub record AreRecords (count : ℕ) (xs : List Leg) (ys : List Miss) (zs : List LinkPlan) (ws : List Fate) : Type 0 where
+  pub legs : AreListed IsLeg leg_below count xs
+  pub misses : AreListed IsMiss miss_below count ys
+  pub plans : AreListed IsPlan plan_below count zs
+  pub fates : AreListed IsFate fate_below count ws
 
 -- These parts are an encounter.
 pub record IsEncounter (e : Parts) : Type 0 where
-  pub run : IsRun e
+  pub run : IsRun e.version e.cycles e.elevation
+  pub range : IsGains e.range
+  pub altitude : IsGains e.altitude
   pub crafts : AreCrafts e.version e.crafts
-  pub records : AreRecords (length e.crafts) e
-  pub format : e.version ≡ 1 → IsPlain e
+  pub format : e.version ≡ 1 → IsPlain e.crafts e.plans
+  pub records : AreRecords (length e.crafts) e.legs e.misses e.plans e.fates

@@ -15,7 +15,7 @@ is_below a b = nat_lt a.0 b.0 || (a.0 == b.0 && (nat_lt a.1 b.1 || (a.1 == b.1 &
 
 -- Legs stand by aircraft and first cycle.
 abbrev pub leg_key : Leg → Key
-leg_key leg = (leg.craft, leg.from, 0)
+leg_key leg = (leg.craft, 0, leg.from)
 
 abbrev pub leg_below : Leg → Leg → Bool
 leg_below a b = is_below (leg_key a) (leg_key b)

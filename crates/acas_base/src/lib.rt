@@ -10,6 +10,7 @@ mod encounter;
 mod entry;
 mod level;
 mod link;
+mod records;
 mod view;
 
 pub use address::Address;

@@ -1,0 +1,147 @@
+// The records that stand in the lists of an encounter.
+ghost use Rattle.std.specs.Prelude.{◌≡◌, ◌↔◌, ℕ, Bool, All, IsTrue};
+ghost use Rattle.acas_base.specs.Encounter.{AreListed, AreRecords, IsFate, IsLeg, IsMiss, IsPlan};
+ghost use Rattle.acas_base.specs.Order.{IsRising, fate_below, is_below, leg_below, miss_below, plan_below};
+
+use crate::checks::{are_copies, are_rates, is_cycle, is_pair};
+use crate::{Fate, Leg, LinkPlan, Miss};
+
+/// A record of a list: it names aircraft by their indices, and the list has an order.
+pub(crate) trait Record {
+    ghost fits: { ℕ → Self → Type 0 };
+
+    ghost below: { Self → Self → Bool };
+
+    /// Whether it is in its ranges, and of so many aircraft.
+    fn fits(&self, count: usize) -> bool
+        ensures { IsTrue result ↔ fits count self.now };
+
+    /// Whether it stands before another one.
+    fn is_below(&self, other: &Self) -> bool
+        ensures { result ≡ below self.now other.now };
+}
+
+/// Whether these are the lists of an encounter with so many aircraft.
+pub(crate) fn are_all_records(
+    count: usize,
+    legs: &[Leg],
+    misses: &[Miss],
+    plans: &[LinkPlan],
+    fates: &[Fate],
+) -> bool
+    ensures { IsTrue result ↔ AreRecords count legs.now misses.now plans.now fates.now }
+{
+    are_records(count, legs)
+        && are_records(count, misses)
+        && are_records(count, plans)
+        && are_records(count, fates)
+}
+
+// Whether these are a list of an encounter with so many aircraft.
+fn are_records<T: Record>(count: usize, records: &[T]) -> bool
+    ensures { IsTrue result ↔ AreListed T.fits T.below count records.now }
+{
+    all_fit(count, records) && are_rising(records)
+}
+
+fn all_fit<T: Record>(count: usize, records: &[T]) -> bool
+    ensures { IsTrue result ↔ All (T.fits count) records.now }
+{
+    records.iter().all(|record| record.fits(count))
+}
+
+fn are_rising<T: Record>(records: &[T]) -> bool
+    ensures { IsTrue result ↔ IsRising T.below records.now }
+{
+    records.is_sorted_by(|a, b| a.is_below(b))
+}
+
+type Key = (u16, u16, u16);
+
+fn is_below(a: Key, b: Key) -> bool
+    ensures { result ≡ is_below a b }
+{
+    a.0 < b.0 || (a.0 == b.0 && (a.1 < b.1 || (a.1 == b.1 && a.2 < b.2)))
+}
+
+// A pair of aircraft and a number.
+fn key(first: u8, second: u8, number: u16) -> Key
+    ensures { result ≡ (first, second, number) }
+{
+    (u16::from(first), u16::from(second), number)
+}
+
+impl Record for Leg {
+    ghost fits = { IsLeg };
+
+    ghost below = { leg_below };
+
+    fn fits(&self, count: usize) -> bool {
+        usize::from(self.craft) < count && is_cycle(self.from) && are_rates(self)
+    }
+
+    fn is_below(&self, other: &Leg) -> bool {
+        is_below(
+            key(self.craft, 0, self.from),
+            key(other.craft, 0, other.from),
+        )
+    }
+}
+
+impl Record for Miss {
+    ghost fits = { IsMiss };
+
+    ghost below = { miss_below };
+
+    fn fits(&self, count: usize) -> bool {
+        is_pair(count, self.own, self.target)
+            && is_cycle(self.from)
+            && is_cycle(self.to)
+            && self.from <= self.to
+    }
+
+    // The cycles of an earlier one are over.
+    fn is_below(&self, other: &Miss) -> bool {
+        is_below(
+            key(self.own, self.target, self.to),
+            key(other.own, other.target, other.from),
+        )
+    }
+}
+
+impl Record for LinkPlan {
+    ghost fits = { IsPlan };
+
+    ghost below = { plan_below };
+
+    fn fits(&self, count: usize) -> bool {
+        is_pair(count, self.sender, self.receiver)
+            && are_copies(self.copies, self.first, self.second, self.third)
+    }
+
+    fn is_below(&self, other: &LinkPlan) -> bool {
+        is_below(
+            key(self.sender, self.receiver, 0),
+            key(other.sender, other.receiver, 0),
+        )
+    }
+}
+
+impl Record for Fate {
+    ghost fits = { IsFate };
+
+    ghost below = { fate_below };
+
+    fn fits(&self, count: usize) -> bool {
+        is_pair(count, self.sender, self.receiver)
+            && is_cycle(self.number)
+            && are_copies(self.copies, self.first, self.second, self.third)
+    }
+
+    fn is_below(&self, other: &Fate) -> bool {
+        is_below(
+            key(self.sender, self.receiver, self.number),
+            key(other.sender, other.receiver, other.number),
+        )
+    }
+}
