@@ -1,2 +1,5 @@
 pub mod Rising
 pub mod Apart
+pub mod Keys
+pub mod Finding
+pub mod FateOrder

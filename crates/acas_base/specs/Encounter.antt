@@ -3,6 +3,7 @@ use Rattle.std.specs.Prelude.{◌≡◌, ◌≢◌, ℕ, ◌<◌, ◌≤◌, ◌
 use Rattle.std.specs.List.{list_any}
 use Rattle.acas_base.specs.Ranges.{IsAddress, IsBetween, IsCycle, IsWithin}
 use Rattle.acas_base.specs.Order.{IsRising, leg_below, miss_below, plan_below, fate_below}
+use Rattle.acas_base.specs.declared.TheConstants.{CRAFTS}
 use Rattle.acas_base.specs.declared.craft.CraftSpec.{CraftSpec}
 use Rattle.acas_base.specs.declared.craft.Gains.{Gains}
 use Rattle.acas_base.specs.declared.craft.Kind.{Kind}
@@ -68,7 +69,7 @@ no_copy = record { hold = 0; mask = 0 }
 
 -- The most aircraft of a format.
 abbrev pub most_crafts : ℕ → ℕ
-most_crafts version = if version == 1 then 8 else 16
+most_crafts version = if version == 1 then 8 else CRAFTS
 
 pub record IsCraft (craft : CraftSpec) : Type 0 where
   pub address : IsAddress craft.address

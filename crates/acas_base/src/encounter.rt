@@ -1,8 +1,10 @@
 // Encounters.
 ghost use Rattle.std.specs.Prelude.{◌≡◌, ◌↔◌, IsSome, IfSome, IfOk};
 ghost use Rattle.acas_base.specs.Encounter.{IsEncounter, encounter_of};
+ghost use Rattle.acas_base.specs.Fates.{fate_of};
 
 use crate::checks::{are_crafts, are_gains, is_run, suits_format};
+use crate::fates::{fate_by, find_fate, find_plan, plain_fate};
 use crate::records::are_all_records;
 use crate::{CraftSpec, Fate, Gains, Leg, LinkPlan, Miss};
 use std::alloc::{AllocError, Global};
@@ -190,5 +192,19 @@ impl Encounter {
         ensures valid { IsEncounter self.now }
     {
         self.fates.as_slice()
+    }
+
+    /// What becomes of the message with this number of a sender to a receiver: its record, else its
+    /// link's plan, else one copy that isn't held back nor damaged.
+    pub fn fate(&self, sender: u8, receiver: u8, number: u16) -> Fate
+        ensures { result ≡ fate_of self.now sender receiver number }
+    {
+        if let Some(fate) = find_fate(&self.fates, sender, receiver, number) {
+            return fate;
+        }
+        match find_plan(&self.plans, sender, receiver) {
+            Some(plan) => fate_by(number, plan),
+            None => plain_fate(sender, receiver, number),
+        }
     }
 }

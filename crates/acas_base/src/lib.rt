@@ -8,6 +8,7 @@ mod checks;
 mod craft;
 mod encounter;
 mod entry;
+mod fates;
 mod level;
 mod link;
 mod records;

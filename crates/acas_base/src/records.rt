@@ -56,16 +56,16 @@ fn are_rising<T: Record>(records: &[T]) -> bool
     records.is_sorted_by(|a, b| a.is_below(b))
 }
 
-type Key = (u16, u16, u16);
+pub(crate) type Key = (u16, u16, u16);
 
-fn is_below(a: Key, b: Key) -> bool
+pub(crate) fn is_below(a: Key, b: Key) -> bool
     ensures { result ≡ is_below a b }
 {
     a.0 < b.0 || (a.0 == b.0 && (a.1 < b.1 || (a.1 == b.1 && a.2 < b.2)))
 }
 
 // A pair of aircraft and a number.
-fn key(first: u8, second: u8, number: u16) -> Key
+pub(crate) fn key(first: u8, second: u8, number: u16) -> Key
     ensures { result ≡ (first, second, number) }
 {
     (u16::from(first), u16::from(second), number)
