@@ -3,3 +3,9 @@ pub mod Order
 pub mod Encounter
 pub mod Fates
 pub mod Kept
+pub mod Senses
+pub mod Complements
+pub mod Strengths
+pub mod Choice
+pub mod Next
+pub mod Messages

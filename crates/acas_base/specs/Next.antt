@@ -1,0 +1,94 @@
+-- What an aircraft advises against another one in its next cycle.
+use Rattle.std.specs.Prelude.{ℕ, ◌+◌, Bool, true, false, not, ◌&&◌, ◌||◌, if◌then◌else◌, nat_le, nat_lt}
+use Rattle.acas_base.specs.Choice.{chosen_sense, strongest, least_strength, strength_after, calls_for_reversal}
+use Rattle.acas_base.specs.Complements.{forbids}
+use Rattle.acas_base.specs.Senses.{other_sense, is_same_sense}
+use Rattle.acas_base.specs.Strengths.{meets_floor}
+use Rattle.acas_base.specs.declared.advisory.Cell.{Cell}
+use Rattle.acas_base.specs.declared.advisory.Cell.TheVariants.{Clear, Traffic, Ra}
+use Rattle.acas_base.specs.declared.advisory.Intent.{Intent}
+use Rattle.acas_base.specs.declared.advisory.Rank.{Rank}
+use Rattle.acas_base.specs.declared.advisory.Rank.TheVariants.{First, Second, Free}
+use Rattle.acas_base.specs.declared.advisory.Sense.{Sense}
+use Rattle.acas_base.specs.declared.advisory.Sense.TheVariants.{Up, Down}
+use Rattle.acas_base.specs.declared.advisory.Strength.{Strength}
+use Rattle.acas_base.specs.declared.advisory.Vrc.{Vrc}
+use Rattle.acas_base.specs.declared.advisory.Vrc.TheVariants.{Nil, NotBelow, NotAbove}
+use Rattle.acas_base.specs.declared.craft.Kind.{Kind}
+use Rattle.acas_base.specs.declared.craft.Kind.TheVariants as kinds
+use Rattle.acas_base.specs.declared.view.View.{View}
+
+-- The rank of a pair, by the own address, the other's address and the other's kind. Against an aircraft that gives no
+-- resolution advisories it is Free; else the lower address comes first.
+abbrev pub rank_by : ℕ → ℕ → Kind → Rank
+rank_by own other kinds.Ra = if nat_lt own other then First else Second
+rank_by own other kinds.Ta = Free
+rank_by own other kinds.Xpdr = Free
+
+-- The sense of a new advisory: where a complement is in force, the sense that it doesn't forbid, else the choice.
+abbrev pub starting_sense : View → Vrc → Sense
+starting_sense view Nil = chosen_sense view
+starting_sense view NotBelow = Up
+starting_sense view NotAbove = Down
+
+-- The sense crosses the other's altitude.
+abbrev pub crosses : View → Sense → Bool
+crosses view sense = not (is_same_sense sense view.side)
+
+-- An advisory of this sense, strength and age. It is corrective where own rate doesn't meet the floor of its strength.
+abbrev pub advisory : View → Sense → Strength → ℕ → Bool → Bool → Cell
+advisory view sense strength age turned crossing =
+    Ra (record { sense = sense; strength = strength; age = age; turned = turned; crossing = crossing; corrective = not (meets_floor view sense strength) })
+
+-- A new advisory, of the least strength.
+abbrev pub new_advisory : View → Sense → Cell
+new_advisory view sense = advisory view sense (least_strength view sense true) 1 false (crosses view sense)
+
+-- The advisory in the other sense, with the strongest strength of a fresh choice.
+abbrev pub reversal_of : Intent → View → Bool → Cell
+reversal_of before view turned =
+    let sense = other_sense before.sense in
+    advisory view sense (strongest view sense true) (before.age + 1) turned (crosses view sense)
+
+-- The advisory in the same sense.
+abbrev pub continuation_of : Intent → View → Cell
+continuation_of before view = advisory view before.sense (strength_after before view) (before.age + 1) before.turned before.crossing
+
+-- A continuing advisory changes its sense in two cases alone. Of two aircraft with resolution advisories the one of higher address
+-- changes it where the complement forbids it. Any other aircraft changes it once, by a geometric reversal.
+abbrev pub changes_sense : Intent → View → Vrc → Rank → Bool
+changes_sense before view complement Second = forbids complement before.sense
+changes_sense before view complement First = calls_for_reversal view before.sense && not before.turned
+changes_sense before view complement Free = calls_for_reversal view before.sense && not before.turned
+
+-- What a change of sense leaves as `turned`: a geometric reversal is noted.
+abbrev pub is_turned_after : Intent → Rank → Bool
+is_turned_after before Second = before.turned
+is_turned_after before First = true
+is_turned_after before Free = true
+
+abbrev pub continuing_cell : Intent → View → Vrc → Rank → Cell
+continuing_cell before view complement rank =
+    if changes_sense before view complement rank then reversal_of before view (is_turned_after before rank) else continuation_of before view
+
+-- No resolution advisory: a traffic advisory, where its tests hold.
+abbrev pub traffic_cell : View → Cell
+traffic_cell view = if view.traffic then Traffic else Clear
+
+-- Where there was no resolution advisory, one starts against a threat.
+abbrev pub starting_cell : View → Vrc → Cell
+starting_cell view complement = if view.threat then new_advisory view (starting_sense view complement) else traffic_cell view
+
+-- An advisory ends where own aircraft doesn't resolve any more, and where it is five cycles old and there is no threat.
+abbrev pub ends : Intent → View → Bool
+ends before view = not view.resolves || (not view.threat && nat_le 5 before.age)
+
+abbrev pub cell_after : Cell → View → Vrc → Rank → Cell
+cell_after Clear view complement rank = starting_cell view complement
+cell_after Traffic view complement rank = starting_cell view complement
+cell_after (Ra before) view complement rank = if ends before view then traffic_cell view else continuing_cell before view complement rank
+
+-- The next cell for an aircraft, after the cell before, from the view of it, the complement in force from it and the rank against
+-- it. An aircraft without tracks is Clear.
+abbrev pub following_cell : Cell → View → Vrc → Rank → Cell
+following_cell before view complement rank = if view.tested then cell_after before view complement rank else Clear

@@ -1,0 +1,54 @@
+-- Strengths of an advisory: their order, their floors, and which are allowed (FAA, Introduction to TCAS II v7.1; the floors
+-- and the heights above ground are this project's profile).
+use Rattle.std.specs.Prelude.{ℕ, Bool, true, not, ◌&&◌, ℤ, pos, neg_ℤ, int_le, nat_le, List, [], ◌∷◌}
+use Rattle.acas_base.specs.declared.advisory.Sense.{Sense}
+use Rattle.acas_base.specs.declared.advisory.Sense.TheVariants.{Up, Down}
+use Rattle.acas_base.specs.declared.advisory.Strength.{Strength}
+use Rattle.acas_base.specs.declared.advisory.Strength.TheVariants.{Limit2000, Limit1000, Limit500, Level, Positive, Increase}
+use Rattle.acas_base.specs.declared.view.View.{View}
+
+-- The place of a strength in their order, weakest first.
+abbrev pub place_of : Strength → ℕ
+place_of Limit2000 = 0
+place_of Limit1000 = 1
+place_of Limit500 = 2
+place_of Level = 3
+place_of Positive = 4
+place_of Increase = 5
+
+-- The second strength is at least as strong as the first.
+abbrev pub is_at_most : Strength → Strength → Bool
+is_at_most weaker stronger = nat_le (place_of weaker) (place_of stronger)
+
+abbrev pub weakest_first : List Strength
+weakest_first = Limit2000 ∷ Limit1000 ∷ Limit500 ∷ Level ∷ Positive ∷ Increase ∷ []
+
+abbrev pub strongest_first : List Strength
+strongest_first = Increase ∷ Positive ∷ Level ∷ Limit500 ∷ Limit1000 ∷ Limit2000 ∷ []
+
+-- The floor of a strength: the vertical rate in its sense that it asks for at least, in 1/1024 ft/s.
+abbrev pub floor_of : Strength → ℤ
+floor_of Limit2000 = neg_ℤ (pos 34133)
+floor_of Limit1000 = neg_ℤ (pos 17066)
+floor_of Limit500 = neg_ℤ (pos 8533)
+floor_of Level = pos 0
+floor_of Positive = pos 25600
+floor_of Increase = pos 42666
+
+-- Own rate meets the floor already: it is at least the floor for up, and at most its opposite for down.
+abbrev pub meets_floor : View → Sense → Strength → Bool
+meets_floor view Up strength = int_le (floor_of strength) view.rate
+meets_floor view Down strength = int_le view.rate (neg_ℤ (floor_of strength))
+
+-- The strengths that a choice may take. Each choice is fresh or it isn't. The limits are allowed only where own rate meets
+-- them already. To climb, the aircraft has to be able to; to descend, it has to be high enough above ground, 1,100 ft for
+-- 1500 ft/min and 1,550 ft for 2500 ft/min. A fresh choice never increases.
+abbrev pub is_allowed : View → Sense → Strength → Bool → Bool
+is_allowed view sense Limit2000 fresh = meets_floor view sense Limit2000
+is_allowed view sense Limit1000 fresh = meets_floor view sense Limit1000
+is_allowed view sense Limit500 fresh = meets_floor view sense Limit500
+is_allowed view sense Level fresh = true
+is_allowed view Up Positive fresh = view.climbs
+is_allowed view Down Positive fresh = int_le (pos 1100) view.agl
+is_allowed view Up Increase fresh = not fresh && view.climbs
+is_allowed view Down Increase fresh = not fresh && int_le (pos 1550) view.agl
