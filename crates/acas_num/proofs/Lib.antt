@@ -1,0 +1,4 @@
+pub mod Quotients
+pub mod Needs
+pub mod Roots
+pub mod Folds

@@ -1,0 +1,5 @@
+pub mod Division
+pub mod Root
+pub mod Clamp
+pub mod Seconds
+pub mod Tracks
