@@ -1,0 +1,28 @@
+-- What contracts see of the adapters over std's readers and writers.
+use Rattle.std.specs.Prelude.{ℕ, ◌≤◌, List, length, take, Option, Result, MatchResult}
+use Rattle.std.specs.Io.KnownBytes.{Appends}
+use Rattle.acas_io.specs.declared.std_source.StdSource.{StdSource}
+use Rattle.acas_io.specs.declared.std_sink.StdSink.{StdSink}
+
+-- The reader under a source.
+abbrev pub source_reader : {R : Type 0} → StdSource R → R
+source_reader s = s.inner
+
+-- How often a read has failed.
+abbrev pub source_faults : {R : Type 0} → StdSource R → ℕ
+source_faults s = s.faults
+
+-- The writer under a sink.
+abbrev pub sink_writer : {W : Type 0} → StdSink W → W
+sink_writer s = s.inner
+
+-- How often a write has failed.
+abbrev pub sink_faults : {W : Type 0} → StdSink W → ℕ
+sink_faults s = s.faults
+
+-- What a writer holds, where it tells it, grew by what a write answers, and at an error by a front of the piece.
+abbrev pub Passes : {E : Type 0} → Option (List ℕ) → Option (List ℕ) → List ℕ → Result ℕ E → Type 0
+Passes old new piece result =
+    MatchResult result
+    (λ n. Appends old new (take n piece))
+    (λ _. (n : ℕ) × (n ≤ length piece) × Appends old new (take n piece))
