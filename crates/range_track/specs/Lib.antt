@@ -1,0 +1,2 @@
+pub mod RangeTrack
+pub use Rattle.acas_num.specs.Tracks
