@@ -1,0 +1,3 @@
+pub mod Plain
+pub mod Digits
+pub mod Lengths
