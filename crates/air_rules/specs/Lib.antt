@@ -1,0 +1,16 @@
+pub mod Journal
+pub mod Runs
+pub mod Air
+pub mod Takes
+pub mod Owed
+pub mod Due
+pub mod Rules
+pub mod Safe
+pub mod Settled
+pub mod Priority
+pub mod Onward
+pub mod Worlds
+pub mod Serial
+pub mod Length
+pub mod Own
+pub mod Example

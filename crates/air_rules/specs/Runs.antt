@@ -1,0 +1,24 @@
+-- The present run of an aircraft: the longest row of its commits, up to the last one, that advise against another
+-- aircraft in one sense.
+use Rattle.std.specs.Prelude.{◌≡◌, ◌↔◌, IsSome, ℕ, if◌then◌else◌, ◌==◌, List, [], ◌∷◌, length, Option, Some, None, unwrap_or}
+use Rattle.acas_base.specs.Senses.{has_sense, sense_of}
+use Rattle.acas_base.specs.declared.advisory.Sense.{Sense}
+use Rattle.acas_base.specs.declared.entry.Entry.{Entry}
+use Rattle.acas_base.specs.declared.entry.Entry.TheVariants.{Commit, Send, Take}
+use Rattle.air_rules.specs.Journal.{cell_at, last_cell}
+
+-- The position of the first commit of an aircraft's present run against another one in this sense; none where its last
+-- commit hasn't the sense.
+abbrev pub run_began : List Entry → ℕ → ℕ → Sense → Option ℕ
+run_began [] craft other sense = None
+run_began (Commit own cycle cells ∷ earlier) craft other sense =
+    if own == craft
+    then (if has_sense (cell_at cells other) sense then Some (unwrap_or (run_began earlier craft other sense) (length earlier)) else None)
+    else run_began earlier craft other sense
+run_began (Send own target number word ∷ earlier) craft other sense = run_began earlier craft other sense
+run_began (Take own send copy good ∷ earlier) craft other sense = run_began earlier craft other sense
+
+-- An aircraft has a present run against another one in a sense exactly where its last cell has the sense.
+abbrev pub HasRunBySense : Type 0
+HasRunBySense = (journal : List Entry) (own other : ℕ) (sense : Sense) →
+    (sense_of (last_cell journal own other) ≡ Some sense) ↔ IsSome (run_began journal own other sense)

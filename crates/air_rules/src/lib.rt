@@ -1,0 +1,18 @@
+//! The rules of the journal over any air, and the laws of every legal journal.
+//!
+//! A journal lists what the aircraft of an encounter do: they commit cycles, send messages and take
+//! copies of messages. `specs/` says which entry may come next (`Rules`), and what then holds in
+//! whatever order the entries fall. The air is whatever has aircraft, views, copies and words
+//! (`Air`), and a few facts about these are all that the laws rest on (`IsSound`). Each law is a
+//! function without effect, whose contract states it; a caller knows it after the call.
+#![tactic(auto)]
+
+mod coordination;
+mod example;
+mod own;
+mod progress;
+
+pub use coordination::{priority_law, safe_law, settled_law, worlds_law};
+pub use example::example_law;
+pub use own::own_law;
+pub use progress::{beginning_law, length_law, onward_law, serial_law};

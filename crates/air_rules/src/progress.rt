@@ -1,0 +1,46 @@
+// How legal journals grow and end.
+ghost use Rattle.std.specs.Prelude.{◌≡◌, ◌≤◌, List, length};
+ghost use Rattle.acas_base.specs.declared.entry.Entry.{Entry};
+ghost use Rattle.air_rules.specs.Air.{Air, IsSound};
+ghost use Rattle.air_rules.specs.Journal.{Begins};
+ghost use Rattle.air_rules.specs.Length.{IsBounded};
+ghost use Rattle.air_rules.specs.Onward.{IsNeverStuck};
+ghost use Rattle.air_rules.specs.Rules.{IsLegal, IsComplete};
+ghost use Rattle.air_rules.specs.Serial.{IsInOrder, IsSerial};
+
+/// What a legal journal begins with is legal. A beginning of a beginning is one, and of two beginnings
+/// of a journal the longer one begins with the shorter one.
+pub fn beginning_law()
+    ensures legal { (air : Air) (earlier : List Entry) (journal : List Entry) →
+        Begins earlier journal → IsLegal air journal → IsLegal air earlier }
+    ensures joined { (first : List Entry) (second : List Entry) (journal : List Entry) →
+        Begins second journal → Begins first second → Begins first journal }
+    ensures nested { (first : List Entry) (second : List Entry) (journal : List Entry) →
+        Begins first journal → Begins second journal → length first ≤ length second →
+        Begins first second }
+{}
+
+/// A legal journal is complete, or some entry is allowed next: a send where somebody owes, else a
+/// take where something is due, else the commit of an aircraft with the fewest commits.
+pub fn onward_law()
+    ensures { (air : Air) (journal : List Entry) →
+        IsSound air → IsLegal air journal → IsNeverStuck air journal }
+{}
+
+/// A journal in the serial order is legal, it is complete where the order ends, and there is one such
+/// journal at most.
+pub fn serial_law()
+    ensures legal { (air : Air) (journal : List Entry) →
+        IsSound air → IsInOrder air journal → IsLegal air journal }
+    ensures complete { (air : Air) (journal : List Entry) →
+        IsSound air → IsSerial air journal → IsComplete air journal }
+    ensures only { (air : Air) (one : List Entry) (two : List Entry) →
+        IsSerial air one → IsSerial air two → one ≡ two }
+{}
+
+/// A legal journal has so many entries at most: a commit for each active aircraft and cycle; and for
+/// each cycle and ordered pair of aircraft of kind RA a send and three takes.
+pub fn length_law()
+    ensures { (air : Air) (journal : List Entry) →
+        IsSound air → IsLegal air journal → IsBounded air journal }
+{}
