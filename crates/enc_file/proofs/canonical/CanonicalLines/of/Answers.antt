@@ -1,0 +1,42 @@
+use Rattle.enc_file.proofs.Parts.{canonical-parts}
+use Rattle.enc_file.proofs.canonical.CanonicalLines.of.Goals as goal
+
+pub returns : goal.returns
+returns c =
+    rw (
+      c.new-lines.ensures,
+      c.new-to_fates.ensures,
+      c.new-to_plans.ensures,
+      c.new-to_misses.ensures,
+      c.new-to_legs.ensures,
+      c.new-to_climbs.ensures,
+      c.new-to_crafts.ensures,
+      c.new-numbers.ensures,
+      c.new.ensures,
+      c.of.ensures.0,
+      c.of.ensures.1,
+      c.of-2.ensures.0,
+      c.of-2.ensures.1,
+      c.of-3.ensures.0,
+      c.of-3.ensures.1,
+      c.of-4.ensures.0,
+      c.of-4.ensures.1,
+      c.of-5.ensures.0,
+      c.of-5.ensures.1,
+      c.new-version.ensures,
+      c.header_line.ensures,
+      c.version.ensures,
+      c.new-run.ensures,
+      c.run_line.ensures,
+      c.new-gains.ensures,
+      c.gains_line.ensures,
+      c.range_gains.ensures,
+      c.altitude_gains.ensures,
+      c.new-2.ensures,
+      c.end_line.ensures,
+      c.crafts-crafts.ensures.value,
+      c.legs.ensures.value,
+      c.misses.ensures.value,
+      c.plans.ensures.value,
+      c.fates.ensures.value,
+    ) (canonical-parts c.args.encounter.now)

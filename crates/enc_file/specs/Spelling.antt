@@ -1,0 +1,92 @@
+-- The records of an encounter's canonical text, each as its fields.
+use Rattle.std.specs.Prelude.{ℕ, ℤ, pos, List, [], ◌∷◌, ◌++◌, take, slice_get, codes, Option, Some, None}
+use Rattle.std.specs.Fmt.{signed_decimal}
+use Rattle.std.specs.List.{flat_map, join_with_byte}
+use Rattle.std.specs.Option.{option_map_or}
+use Rattle.acas_base.specs.declared.craft.CraftSpec.{CraftSpec}
+use Rattle.acas_base.specs.declared.craft.Gains.{Gains}
+use Rattle.acas_base.specs.declared.craft.Kind.{Kind}
+use Rattle.acas_base.specs.declared.craft.Kind.TheVariants.{Ra, Ta, Xpdr}
+use Rattle.acas_base.specs.declared.craft.Leg.{Leg}
+use Rattle.acas_base.specs.declared.craft.Miss.{Miss}
+use Rattle.acas_base.specs.declared.link.CopyPlan.{CopyPlan}
+use Rattle.acas_base.specs.declared.link.Fate.{Fate}
+use Rattle.acas_base.specs.declared.link.LinkPlan.{LinkPlan}
+use Rattle.acas_text.specs.Hex.{hex}
+
+-- A number that is at least 0.
+abbrev pub number : ℕ → List ℕ
+number n = signed_decimal (pos n)
+
+-- An address has six digits.
+abbrev pub address : ℕ → List ℕ
+address n = hex 6 n
+
+abbrev pub kind_text : Kind → List ℕ
+kind_text Ra = codes "RA"
+kind_text Ta = codes "TA"
+kind_text Xpdr = codes "XPDR"
+
+-- The address of the aircraft with an index, and 0 where there is none. In an encounter each index that a record has is
+-- that of an aircraft.
+abbrev pub address_of : List CraftSpec → ℕ → ℕ
+address_of crafts i = option_map_or (λ (craft : CraftSpec). craft.address) (slice_get crafts i) 0
+
+abbrev pub address_at : List CraftSpec → ℕ → List ℕ
+address_at crafts i = address (address_of crafts i)
+
+-- The first record: the version of the format.
+abbrev pub header_record : ℕ → List (List ℕ)
+header_record version = codes "encounter" ∷ number version ∷ []
+
+abbrev pub run_record : ℕ → ℤ → List (List ℕ)
+run_record cycles elevation = codes "run" ∷ number cycles ∷ signed_decimal elevation ∷ []
+
+-- The gains of the range tracks, and those of the altitude tracks.
+abbrev pub gains_record : Gains → Gains → List (List ℕ)
+gains_record range altitude = codes "gains" ∷ number range.alpha ∷ number range.beta ∷ number altitude.alpha ∷ number altitude.beta ∷ []
+
+abbrev pub craft_record : CraftSpec → List (List ℕ)
+craft_record craft = codes "craft" ∷ address craft.address ∷ kind_text craft.kind ∷ signed_decimal craft.x ∷ signed_decimal craft.y ∷ signed_decimal craft.alt ∷ []
+
+-- An aircraft has a record for its ceiling if it has one.
+abbrev pub climb_record : ℕ → ℤ → List (List ℕ)
+climb_record n limit = codes "climb" ∷ address n ∷ signed_decimal limit ∷ []
+
+abbrev pub climb_of : ℕ → Option ℤ → List (List (List ℕ))
+climb_of n None = []
+climb_of n (Some limit) = climb_record n limit ∷ []
+
+abbrev pub climb_records : CraftSpec → List (List (List ℕ))
+climb_records craft = climb_of craft.address craft.ceiling
+
+-- A leg of the aircraft with an address.
+abbrev pub leg_fields : ℕ → Leg → List (List ℕ)
+leg_fields n leg = codes "leg" ∷ address n ∷ number leg.from ∷ signed_decimal leg.vx ∷ signed_decimal leg.vy ∷ signed_decimal leg.vz ∷ []
+
+abbrev pub leg_record : List CraftSpec → Leg → List (List ℕ)
+leg_record crafts leg = leg_fields (address_of crafts leg.craft) leg
+
+abbrev pub miss_record : List CraftSpec → Miss → List (List ℕ)
+miss_record crafts miss = codes "miss" ∷ address_at crafts miss.own ∷ address_at crafts miss.target ∷ number miss.from ∷ number miss.to ∷ []
+
+-- A copy: for how many commits it is held back, and the mask of its damage in two digits.
+abbrev pub copy_fields : CopyPlan → List (List ℕ)
+copy_fields copy = number copy.hold ∷ hex 2 copy.mask ∷ []
+
+-- So many copies.
+abbrev pub copies_fields : ℕ → CopyPlan → CopyPlan → CopyPlan → List (List ℕ)
+copies_fields copies first second third = flat_map copy_fields (take copies (first ∷ second ∷ third ∷ []))
+
+abbrev pub plan_record : List CraftSpec → LinkPlan → List (List ℕ)
+plan_record crafts plan = codes "plan" ∷ address_at crafts plan.sender ∷ address_at crafts plan.receiver ∷ copies_fields plan.copies plan.first plan.second plan.third
+
+abbrev pub fate_record : List CraftSpec → Fate → List (List ℕ)
+fate_record crafts fate = codes "fate" ∷ address_at crafts fate.sender ∷ address_at crafts fate.receiver ∷ number fate.number ∷ copies_fields fate.copies fate.first fate.second fate.third
+
+abbrev pub end_record : List (List ℕ)
+end_record = codes "end" ∷ []
+
+-- A record on a line of its own, with its line feed.
+abbrev pub line_of : List (List ℕ) → List ℕ
+line_of fields = join_with_byte 44 fields ++ 10 ∷ []

@@ -1,0 +1,215 @@
+// The lines of an encounter's canonical text.
+ghost use Rattle.std.specs.Prelude.{◌≡◌, ◌+◌, ◌<◌, ◌≤◌, ◌^◌, ◌∷◌, ◌++◌, length, pos};
+ghost use Rattle.std.specs.Fmt.{signed_decimal};
+ghost use Rattle.std.specs.List.{flat_map};
+ghost use Rattle.acas_text.specs.Hex.{hex};
+ghost use Rattle.enc_file.specs.Spelling.{address, address_of, copies_fields, copy_fields, craft_record, climb_record, end_record, fate_record, gains_record, header_record, kind_text, leg_record, line_of, miss_record, number, plan_record, run_record};
+
+use acas_base::{CopyPlan, CraftSpec, Encounter, Fate, Gains, Kind, Leg, LinkPlan, Miss};
+use acas_text::{LINE_BYTES, Line};
+
+// Adds a number of at most eleven bytes, after a comma.
+fn add_number(line: &mut Line, value: i32)
+    requires { length line.old + 12 ≤ LINE_BYTES }
+    ensures added { line.new ≡ line.old ++ 44 ∷ signed_decimal value }
+    ensures short { length line.new ≤ length line.old + 12 }
+{
+    line.text(",");
+    line.number(i64::from(value));
+}
+
+// Adds a number of at most five digits, after a comma.
+fn add_count(line: &mut Line, value: u16)
+    requires { length line.old + 6 ≤ LINE_BYTES }
+    ensures added { line.new ≡ line.old ++ 44 ∷ number value }
+    ensures short { length line.new ≤ length line.old + 6 }
+{
+    line.text(",");
+    line.number(i64::from(value));
+}
+
+// Adds an address, by its number, after a comma.
+fn add_address(line: &mut Line, value: u32)
+    requires small { value < 16 ^ 6 }
+    requires room { length line.old + 7 ≤ LINE_BYTES }
+    ensures added { line.new ≡ line.old ++ 44 ∷ address value }
+    ensures short { length line.new ≤ length line.old + 7 }
+{
+    line.text(",");
+    line.hex(u64::from(value), 6);
+}
+
+// Adds a mask of two digits, after a comma.
+fn add_mask(line: &mut Line, mask: u8)
+    requires { length line.old + 3 ≤ LINE_BYTES }
+    ensures added { line.new ≡ line.old ++ 44 ∷ hex 2 mask }
+    ensures short { length line.new ≤ length line.old + 3 }
+{
+    line.text(",");
+    line.hex(u64::from(mask), 2);
+}
+
+// The number of an aircraft's address. In an encounter every index is that of an aircraft.
+fn address_in(crafts: &[CraftSpec], index: u8) -> u32
+    ensures value { result ≡ address_of crafts.now index }
+    ensures small { result < 16 ^ 6 }
+{
+    match crafts.get(usize::from(index)) {
+        Some(craft) => craft.address.value(),
+        None => 0,
+    }
+}
+
+fn kind_name(kind: Kind) -> &'static str
+    ensures name { result.now ≡ kind_text kind }
+    ensures short { length result.now ≤ 4 }
+{
+    match kind {
+        Kind::Ra => "RA",
+        Kind::Ta => "TA",
+        Kind::Xpdr => "XPDR",
+    }
+}
+
+pub(crate) fn header_line(version: u8) -> Line
+    ensures { result ≡ line_of (header_record version) }
+{
+    let mut line = Line::new();
+    line.text("encounter");
+    add_count(&mut line, u16::from(version));
+    line.text("\n");
+    line
+}
+
+pub(crate) fn run_line(encounter: &Encounter) -> Line
+    ensures { result ≡ line_of (run_record encounter.now.cycles encounter.now.elevation) }
+{
+    let mut line = Line::new();
+    line.text("run");
+    add_count(&mut line, encounter.cycles());
+    add_number(&mut line, encounter.ground());
+    line.text("\n");
+    line
+}
+
+pub(crate) fn gains_line(range: Gains, altitude: Gains) -> Line
+    ensures { result ≡ line_of (gains_record range altitude) }
+{
+    let mut line = Line::new();
+    line.text("gains");
+    add_count(&mut line, range.alpha);
+    add_count(&mut line, range.beta);
+    add_count(&mut line, altitude.alpha);
+    add_count(&mut line, altitude.beta);
+    line.text("\n");
+    line
+}
+
+pub(crate) fn craft_line(craft: &CraftSpec) -> Line
+    ensures { result ≡ line_of (craft_record craft.now) }
+{
+    let mut line = Line::new();
+    line.text("craft");
+    add_address(&mut line, craft.address.value());
+    line.text(",");
+    line.text(kind_name(craft.kind));
+    add_number(&mut line, craft.x);
+    add_number(&mut line, craft.y);
+    add_number(&mut line, craft.alt);
+    line.text("\n");
+    line
+}
+
+pub(crate) fn climb_line(craft: &CraftSpec, limit: i32) -> Line
+    ensures { result ≡ line_of (climb_record craft.now.address limit) }
+{
+    let mut line = Line::new();
+    line.text("climb");
+    add_address(&mut line, craft.address.value());
+    add_number(&mut line, limit);
+    line.text("\n");
+    line
+}
+
+pub(crate) fn leg_line(crafts: &[CraftSpec], leg: &Leg) -> Line
+    ensures { result ≡ line_of (leg_record crafts.now leg.now) }
+{
+    let mut line = Line::new();
+    line.text("leg");
+    add_address(&mut line, address_in(crafts, leg.craft));
+    add_count(&mut line, leg.from);
+    add_number(&mut line, leg.vx);
+    add_number(&mut line, leg.vy);
+    add_number(&mut line, leg.vz);
+    line.text("\n");
+    line
+}
+
+pub(crate) fn miss_line(crafts: &[CraftSpec], miss: &Miss) -> Line
+    ensures { result ≡ line_of (miss_record crafts.now miss.now) }
+{
+    let mut line = Line::new();
+    line.text("miss");
+    add_address(&mut line, address_in(crafts, miss.own));
+    add_address(&mut line, address_in(crafts, miss.target));
+    add_count(&mut line, miss.from);
+    add_count(&mut line, miss.to);
+    line.text("\n");
+    line
+}
+
+// Adds the hold and the mask of a copy, in at most nine bytes.
+fn add_copy(line: &mut Line, copy: CopyPlan)
+    requires { length line.old + 9 ≤ LINE_BYTES }
+    ensures added { line.new ≡ line.old ++ flat_map (λ field. 44 ∷ field) (copy_fields copy) }
+    ensures short { length line.new ≤ length line.old + 9 }
+{
+    add_count(line, u16::from(copy.hold));
+    add_mask(line, copy.mask);
+}
+
+// Adds those of so many copies, in at most 27 bytes.
+fn add_copies(line: &mut Line, copies: u8, first: CopyPlan, second: CopyPlan, third: CopyPlan)
+    requires { length line.old + 27 ≤ LINE_BYTES }
+    ensures added { line.new ≡ line.old ++ flat_map (λ field. 44 ∷ field) (copies_fields copies first second third) }
+    ensures short { length line.new ≤ length line.old + 27 }
+{
+    let plans = [first, second, third];
+    let count = usize::from(copies).min(3);
+    for copy in &plans[..count] {
+        add_copy(line, *copy);
+    }
+}
+
+pub(crate) fn plan_line(crafts: &[CraftSpec], plan: &LinkPlan) -> Line
+    ensures { result ≡ line_of (plan_record crafts.now plan.now) }
+{
+    let mut line = Line::new();
+    line.text("plan");
+    add_address(&mut line, address_in(crafts, plan.sender));
+    add_address(&mut line, address_in(crafts, plan.receiver));
+    add_copies(&mut line, plan.copies, plan.first, plan.second, plan.third);
+    line.text("\n");
+    line
+}
+
+pub(crate) fn fate_line(crafts: &[CraftSpec], fate: &Fate) -> Line
+    ensures { result ≡ line_of (fate_record crafts.now fate.now) }
+{
+    let mut line = Line::new();
+    line.text("fate");
+    add_address(&mut line, address_in(crafts, fate.sender));
+    add_address(&mut line, address_in(crafts, fate.receiver));
+    add_count(&mut line, fate.number);
+    add_copies(&mut line, fate.copies, fate.first, fate.second, fate.third);
+    line.text("\n");
+    line
+}
+
+pub(crate) fn end_line() -> Line
+    ensures { result ≡ line_of end_record }
+{
+    let mut line = Line::new();
+    line.text("end\n");
+    line
+}
