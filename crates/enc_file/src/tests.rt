@@ -84,53 +84,61 @@ fn aircraft(alloc: Global) -> Result<Vec<CraftSpec>, AllocError> {
     Ok(crafts)
 }
 
+const NONE: CopyPlan = CopyPlan { hold: 0, mask: 0 };
+
+const HELD: CopyPlan = CopyPlan {
+    hold: 60,
+    mask: 0xC1,
+};
+
+const LEG: Leg = Leg {
+    craft: 1,
+    from: 600,
+    vx: -2_000,
+    vy: 0,
+    vz: 10_000,
+};
+
+const MISS: Miss = Miss {
+    own: 2,
+    target: 0,
+    from: 7,
+    to: 9,
+};
+
+const TWICE: LinkPlan = LinkPlan {
+    sender: 0,
+    receiver: 2,
+    copies: 2,
+    first: NONE,
+    second: HELD,
+    third: NONE,
+};
+
+const LOST: Fate = Fate {
+    sender: 0,
+    receiver: 2,
+    number: 1,
+    copies: 0,
+    first: NONE,
+    second: NONE,
+    third: NONE,
+};
+
+const THRICE: Fate = Fate {
+    sender: 0,
+    receiver: 2,
+    number: 12,
+    copies: 3,
+    first: HELD,
+    second: NONE,
+    third: CopyPlan {
+        hold: 5,
+        mask: 0x0A,
+    },
+};
+
 fn encounter(alloc: Global) -> Result<Option<Encounter>, AllocError> {
-    let none = CopyPlan { hold: 0, mask: 0 };
-    let held = CopyPlan {
-        hold: 60,
-        mask: 0xC1,
-    };
-    let leg = Leg {
-        craft: 1,
-        from: 600,
-        vx: -2_000,
-        vy: 0,
-        vz: 10_000,
-    };
-    let miss = Miss {
-        own: 2,
-        target: 0,
-        from: 7,
-        to: 9,
-    };
-    let plan = LinkPlan {
-        sender: 0,
-        receiver: 2,
-        copies: 2,
-        first: none,
-        second: held,
-        third: none,
-    };
-    let lost = Fate {
-        sender: 0,
-        receiver: 2,
-        number: 1,
-        copies: 0,
-        first: none,
-        second: none,
-        third: none,
-    };
-    let thrice = Fate {
-        number: 12,
-        copies: 3,
-        first: held,
-        second: none,
-        third: CopyPlan {
-            hold: 5,
-            mask: 0x0A,
-        },
-        ..lost
-    };
     Ok(Encounter::make(
         2,
         31,
@@ -141,10 +149,10 @@ fn encounter(alloc: Global) -> Result<Option<Encounter>, AllocError> {
         },
         Gains { alpha: 1, beta: 2 },
         aircraft(alloc)?,
-        Vec::from_slice(alloc, &[leg])?,
-        Vec::from_slice(alloc, &[miss])?,
-        Vec::from_slice(alloc, &[plan])?,
-        Vec::from_slice(alloc, &[lost, thrice])?,
+        Vec::from_slice(alloc, &[LEG])?,
+        Vec::from_slice(alloc, &[MISS])?,
+        Vec::from_slice(alloc, &[TWICE])?,
+        Vec::from_slice(alloc, &[LOST, THRICE])?,
     ))
 }
 

@@ -1,0 +1,57 @@
+//! Plays encounters between aircraft with TCAS II version 7.1: `acas serial` reads an encounter from standard input and
+//! writes its recording to standard output.
+#![tactic(auto)]
+
+use acas_io::{StdSink, StdSource};
+use acas_top::{Status, acas};
+use std::alloc::Global;
+use std::io::ErrorKind;
+use std::process::ExitCode;
+use std::rt::Env;
+use std::{env, io};
+
+// The words after the program's name.
+fn words_of<R: Env + Alloc<A = Global>>(rt: &R) -> io::Result<Vec<String>> {
+    let mut words = Vec::new(rt.alloc());
+    for word in env::args(rt)?.skip(1) {
+        if words.push(word).is_err() {
+            return Err(io::Error::from(ErrorKind::OutOfMemory));
+        }
+    }
+    Ok(words)
+}
+
+// What is told on standard error.
+fn message(status: Status) -> &'static str {
+    match status {
+        Status::Usage => "usage: acas serial | play | audit | sum | gen NUMBER CRAFTS CYCLES",
+        Status::ReadFault => "read fault",
+        Status::WriteFault => "write fault",
+        Status::TooLong => "input too long",
+        Status::OutOfMemory => "out of memory",
+        Status::Done | Status::Refused | Status::Wrong => "",
+    }
+}
+
+fn main(rt: HostRuntime) -> ExitCode {
+    let status = match words_of(&rt) {
+        Ok(words) => {
+            let mut source = StdSource::new(rt.stdin());
+            let mut sink = StdSink::new(rt.stdout());
+            acas(rt.alloc(), words.as_slice(), &mut source, &mut sink)
+        }
+        Err(error) => {
+            if error.kind() == ErrorKind::OutOfMemory {
+                Status::OutOfMemory
+            } else {
+                // A word that isn't UTF-8 is none of a command's.
+                Status::Usage
+            }
+        }
+    };
+    let text = message(status);
+    if !text.is_empty() {
+        let _ = eprintln!(rt; "{text}");
+    }
+    ExitCode::from(status.code())
+}

@@ -1,0 +1,4 @@
+pub mod Statuses
+pub mod Serial
+pub mod Recording
+pub mod Answers

@@ -1,0 +1,13 @@
+//! The program, over any source and any sink: the words of a command line, the bytes that come in and the bytes that
+//! go out, and one status.
+#![tactic(auto)]
+
+mod commands;
+mod recording;
+mod status;
+
+pub use commands::acas;
+pub use status::Status;
+
+#[cfg(test)]
+mod tests;
