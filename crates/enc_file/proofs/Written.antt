@@ -1,8 +1,6 @@
 -- How the fields of a record stand on a line.
-use Rattle.std.proofs.Common.{◌≡◌, ℕ, ◌≤◌, ℤ, List, [], ◌∷◌, ◌++◌, length, sym, ap, ◌∙◌, append_assoc, arith, w32, FitsSigned}
-use Rattle.std.specs.Fmt.{signed_decimal}
+use Rattle.std.proofs.Common.{◌≡◌, ℕ, List, [], ◌∷◌, ◌++◌, sym, ap, ◌∙◌, append_assoc}
 use Rattle.std.specs.List.{flat_map, join_with_byte}
-use Rattle.std.proofs.lemmas.Fmt.{length_signed_le}
 use Rattle.std.proofs.lemmas.List.{append-nil}
 use Rattle.enc_file.specs.Spelling.{line_of}
 

@@ -1,0 +1,71 @@
+// The message owed after a commit.
+ghost use Rattle.std.specs.Prelude.{◌≡◌};
+ghost use Rattle.acas_base.specs.Complements.{complement_of, cancelled_complement};
+ghost use Rattle.acas_base.specs.Messages.{cancel_of, message_for};
+
+use acas_base::{Address, Cell, ResMsg, Sense, Vrc};
+
+// The complement that goes with an advisory of this sense.
+fn complement(sense: Sense) -> Vrc
+    ensures { result ≡ complement_of sense }
+{
+    match sense {
+        Sense::Up => Vrc::NotAbove,
+        Sense::Down => Vrc::NotBelow,
+    }
+}
+
+// What a message cancels that sets `vrc` after `said`.
+fn cancelled(said: Vrc, vrc: Vrc) -> Vrc
+    ensures { result ≡ cancelled_complement said vrc }
+{
+    match said {
+        Vrc::NotBelow => match vrc {
+            Vrc::NotAbove => Vrc::NotBelow,
+            Vrc::Nil | Vrc::NotBelow => Vrc::Nil,
+        },
+        Vrc::NotAbove => match vrc {
+            Vrc::NotBelow => Vrc::NotAbove,
+            Vrc::Nil | Vrc::NotAbove => Vrc::Nil,
+        },
+        Vrc::Nil => Vrc::Nil,
+    }
+}
+
+// The cancel of what was said; none where nothing was.
+fn cancel(said: Vrc, many: bool, own: Address) -> Option<ResMsg>
+    ensures { result ≡ cancel_of said many own }
+{
+    match said {
+        Vrc::Nil => None,
+        Vrc::NotBelow | Vrc::NotAbove => Some(ResMsg {
+            many,
+            cancel: said,
+            vrc: Vrc::Nil,
+            sender: own,
+        }),
+    }
+}
+
+/// The message that an aircraft owes another one after a commit, `cell` being its cell for that one and
+/// `said` the complement of the last message that it sent to it (ICAO Annex 10 vol. IV, 4.3).
+///
+/// With an advisory it is the complement of its sense, and it cancels another one that was said before.
+/// Without an advisory it is a cancel of what was said. None where nothing is owed: without an advisory
+/// and with nothing said. `many` tells that the commit has two or more advisories.
+pub fn next_message(cell: &Cell, said: Vrc, many: bool, own: Address) -> Option<ResMsg>
+    ensures { result ≡ message_for cell.now said many own }
+{
+    match cell {
+        Cell::Clear | Cell::Traffic => cancel(said, many, own),
+        Cell::Ra(intent) => {
+            let vrc = complement(intent.sense);
+            Some(ResMsg {
+                many,
+                cancel: cancelled(said, vrc),
+                vrc,
+                sender: own,
+            })
+        }
+    }
+}

@@ -1,0 +1,220 @@
+// The next cell of a pair.
+ghost use Rattle.std.specs.Prelude.{◌≡◌, ◌<◌};
+ghost use Rattle.acas_base.specs.Complements.{forbids};
+ghost use Rattle.acas_base.specs.Senses.{is_same_sense};
+ghost use Rattle.acas_base.specs.Next.{starting_sense, crosses, advisory, new_advisory, reversal_of, continuation_of, changes_sense, is_turned_after, continuing_cell, traffic_cell, starting_cell, ends, cell_after, following_cell};
+ghost use Rattle.acas_base.specs.declared.advisory.Intent.{Intent};
+
+use acas_base::{Cell, Intent, Rank, Sense, Strength, View, Vrc};
+use reversal::turns;
+use sense_pick::pick;
+use strength_pick::{least, meets_floor, next_strength, opposite, strongest};
+
+// The age in cycles from which an advisory doesn't outlive its threat.
+const ENDS_FROM: u16 = 5;
+
+fn is_same(one: Sense, other: Sense) -> bool
+    ensures { result ≡ is_same_sense one other }
+{
+    match one {
+        Sense::Up => match other {
+            Sense::Up => true,
+            Sense::Down => false,
+        },
+        Sense::Down => match other {
+            Sense::Up => false,
+            Sense::Down => true,
+        },
+    }
+}
+
+// The complement forbids this sense.
+fn is_forbidden(rac: Vrc, sense: Sense) -> bool
+    ensures { result ≡ forbids rac sense }
+{
+    match rac {
+        Vrc::Nil => false,
+        Vrc::NotBelow => is_same(sense, Sense::Down),
+        Vrc::NotAbove => is_same(sense, Sense::Up),
+    }
+}
+
+// The sense of a new advisory: a complement in force binds it, whatever the rank.
+fn first_sense(view: &View, rac: Vrc) -> Sense
+    ensures { result ≡ starting_sense view.now rac }
+{
+    match rac {
+        Vrc::Nil => pick(view),
+        Vrc::NotBelow => Sense::Up,
+        Vrc::NotAbove => Sense::Down,
+    }
+}
+
+// The sense crosses the other's altitude.
+fn is_crossing(view: &View, sense: Sense) -> bool
+    ensures { result ≡ crosses view.now sense }
+{
+    !is_same(sense, view.side)
+}
+
+// An advisory; it is corrective where own rate doesn't meet its floor.
+fn advise(
+    view: &View,
+    sense: Sense,
+    strength: Strength,
+    age: u16,
+    turned: bool,
+    crossing: bool,
+) -> Cell
+    ensures { result ≡ advisory view.now sense strength age turned crossing }
+{
+    Cell::Ra(Intent {
+        sense,
+        strength,
+        age,
+        turned,
+        crossing,
+        corrective: !meets_floor(view, sense, strength),
+    })
+}
+
+// A new advisory, of the least strength.
+fn start(view: &View, sense: Sense) -> Cell
+    ensures { result ≡ new_advisory view.now sense }
+{
+    let strength = least(view, sense, true);
+    advise(view, sense, strength, 1, false, is_crossing(view, sense))
+}
+
+// The advisory in the other sense.
+fn change(prev: &Intent, view: &View, turned: bool) -> Cell
+    requires { prev.now.age < 600 }
+    ensures { result ≡ reversal_of prev.now view.now turned }
+{
+    let sense = opposite(prev.sense);
+    let strength = strongest(view, sense, true);
+    advise(
+        view,
+        sense,
+        strength,
+        prev.age + 1,
+        turned,
+        is_crossing(view, sense),
+    )
+}
+
+// The advisory in the same sense.
+fn keep(prev: &Intent, view: &View) -> Cell
+    requires { prev.now.age < 600 }
+    ensures { result ≡ continuation_of prev.now view.now }
+{
+    let strength = next_strength(prev, view);
+    advise(
+        view,
+        prev.sense,
+        strength,
+        prev.age + 1,
+        prev.turned,
+        prev.crossing,
+    )
+}
+
+// A continuing advisory changes its sense.
+fn changes(prev: &Intent, view: &View, rac: Vrc, rank: Rank) -> bool
+    ensures { result ≡ changes_sense prev.now view.now rac rank }
+{
+    match rank {
+        Rank::Second => is_forbidden(rac, prev.sense),
+        Rank::First | Rank::Free => turns(view, prev.sense) && !prev.turned,
+    }
+}
+
+// A geometric reversal is noted, and not made a second time; obeying a complement is none.
+fn is_turned(prev: &Intent, rank: Rank) -> bool
+    ensures { result ≡ is_turned_after prev.now rank }
+{
+    match rank {
+        Rank::Second => prev.turned,
+        Rank::First | Rank::Free => true,
+    }
+}
+
+fn go_on(prev: &Intent, view: &View, rac: Vrc, rank: Rank) -> Cell
+    requires { prev.now.age < 600 }
+    ensures { result ≡ continuing_cell prev.now view.now rac rank }
+{
+    if changes(prev, view, rac, rank) {
+        change(prev, view, is_turned(prev, rank))
+    } else {
+        keep(prev, view)
+    }
+}
+
+// No resolution advisory.
+fn traffic(view: &View) -> Cell
+    ensures { result ≡ traffic_cell view.now }
+{
+    if view.traffic {
+        Cell::Traffic
+    } else {
+        Cell::Clear
+    }
+}
+
+fn begin(view: &View, rac: Vrc) -> Cell
+    ensures { result ≡ starting_cell view.now rac }
+{
+    if view.threat {
+        start(view, first_sense(view, rac))
+    } else {
+        traffic(view)
+    }
+}
+
+// The advisory ends.
+fn is_over(prev: &Intent, view: &View) -> bool
+    ensures { result ≡ ends prev.now view.now }
+{
+    !view.resolves || (!view.threat && prev.age >= ENDS_FROM)
+}
+
+fn follow(prev: &Cell, view: &View, rac: Vrc, rank: Rank) -> Cell
+    requires { (intent : Intent) → prev.now ≡ Cell.Ra intent → intent.age < 600 }
+    ensures { result ≡ cell_after prev.now view.now rac rank }
+{
+    match prev {
+        Cell::Clear | Cell::Traffic => begin(view, rac),
+        Cell::Ra(intent) => {
+            if is_over(intent, view) {
+                traffic(view)
+            } else {
+                go_on(intent, view, rac, rank)
+            }
+        }
+    }
+}
+
+/// The next cell of an aircraft for another one (FAA, Introduction to TCAS II v7.1; ICAO Annex 10 vol.
+/// IV, 4.3; with the details of this project's profile).
+///
+/// It follows from the cell before, the present view, the complement in force from the other one (`Nil`
+/// where none is) and the rank against it. A longest run has 600 cycles, so an advisory in it that goes
+/// on is younger.
+///
+/// - Without tracks it is Clear.
+/// - A threat begins an advisory. A complement in force binds its sense, whatever the rank; else the
+///   choice is free.
+/// - An advisory ends where own aircraft doesn't resolve any more, and from an age of five cycles on
+///   where there is no threat. Else it goes on. A `Second` aircraft changes its sense where the
+///   complement forbids it; any other does so once, by a geometric reversal.
+/// - Where no advisory begins or goes on, it is Traffic where those tests hold, else Clear.
+pub fn next_cell(prev: &Cell, view: &View, rac: Vrc, rank: Rank) -> Cell
+    requires { (intent : Intent) → prev.now ≡ Cell.Ra intent → intent.age < 600 }
+    ensures { result ≡ following_cell prev.now view.now rac rank }
+{
+    if view.tested {
+        follow(prev, view, rac, rank)
+    } else {
+        Cell::Clear
+    }
+}

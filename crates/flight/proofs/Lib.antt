@@ -1,0 +1,9 @@
+pub mod Courses
+pub mod Latest
+pub mod Carrying
+pub mod Along
+pub mod Between
+pub mod Missing
+pub mod Slants
+pub mod Staying
+pub mod Placing

@@ -1,0 +1,51 @@
+-- Where an aircraft is, second by second. x and y are in ft and z in 1/60 ft, so that a rate in ft/min is what z changes by in
+-- a second.
+use Rattle.std.specs.Prelude.{ℕ, zero, suc, ◌-◌, ◌==◌, nat_lt, nat_le, if◌then◌else◌, ℤ, pos, ◌+ℤ◌, ◌*ℤ◌, List, Option, Some, None, filter, fold, slice_get}
+use Rattle.std.specs.Option.{option_map_or}
+use Rattle.acas_base.specs.Encounter.{Parts}
+use Rattle.acas_base.specs.declared.craft.CraftSpec.{CraftSpec}
+use Rattle.acas_base.specs.declared.craft.Leg.{Leg}
+use Rattle.flight.specs.declared.places.Place.{Place}
+
+-- The legs of an aircraft.
+abbrev pub legs_of : Parts → ℕ → List Leg
+legs_of e craft = filter (λ (leg : Leg). leg.craft == craft) e.legs
+
+-- The best so far, or a leg that begins later.
+abbrev pub later : Option Leg → Leg → Option Leg
+later None leg = Some leg
+later (Some best) leg = if nat_lt best.from leg.from then Some leg else Some best
+
+-- Of these legs the one that is flown from a cycle to the next: the one that begins last, of those that begin in that cycle
+-- or before it.
+unfoldable pub leg_in : List Leg → ℕ → Option Leg
+leg_in legs cycle = fold later None (filter (λ (leg : Leg). nat_le leg.from cycle) legs)
+
+-- What one of the rates of that leg is, and zero where there is no leg.
+unfoldable pub rate_in : (Leg → ℤ) → List Leg → ℕ → ℤ
+rate_in rate legs cycle = option_map_or rate (leg_in legs cycle) (pos 0)
+
+-- How far a rate carries from cycle 1 over so many cycles: the sum of what it is in each of them.
+unfoldable pub carried : (Leg → ℤ) → List Leg → ℕ → ℤ
+carried rate legs zero = pos 0
+carried rate legs (suc n) = carried rate legs n +ℤ rate_in rate legs (suc n)
+
+-- The place in a cycle of what is at a start in cycle 1 and flies these legs.
+abbrev pub place_in : Place → List Leg → ℕ → Place
+place_in start legs cycle = record {
+  x = start.x +ℤ carried (λ (leg : Leg). leg.vx) legs (cycle - 1);
+  y = start.y +ℤ carried (λ (leg : Leg). leg.vy) legs (cycle - 1);
+  z = start.z +ℤ carried (λ (leg : Leg). leg.vz) legs (cycle - 1);
+}
+
+-- Where an aircraft is in cycle 1.
+abbrev pub start_of : CraftSpec → Place
+start_of craft = record { x = craft.x; y = craft.y; z = pos 60 *ℤ craft.alt }
+
+-- The place that stands for that of an aircraft which there isn't.
+abbrev pub nowhere : Place
+nowhere = record { x = pos 0; y = pos 0; z = pos 0 }
+
+-- Where an aircraft is in a cycle.
+unfoldable pub position : Parts → ℕ → ℕ → Place
+position e craft cycle = option_map_or (λ spec. place_in (start_of spec) (legs_of e craft) cycle) (slice_get e.crafts craft) nowhere

@@ -1,0 +1,7 @@
+//! The projection of an altitude under a manoeuvre.
+#![tactic(auto)]
+
+mod gained;
+mod projection;
+
+pub use projection::project;

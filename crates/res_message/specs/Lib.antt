@@ -1,0 +1,2 @@
+pub mod Words
+pub use Rattle.acas_base.specs.Ranges

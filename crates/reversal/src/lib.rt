@@ -1,0 +1,9 @@
+//! The geometric reversal: when an advisory changes its sense.
+#![tactic(auto)]
+
+mod geometric;
+
+pub use geometric::turns;
+
+#[cfg(test)]
+mod tests;

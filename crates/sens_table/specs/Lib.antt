@@ -1,0 +1,2 @@
+pub mod Levels
+pub use Rattle.acas_base.specs.Ranges

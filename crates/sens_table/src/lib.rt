@@ -1,0 +1,6 @@
+//! Sensitivity levels: the thresholds of advisories by own altitude.
+#![tactic(auto)]
+
+mod levels;
+
+pub use levels::level_of;

@@ -1,0 +1,1 @@
+pub use Rattle.acas_base.specs.Choice

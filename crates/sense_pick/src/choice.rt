@@ -1,0 +1,28 @@
+// The choice of a sense.
+ghost use Rattle.std.specs.Prelude.{◌≡◌};
+ghost use Rattle.acas_base.specs.Choice.{best_separation, chosen_sense};
+
+use acas_base::{Sense, View};
+use strength_pick::{opposite, separation, strongest};
+
+// What the strongest allowed strength of a fresh choice gives in this sense, in 1/1024 ft.
+fn best_separation(view: &View, sense: Sense) -> i64
+    ensures { result ≡ best_separation view.now sense }
+{
+    separation(view, sense, strongest(view, sense, true), true)
+}
+
+/// The sense of a new advisory: the one that doesn't cross the other's altitude, unless that one
+/// doesn't give ALIM and the other sense gives more (FAA, Introduction to TCAS II v7.1; with the
+/// details of this project's profile).
+pub fn pick(view: &View) -> Sense
+    ensures { result ≡ chosen_sense view.now }
+{
+    let crossing = opposite(view.side);
+    let best = best_separation(view, view.side);
+    if best < view.alim && best < best_separation(view, crossing) {
+        crossing
+    } else {
+        view.side
+    }
+}

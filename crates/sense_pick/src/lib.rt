@@ -1,0 +1,9 @@
+//! The sense of a new advisory.
+#![tactic(auto)]
+
+mod choice;
+
+pub use choice::pick;
+
+#[cfg(test)]
+mod tests;

@@ -1,0 +1,4 @@
+pub mod Extremes
+pub use Rattle.acas_base.specs.Strengths
+pub use Rattle.acas_base.specs.Choice
+pub use Rattle.acas_base.specs.Senses

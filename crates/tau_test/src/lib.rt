@@ -1,0 +1,6 @@
+//! The range test: is another aircraft close, or will it soon be?
+#![tactic(auto)]
+
+mod range;
+
+pub use range::range_test;

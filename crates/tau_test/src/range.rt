@@ -1,0 +1,72 @@
+// The range test.
+ghost use Rattle.std.specs.Prelude.{◌≡◌, ◌↔◌, IsTrue, ◌<◌, ◌≤◌, ◌^◌, ◌*◌, ℤ, pos, unsigned_abs};
+ghost use Rattle.acas_base.specs.Ranges.{IsBetween};
+ghost use Rattle.tau_test.specs.RangeTest.{modified_tau, IsRangeHit};
+
+use acas_base::Row;
+
+/// Whether a slant range `r` (1/1024 ft) that changes by `rdot` (1/1024 ft/s) is within the DMOD of a
+/// row, or closes so fast that its modified tau is at most the row's tau (Munoz et al. 2013; FAA,
+/// Introduction to TCAS II v7.1).
+///
+/// Modified tau is `(r * r - dmod * dmod) / (r * -rdot)`; it is compared exactly, so that 25.02 s is
+/// more than 25 s.
+pub fn range_test(r: i64, rdot: i64, row: &Row) -> bool
+    requires range { IsBetween (pos 0) (pos (2 ^ 28)) r }
+    requires rate { unsigned_abs rdot ≤ 2 ^ 23 }
+    requires tau { IsBetween (pos 0) (pos (2 ^ 12)) row.now.tau }
+    requires dmod { IsBetween (pos 0) (pos (2 ^ 28)) row.now.dmod }
+    ensures { IsTrue result ↔ IsRangeHit r rdot row.now }
+{
+    if r <= row.dmod {
+        return true;
+    }
+    if rdot >= 0 {
+        return false;
+    }
+    is_soon(
+        r.unsigned_abs(),
+        rdot.unsigned_abs(),
+        row.dmod.unsigned_abs(),
+        row.tau.unsigned_abs(),
+    )
+}
+
+// Whether modified tau is at most `tau`, without a division: the products are at most 2^56, 2^56 and 2^63.
+fn is_soon(r: u64, rate: u64, dmod: u64, tau: u64) -> bool
+    requires range { r ≤ 2 ^ 28 }
+    requires beyond { dmod < r }
+    requires rate { rate ≤ 2 ^ 23 }
+    requires closing { 0 < rate }
+    requires tau { tau ≤ 2 ^ 12 }
+    ensures { IsTrue result ↔ (modified_tau r rate dmod ≤ tau) }
+{
+    r * r - dmod * dmod <= tau * (r * rate)
+}
+
+#[cfg(test)]
+mod tests {
+    use super::*;
+
+    const FOOT: i64 = 1024;
+
+    // The thresholds of a resolution advisory at level 5.
+    const LEVEL_5: Row = Row {
+        tau: 25,
+        dmod: 3_341 * FOOT,
+        zthr: 600 * FOOT,
+    };
+
+    #[test]
+    fn tells_a_little_more_than_tau(rt: HostRuntime) {
+        let rows = [
+            (10_000 * FOOT, -400 * FOOT, true),
+            (10_000 * FOOT, -355 * FOOT, false),
+            (3_341 * FOOT, FOOT, true),
+            (3_342 * FOOT, FOOT, false),
+        ];
+        for (r, rdot, holds) in rows {
+            assert_eq!(rt; range_test(r, rdot, &LEVEL_5), holds, "{r} {rdot}");
+        }
+    }
+}

@@ -1,0 +1,3 @@
+pub mod AltTest
+pub use Rattle.acas_base.specs.Ranges
+pub use Rattle.acas_num.specs.Seconds

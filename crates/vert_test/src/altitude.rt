@@ -1,0 +1,79 @@
+// The altitude test.
+ghost use Rattle.std.specs.Prelude.{◌≡◌, ◌↔◌, IsTrue, ◌<◌, ◌≤◌, ◌^◌, ℤ, pos, unsigned_abs};
+ghost use Rattle.acas_base.specs.Ranges.{IsBetween};
+ghost use Rattle.acas_num.specs.Seconds.{need};
+ghost use Rattle.vert_test.specs.AltTest.{AreOpposite, IsAltHit};
+
+use acas_base::Row;
+
+/// Whether a height `dz` of the other aircraft over the own one (1/1024 ft) that changes by `dzdot`
+/// (1/1024 ft/s) is within the ZTHR of a row, or shrinks so fast that the time to the same altitude
+/// is at most the row's tau (FAA, Introduction to TCAS II v7.1).
+///
+/// The time is compared exactly, so that a little more than 25 s is more than 25 s.
+pub fn alt_test(dz: i64, dzdot: i64, row: &Row) -> bool
+    requires height { unsigned_abs dz ≤ 2 ^ 28 }
+    requires rate { unsigned_abs dzdot ≤ 2 ^ 23 }
+    requires tau { IsBetween (pos 0) (pos (2 ^ 12)) row.now.tau }
+    requires zthr { IsBetween (pos 0) (pos (2 ^ 28)) row.now.zthr }
+    ensures { IsTrue result ↔ IsAltHit dz dzdot row.now }
+{
+    let height = dz.unsigned_abs();
+    if height <= row.zthr.unsigned_abs() {
+        return true;
+    }
+    if are_opposite(dz, dzdot) {
+        is_soon(height, dzdot.unsigned_abs(), row.tau.unsigned_abs())
+    } else {
+        false
+    }
+}
+
+// Whether one number is below zero and the other above it.
+fn are_opposite(a: i64, b: i64) -> bool
+    ensures { IsTrue result ↔ AreOpposite a b }
+{
+    if a < 0 { b > 0 } else { a > 0 && b < 0 }
+}
+
+// Whether `rate` a second make up `height` within `tau` s, without a division: the product is at most 2^35.
+fn is_soon(height: u64, rate: u64, tau: u64) -> bool
+    requires rate { rate ≤ 2 ^ 23 }
+    requires converging { 0 < rate }
+    requires tau { tau ≤ 2 ^ 12 }
+    ensures { IsTrue result ↔ (need height rate ≤ tau) }
+{
+    height <= tau * rate
+}
+
+#[cfg(test)]
+mod tests {
+    use super::*;
+
+    const FOOT: i64 = 1024;
+
+    // The thresholds of a resolution advisory at level 5.
+    const LEVEL_5: Row = Row {
+        tau: 25,
+        dmod: 3_341 * FOOT,
+        zthr: 600 * FOOT,
+    };
+
+    // Within 600 ft whatever the rate; beyond it 25 s at 40 ft/s, and one unit more; and at the same rate apart.
+    #[test]
+    fn tells_a_little_more_than_tau(rt: HostRuntime) {
+        let rows = [
+            (600 * FOOT, 40 * FOOT, true),
+            (-600 * FOOT, -40 * FOOT, true),
+            (600 * FOOT + 1, 0, false),
+            (1_000 * FOOT, -40 * FOOT, true),
+            (1_000 * FOOT + 1, -40 * FOOT, false),
+            (-1_000 * FOOT, 40 * FOOT, true),
+            (-1_000 * FOOT - 1, 40 * FOOT, false),
+            (1_000 * FOOT, 40 * FOOT, false),
+        ];
+        for (dz, dzdot, holds) in rows {
+            assert_eq!(rt; alt_test(dz, dzdot, &LEVEL_5), holds, "{dz} {dzdot}");
+        }
+    }
+}

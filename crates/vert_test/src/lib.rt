@@ -1,0 +1,6 @@
+//! The altitude test: is another aircraft at nearly the same altitude, or will it soon be?
+#![tactic(auto)]
+
+mod altitude;
+
+pub use altitude::alt_test;
