@@ -10,4 +10,6 @@ pub use commands::acas;
 pub use status::Status;
 
 #[cfg(test)]
+mod choices;
+#[cfg(test)]
 mod tests;

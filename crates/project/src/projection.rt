@@ -18,7 +18,8 @@ pub fn project(z: i64, v: i64, goal: i64, delay: u8, step: i64, halves: u16) -> 
     requires forward { pos 1 ≤ℤ step }
     requires step { step ≤ℤ pos (2 ^ 16) }
     requires halves { halves ≤ 1200 }
-    ensures { result ≡ projected z v goal delay step halves }
+    ensures value { result ≡ projected z v goal delay step halves }
+    ensures bound { unsigned_abs result ≤ 2 ^ 41 }
 {
     let total = sum_of_rates(v, goal, delay, step, halves);
     sum(z, floor_div(total, 2))
@@ -66,7 +67,8 @@ fn amount_toward(v: i64, goal: i64, amount: u64) -> i64
 fn sum(a: i64, b: i64) -> i64
     requires a { unsigned_abs a ≤ 2 ^ 40 }
     requires b { unsigned_abs b ≤ 2 ^ 40 }
-    ensures { result ≡ a +ℤ b }
+    ensures value { result ≡ a +ℤ b }
+    ensures bound { unsigned_abs result ≤ 2 ^ 41 }
 {
     a + b
 }

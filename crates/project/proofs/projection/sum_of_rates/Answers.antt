@@ -17,6 +17,6 @@ returns-clause-value c =
     let moves : c.from-2.result ≡ c.args.halves - c.args.delay = c.from-2.ensures ∙ c.saturating_sub-moves.ensures ∙ ap (λ k. c.args.halves - k) c.from.ensures in
     let gained = rw (distance, size, moves) at c.sum_gained-gained.ensures.value in
     sum
-    ∙ c.sum.ensures
+    ∙ c.sum.ensures.value
     ∙ ap₂ (λ (x y : ℤ). x +ℤ y) (unmoved ∙ rw v at c.unmoved.ensures.value) (toward_goal ∙ (rw (v, goal_rate) at c.amount_toward.ensures.value) ∙ ap (toward c.args.v c.args.goal) gained)
     ∙ unmoved_and_gained c.args.v c.args.goal c.args.step c.args.delay c.args.halves c.requires.forward

@@ -1,0 +1,4 @@
+pub mod Hitting
+pub mod Stepping
+pub mod Viewing
+pub mod Resolving

@@ -1,0 +1,36 @@
+-- What every view keeps, for those who decide by it.
+use Rattle.std.specs.Prelude.{◌≡◌, ◌↔◌, ℕ, ◌≤◌, true, None, Some, ◌-ℤ◌, option_map, slice_get, is_some, IsTrue}
+use Rattle.acas_base.specs.Encounter.{Parts}
+use Rattle.acas_base.specs.declared.craft.CraftSpec.{CraftSpec}
+use Rattle.acas_base.specs.declared.craft.Kind.TheVariants.{Ra}
+use Rattle.acas_base.specs.declared.level.Level.{Level}
+use Rattle.acas_base.specs.declared.view.View.{View}
+use Rattle.craft_view.specs.Own.{newest_altitude}
+use Rattle.craft_view.specs.Sight.{other_craft, sight_of}
+use Rattle.craft_view.specs.Views.{no_view, view_of}
+use Rattle.sens_table.specs.Levels.{level_at}
+
+-- The sensitivity level of an aircraft in a cycle.
+abbrev pub level_in : Parts → ℕ → ℕ → Level
+level_in e own cycle = level_at (newest_altitude (sight_of e own cycle)) (newest_altitude (sight_of e own cycle) -ℤ e.elevation)
+
+-- The aircraft gives resolution advisories in a cycle: it is of that kind, and its level is above 2.
+pub record Resolves (e : Parts) (own cycle : ℕ) : Type 0 where
+  pub kind : option_map (λ (craft : CraftSpec). craft.kind) (slice_get e.crafts own) ≡ Some Ra
+  pub level : 3 ≤ (level_in e own cycle).sl
+
+-- A threat is only seen where the pair is tested and own aircraft resolves.
+pub record IsSeenAsThreat (view : View) : Type 0 where
+  pub tested : view.tested ≡ true
+  pub resolves : view.resolves ≡ true
+
+abbrev pub Threatens : Parts → ℕ → ℕ → ℕ → Type 0
+Threatens e own target cycle = (view_of e own target cycle).threat ≡ true → IsSeenAsThreat (view_of e own target cycle)
+
+-- The view of another aircraft resolves exactly where own aircraft does.
+abbrev pub ResolvesAsOwn : Parts → ℕ → ℕ → ℕ → Type 0
+ResolvesAsOwn e own target cycle = IsTrue (is_some (other_craft e own target)) → IsTrue (view_of e own target cycle).resolves ↔ Resolves e own cycle
+
+-- In the own place, and past the last aircraft, nothing is seen.
+abbrev pub SeesNothing : Parts → ℕ → ℕ → ℕ → Type 0
+SeesNothing e own target cycle = other_craft e own target ≡ None → view_of e own target cycle ≡ no_view

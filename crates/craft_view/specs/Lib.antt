@@ -1,0 +1,14 @@
+pub mod Sight
+pub mod KnownTracks
+pub mod Hits
+pub mod Own
+pub mod Separations
+pub mod Views
+pub mod Kept
+pub mod Facts
+pub use Rattle.acas_base.specs.Encounter
+pub use Rattle.acas_num.specs.Tracks
+pub use Rattle.flight.specs.Inside
+pub use Rattle.sens_table.specs.Levels
+pub use Rattle.tau_test.specs.RangeTest
+pub use Rattle.vert_test.specs.AltTest

@@ -1,0 +1,57 @@
+-- The vertical separations at closest approach. Altitudes are in 1/1024 ft, rates in 1/1024 ft/s.
+use Rattle.std.specs.Prelude.{ℕ, ◌*◌, ◌/◌, ◌^◌, if◌then◌else◌, ℤ, pos, neg_ℤ, ◌+ℤ◌, ◌-ℤ◌, ◌*ℤ◌, ◌≤ℤ◌, int_lt, unsigned_abs, map, min, replicate}
+use Rattle.std.specs.Int.{int_div_euclid, int_max, int_min}
+use Rattle.acas_base.specs.Strengths.{floor_of, weakest_first}
+use Rattle.acas_base.specs.declared.advisory.Sense.{Sense}
+use Rattle.acas_base.specs.declared.advisory.Sense.TheVariants.{Up, Down}
+use Rattle.acas_base.specs.declared.advisory.Strength.{Strength}
+use Rattle.acas_base.specs.declared.level.Row.{Row}
+use Rattle.acas_base.specs.declared.view.Seps.{Seps}
+use Rattle.craft_view.specs.declared.motion.Estimate.{Estimate}
+use Rattle.craft_view.specs.declared.motion.Motion.{Motion}
+use Rattle.craft_view.specs.declared.separations.Response.{Response}
+use Rattle.project.specs.Projection.{projected}
+
+-- The half-seconds to closest approach: twice the row's seconds at most, and zero where the range doesn't close.
+unfoldable pub halves_to : Estimate → Row → ℕ
+halves_to range row = if int_lt range.rate (pos 0) then min (2 * unsigned_abs row.tau) (2 * unsigned_abs range.est / unsigned_abs range.rate) else 0
+
+-- The vertical rate that a sense and a strength ask for: own rate, where that meets the floor already, or the floor.
+unfoldable pub asked_rate : Sense → Strength → ℤ → ℤ
+asked_rate Up strength rate = int_max rate (floor_of strength)
+asked_rate Down strength rate = int_min rate (neg_ℤ (floor_of strength))
+
+-- A first response: after 5 s by 8 ft/s2, so that the rate moves by 4 ft/s in a half-second.
+abbrev pub first_response : Response
+first_response = record { delay = 10; step = pos 4096 }
+
+-- A later response: after 2.5 s by 11 ft/s2.
+abbrev pub later_response : Response
+later_response = record { delay = 5; step = pos 5632 }
+
+pub record IsResponse (response : Response) : Type 0 where
+  pub forward : pos 1 ≤ℤ response.step
+  pub step : response.step ≤ℤ pos (2 ^ 16)
+
+-- Own altitude after so many half-seconds of a response.
+unfoldable pub own_after : Estimate → ℕ → Response → Sense → Strength → ℤ
+own_after own halves response sense strength = projected own.est own.rate (asked_rate sense strength own.rate) response.delay response.step halves
+
+-- The other's altitude after so many half-seconds. It keeps its rate.
+unfoldable pub target_after : Estimate → ℕ → ℤ
+target_after target halves = target.est +ℤ int_div_euclid (target.rate *ℤ pos halves) (pos 2)
+
+-- How far a sense and a strength separate the two: own altitude over the other's for up, and the opposite for down.
+unfoldable pub separation : Motion → ℕ → Response → Sense → Strength → ℤ
+separation m halves response Up strength = own_after m.own halves response Up strength -ℤ target_after m.target halves
+separation m halves response Down strength = target_after m.target halves -ℤ own_after m.own halves response Down strength
+
+-- The separations of all strengths, weakest first.
+unfoldable pub separations : Motion → ℕ → Response → Seps
+separations m halves response = record {
+  up = map (separation m halves response Up) weakest_first;
+  down = map (separation m halves response Down) weakest_first;
+}
+
+abbrev pub zeros : Seps
+zeros = record { up = replicate 6 (pos 0); down = replicate 6 (pos 0) }

@@ -1,0 +1,50 @@
+-- What an aircraft may know of the air up to a cycle.
+use Rattle.std.specs.Prelude.{ℕ, zero, suc, ◌==◌, if◌then◌else◌, ℤ, List, [], ◌∷◌, Option, None, option_map, slice_get}
+use Rattle.std.specs.Option.{option_and_then}
+use Rattle.acas_base.specs.Encounter.{Parts}
+use Rattle.acas_base.specs.declared.craft.CraftSpec.{CraftSpec}
+use Rattle.acas_base.specs.declared.craft.Gains.{Gains}
+use Rattle.acas_base.specs.declared.craft.Kind.{Kind}
+use Rattle.flight.specs.Measurement.{measurement, own_altitude}
+use Rattle.flight.specs.declared.measuring.Meas.{Meas}
+
+-- Another aircraft: its kind, and what was measured of it in each cycle, the newest first.
+pub record Other : Type 0 where
+  pub kind : Kind
+  pub seen : List (Option Meas)
+
+-- The gains of the tracks, the elevation of the ground in ft, own kind and ceiling, own altitudes in ft, the newest first,
+-- and the others by index. There is none in the own place, nor past the last aircraft.
+pub record Sight : Type 0 where
+  pub range : Gains
+  pub altitude : Gains
+  pub elevation : ℤ
+  pub kind : Option Kind
+  pub ceiling : Option ℤ
+  pub own : List ℤ
+  pub others : ℕ → Option Other
+
+-- What a function of the cycle gives in the cycles 1 to n, the newest first.
+abbrev pub newest_first : {X : Type 0} → (ℕ → X) → ℕ → List X
+newest_first f zero = []
+newest_first f (suc n) = f (suc n) ∷ newest_first f n
+
+-- What an own aircraft knows of an aircraft at an index.
+abbrev pub known_of : Parts → ℕ → ℕ → ℕ → CraftSpec → Other
+known_of e own cycle index craft = record { kind = craft.kind; seen = newest_first (measurement e own index) cycle }
+
+-- The aircraft at an index, where it is another one.
+abbrev pub other_craft : Parts → ℕ → ℕ → Option CraftSpec
+other_craft e own index = if index == own then None else slice_get e.crafts index
+
+-- What an own aircraft may know in a cycle.
+abbrev pub sight_of : Parts → ℕ → ℕ → Sight
+sight_of e own cycle = record {
+  range = e.range;
+  altitude = e.altitude;
+  elevation = e.elevation;
+  kind = option_map (λ (craft : CraftSpec). craft.kind) (slice_get e.crafts own);
+  ceiling = option_and_then (λ (craft : CraftSpec). craft.ceiling) (slice_get e.crafts own);
+  own = newest_first (own_altitude e own) cycle;
+  others = λ index. option_map (known_of e own cycle index) (other_craft e own index);
+}

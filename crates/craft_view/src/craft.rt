@@ -1,0 +1,156 @@
+// An aircraft that looks at the others, second by second.
+ghost use Rattle.std.specs.Prelude.{◌≡◌, ℕ, ◌+◌, ◌<◌, ◌≤◌, length};
+ghost use Rattle.acas_base.specs.declared.TheConstants.{CRAFTS};
+ghost use Rattle.craft_view.specs.Kept.{Belongs, Kept, IsActive, altitude_kept, kept_of};
+ghost use Rattle.craft_view.specs.Own.{own_of, AreRows};
+ghost use Rattle.craft_view.specs.Sight.{sight_of};
+ghost use Rattle.craft_view.specs.Views.{picture_of, view_of};
+ghost use Rattle.flight.specs.Inside.{IsInside};
+
+use crate::others::{is_other, step_tracks};
+use crate::own::{OwnAircraft, own_aircraft};
+use crate::pair::{no_view, view_by};
+use crate::tracks::Tracks;
+use acas_base::{CRAFTS, Encounter, Picture, View};
+use acas_num::TrackState;
+use alt_track::AltTrack;
+use flight::own_altitude;
+use std::marker::Model;
+
+/// An active aircraft, which looks at the others once in each cycle of an encounter. It keeps a track
+/// of its own altitude, and of each other aircraft a track of the range and one of the altitude.
+#[derive(Debug, Drop)]
+pub struct Craft {
+    own: u8,
+    cycle: u16,
+    altitude: AltTrack,
+    tracks: [Tracks; CRAFTS],
+}
+
+impl Model for Craft {
+    ghost use Rattle.craft_view.specs.Kept.{Kept};
+
+    ghost Value = { Kept };
+
+    ghost view = { λ c. record { own = c.own; cycle = c.cycle; altitude = c.altitude; tracks = c.tracks } };
+}
+
+impl Craft {
+    /// The aircraft `own` of an encounter, before its first look. It has to be active, as
+    /// [`crate::is_active`] tells, and the encounter inside the box, as `flight::inside` tells.
+    pub fn new(encounter: &Encounter, own: u8) -> Craft
+        requires active { IsActive encounter.now own }
+        requires inside { IsInside encounter.now }
+        ensures own { result.own ≡ own }
+        ensures cycle { result.cycle ≡ 0 }
+        ensures belongs { Belongs encounter.now result }
+    {
+        Craft {
+            own,
+            cycle: 0,
+            altitude: AltTrack::new(),
+            tracks: [Tracks::new(); CRAFTS],
+        }
+    }
+
+    /// The index of the aircraft.
+    pub fn own(&self) -> u8
+        ensures { result ≡ self.now.own }
+    {
+        self.own
+    }
+
+    /// The number of looks made so far, and so the cycle of the newest picture.
+    pub fn cycle(&self) -> u16
+        ensures { result ≡ self.now.cycle }
+    {
+        self.cycle
+    }
+
+    /// The picture of the next cycle of the encounter to which the craft belongs. Each track goes on
+    /// by what is measured in that cycle alone.
+    pub fn look(&mut self, encounter: &Encounter) -> Picture
+        requires belongs { Belongs encounter.now self.old }
+        requires left { self.old.cycle < encounter.now.cycles }
+        ensures picture { result ≡ picture_of encounter.now self.old.own (self.old.cycle + 1) }
+        ensures own { self.new.own ≡ self.old.own }
+        ensures cycle { self.new.cycle ≡ self.old.cycle + 1 }
+        ensures belongs { Belongs encounter.now self.new }
+    {
+        self.step(encounter);
+        self.picture(encounter)
+    }
+
+    // Each track goes on by what is measured in the next cycle.
+    fn step(&mut self, encounter: &Encounter)
+        requires belongs { Belongs encounter.now self.old }
+        requires left { self.old.cycle < encounter.now.cycles }
+        ensures own { self.new.own ≡ self.old.own }
+        ensures cycle { self.new.cycle ≡ self.old.cycle + 1 }
+        ensures belongs { Belongs encounter.now self.new }
+    {
+        // No run is longer than 600 cycles.
+        let _run = encounter.cycles();
+        let own = self.own;
+        let cycle = self.cycle + 1;
+        let altitude = own_altitude(encounter, own, cycle);
+        self.altitude
+            .step(Some(altitude), encounter.altitude_gains());
+        step_tracks(&mut self.tracks, encounter, own, cycle);
+        self.cycle = cycle;
+    }
+
+    // The picture of the present cycle.
+    fn picture(&self, encounter: &Encounter) -> Picture
+        requires belongs { Belongs encounter.now self.now }
+        requires begun { 1 ≤ self.now.cycle }
+        ensures { result ≡ picture_of encounter.now self.now.own self.now.cycle }
+    {
+        let own = own_aircraft(encounter, self.own, self.cycle);
+        let mut views = [no_view(); CRAFTS];
+        for target in 0..CRAFTS {
+            views[target] = self.view_of(encounter, &own, target as u8);
+        }
+        Picture {
+            own: self.own,
+            cycle: self.cycle,
+            views,
+        }
+    }
+
+    // The view of the aircraft at an index in the present cycle.
+    fn view_of(&self, encounter: &Encounter, own: &OwnAircraft, target: u8) -> View
+        requires belongs { Belongs encounter.now self.now }
+        requires own { own.now ≡ own_of (sight_of encounter.now self.now.own self.now.cycle) }
+        requires rows { AreRows own.now }
+        requires target { target < CRAFTS }
+        ensures { result ≡ view_of encounter.now self.now.own target self.now.cycle }
+    {
+        if is_other(encounter, self.own, target) {
+            view_by(own, &self.altitude, &self.tracks[usize::from(target)])
+        } else {
+            no_view()
+        }
+    }
+
+    /// The state of the track of the range to an aircraft: estimate in 1/1024 ft, rate in 1/1024 ft/s.
+    /// It is empty in the own place, and where there is no aircraft.
+    pub fn range_of(&self, target: u8) -> TrackState
+        requires { target < CRAFTS }
+        ensures { result ≡ (kept_of self.now target).range }
+    {
+        self.tracks[usize::from(target)].range.state()
+    }
+
+    /// The state of the track of the altitude of an aircraft, in the own place that of own altitude:
+    /// estimate in 1/1024 ft, rate in 1/1024 ft/s. It is empty where there is no aircraft.
+    pub fn altitude_of(&self, target: u8) -> TrackState
+        requires { target < CRAFTS }
+        ensures { result ≡ altitude_kept self.now target }
+    {
+        if target == self.own {
+            return self.altitude.state();
+        }
+        self.tracks[usize::from(target)].altitude.state()
+    }
+}

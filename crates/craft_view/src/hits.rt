@@ -1,0 +1,47 @@
+// The two tests of an advisory.
+ghost use Rattle.std.specs.Prelude.{◌≡◌, ◌↔◌, ℤ, ◌-ℤ◌, IsTrue};
+ghost use Rattle.acas_base.specs.declared.level.Row.{Row};
+ghost use Rattle.craft_view.specs.Hits.{is_altitude_hit, is_hit, is_range_hit};
+ghost use Rattle.craft_view.specs.KnownTracks.{IsMotion, IsRangeEstimate};
+ghost use Rattle.sens_table.specs.Levels.{IsTableRow};
+ghost use Rattle.tau_test.specs.RangeTest.{IsRangeHit};
+ghost use Rattle.vert_test.specs.AltTest.{IsAltHit};
+
+use crate::motion::{Estimate, Motion, difference};
+use acas_base::Row;
+use tau_test::range_test;
+use vert_test::alt_test;
+
+// Whether both tests hold with the thresholds of a row.
+pub(crate) fn is_hit(motion: &Motion, row: &Row) -> bool
+    requires motion { IsMotion motion.now }
+    requires row { IsTableRow row.now }
+    ensures { result ≡ is_hit motion.now row.now }
+{
+    is_range_hit(&motion.range, row) && is_altitude_hit(motion, row)
+}
+
+fn is_range_hit(range: &Estimate, row: &Row) -> bool
+    requires range { IsRangeEstimate range.now }
+    requires row { IsTableRow row.now }
+    ensures { result ≡ is_range_hit range.now.est range.now.rate row.now }
+{
+    range_test(range.est, range.rate, row)
+}
+
+fn is_altitude_hit(motion: &Motion, row: &Row) -> bool
+    requires motion { IsMotion motion.now }
+    requires row { IsTableRow row.now }
+    ensures { result ≡ is_altitude_hit (motion.now.target.est -ℤ motion.now.own.est) (motion.now.target.rate -ℤ motion.now.own.rate) row.now }
+{
+    let height = difference(motion.target.est, motion.own.est);
+    let rate = difference(motion.target.rate, motion.own.rate);
+    alt_test(height, rate, row)
+}
+
+/// A law: the truth values of the range test and of the altitude test that stand in a view are true
+/// exactly where the tests hold.
+pub fn hits_law()
+    ensures range { (r rdot : ℤ) (row : Row) → IsTrue (is_range_hit r rdot row) ↔ IsRangeHit r rdot row }
+    ensures altitude { (dz dzdot : ℤ) (row : Row) → IsTrue (is_altitude_hit dz dzdot row) ↔ IsAltHit dz dzdot row }
+{}

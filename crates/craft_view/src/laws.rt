@@ -1,0 +1,13 @@
+// What every view keeps.
+ghost use Rattle.std.specs.Prelude.{ℕ};
+ghost use Rattle.acas_base.specs.Encounter.{Parts};
+ghost use Rattle.craft_view.specs.Facts.{ResolvesAsOwn, SeesNothing, Threatens};
+
+/// A law: a threat is only seen where the pair is tested and the view resolves; the view of another
+/// aircraft resolves exactly where own aircraft gives resolution advisories and its sensitivity level
+/// is above 2; and in the own place and past the last aircraft nothing is seen.
+pub fn view_law()
+    ensures threat { (e : Parts) (own target cycle : ℕ) → Threatens e own target cycle }
+    ensures resolves { (e : Parts) (own target cycle : ℕ) → ResolvesAsOwn e own target cycle }
+    ensures nothing { (e : Parts) (own target cycle : ℕ) → SeesNothing e own target cycle }
+{}

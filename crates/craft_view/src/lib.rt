@@ -1,0 +1,20 @@
+//! What an aircraft sees of the others: the tracks that it keeps of them, and a picture each second.
+#![tactic(auto)]
+
+mod craft;
+mod hits;
+mod laws;
+mod motion;
+mod others;
+mod own;
+mod pair;
+mod separations;
+mod tracks;
+
+pub use craft::Craft;
+pub use hits::hits_law;
+pub use laws::view_law;
+pub use own::is_active;
+
+#[cfg(test)]
+mod tests;

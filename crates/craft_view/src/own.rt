@@ -1,0 +1,103 @@
+// Own aircraft, and what it brings into each of its views.
+ghost use Rattle.std.specs.Prelude.{◌≡◌, ◌↔◌, ◌<◌, ◌≤◌, ◌-ℤ◌, length, Some, IfSome, IsTrue};
+ghost use Rattle.acas_base.specs.Encounter.{is_active_kind};
+ghost use Rattle.acas_base.specs.Ranges.{IsWithin};
+ghost use Rattle.craft_view.specs.Kept.{IsActive};
+ghost use Rattle.craft_view.specs.Own.{own_at, own_of, resolution_row, may_climb, AreRows};
+ghost use Rattle.craft_view.specs.Sight.{sight_of};
+ghost use Rattle.flight.specs.Inside.{IsInside};
+ghost use Rattle.sens_table.specs.Levels.{IsLevel, IsTableRow};
+
+use acas_base::{CraftSpec, Encounter, Kind, Level, Row};
+use flight::own_altitude;
+use sens_table::level_of;
+
+// The thresholds of advisories at own altitude, none of a resolution advisory where own aircraft
+// doesn't resolve; the separation to aim for, in 1/1024 ft; whether own aircraft may climb; and its
+// height above ground, in ft.
+#[derive(Clone, Copy, Debug, PartialEq, Eq)]
+pub struct OwnAircraft {
+    pub traffic: Row,
+    pub resolution: Option<Row>,
+    pub alim: i64,
+    pub climbs: bool,
+    pub height: i32,
+}
+
+/// Whether the aircraft `own` of an encounter is active: whether there is such an aircraft, and it advises.
+pub fn is_active(encounter: &Encounter, own: u8) -> bool
+    ensures { IsTrue result ↔ IsActive encounter.now own }
+{
+    match encounter.crafts().get(usize::from(own)) {
+        Some(craft) => advises(craft.kind),
+        None => false,
+    }
+}
+
+fn advises(kind: Kind) -> bool
+    ensures { result ≡ is_active_kind kind }
+{
+    match kind {
+        Kind::Ra | Kind::Ta => true,
+        Kind::Xpdr => false,
+    }
+}
+
+// What own aircraft brings into its views in a cycle.
+pub(crate) fn own_aircraft(encounter: &Encounter, own: u8, cycle: u16) -> OwnAircraft
+    requires inside { IsInside encounter.now }
+    requires own { own < length encounter.now.crafts }
+    requires begun { 1 ≤ cycle }
+    requires run { cycle ≤ encounter.now.cycles }
+    ensures value { result ≡ own_of (sight_of encounter.now own cycle) }
+    ensures rows { AreRows result }
+{
+    let spec = &encounter.crafts()[usize::from(own)];
+    let altitude = own_altitude(encounter, own, cycle);
+    own_at(spec, altitude, encounter.ground())
+}
+
+// What follows from own kind and ceiling, the altitude and the elevation of the ground, in ft.
+fn own_at(spec: &CraftSpec, altitude: i32, elevation: i32) -> OwnAircraft
+    requires altitude { IsWithin 100000 altitude }
+    requires elevation { IsWithin 100000 elevation }
+    ensures value { result ≡ own_at (Some spec.now.kind) spec.now.ceiling altitude elevation }
+    ensures rows { AreRows result }
+{
+    let level = level_of(altitude, elevation);
+    OwnAircraft {
+        traffic: level.ta,
+        resolution: resolution_row(spec.kind, &level),
+        alim: level.alim,
+        climbs: may_climb(spec.ceiling, altitude),
+        height: height_over(altitude, elevation),
+    }
+}
+
+fn height_over(altitude: i32, elevation: i32) -> i32
+    requires altitude { IsWithin 100000 altitude }
+    requires elevation { IsWithin 100000 elevation }
+    ensures { result ≡ altitude -ℤ elevation }
+{
+    altitude - elevation
+}
+
+fn resolution_row(kind: Kind, level: &Level) -> Option<Row>
+    requires { IsLevel level.now }
+    ensures value { result ≡ resolution_row (Some kind) level.now }
+    ensures row { IfSome result IsTableRow }
+{
+    match kind {
+        Kind::Ra => level.ra,
+        Kind::Ta | Kind::Xpdr => None,
+    }
+}
+
+fn may_climb(ceiling: Option<i32>, altitude: i32) -> bool
+    ensures { result ≡ may_climb ceiling altitude }
+{
+    match ceiling {
+        Some(highest) => altitude < highest,
+        None => true,
+    }
+}

@@ -1,0 +1,191 @@
+// The vertical separations at closest approach.
+ghost use Rattle.std.specs.Prelude.{◌≡◌, ◌≤◌, ◌^◌, pos, ◌+ℤ◌, ◌-ℤ◌, ◌*ℤ◌, unsigned_abs, map};
+ghost use Rattle.std.specs.Int.{int_div_euclid};
+ghost use Rattle.acas_base.specs.Strengths.{floor_of, weakest_first};
+ghost use Rattle.craft_view.specs.Separations.{asked_rate, halves_to, own_after, separation, separations, target_after, IsResponse};
+ghost use Rattle.craft_view.specs.KnownTracks.{IsAltitudeEstimate, IsMotion, IsRangeEstimate};
+ghost use Rattle.sens_table.specs.Levels.{IsTableRow};
+
+use crate::motion::{Estimate, Motion, difference};
+use acas_base::{Row, Sense, Seps, Strength};
+use acas_num::floor_div;
+use project::project;
+
+// How own aircraft responds to an advisory: after so many half-seconds its rate moves by a step, in
+// 1/1024 ft/s, in each.
+#[derive(Clone, Copy, Debug, PartialEq, Eq)]
+pub struct Response {
+    pub delay: u8,
+    pub step: i64,
+}
+
+// 5 s and 8 ft/s2.
+pub(crate) const FIRST: Response = Response {
+    delay: 10,
+    step: 4_096,
+};
+
+// 2.5 s and 11 ft/s2.
+pub(crate) const LATER: Response = Response {
+    delay: 5,
+    step: 5_632,
+};
+
+// The half-seconds to closest approach.
+#[tactic(auto, unfolding(crate::specs::Separations::halves_to))]
+pub(crate) fn halves_to(range: &Estimate, row: &Row) -> u16
+    requires range { IsRangeEstimate range.now }
+    requires row { IsTableRow row.now }
+    ensures value { result ≡ halves_to range.now row.now }
+    ensures bound { result ≤ 120 }
+{
+    if range.rate >= 0 {
+        return 0;
+    }
+    let most = 2 * row.tau.unsigned_abs();
+    let halves = 2 * range.est.unsigned_abs() / range.rate.unsigned_abs();
+    most.min(halves) as u16
+}
+
+// The separations of all strengths.
+#[tactic(auto, unfolding(crate::specs::Separations::separations))]
+pub(crate) fn separations(motion: &Motion, halves: u16, response: Response) -> Seps
+    requires motion { IsMotion motion.now }
+    requires halves { halves ≤ 120 }
+    requires response { IsResponse response }
+    ensures { result ≡ separations motion.now halves response }
+{
+    Seps {
+        up: in_sense(motion, halves, response, Sense::Up),
+        down: in_sense(motion, halves, response, Sense::Down),
+    }
+}
+
+// The separations of all strengths in a sense, weakest first.
+fn in_sense(motion: &Motion, halves: u16, response: Response, sense: Sense) -> [i64; 6]
+    requires motion { IsMotion motion.now }
+    requires halves { halves ≤ 120 }
+    requires response { IsResponse response }
+    ensures { result ≡ map (separation motion.now halves response sense) weakest_first }
+{
+    [
+        separation(motion, halves, response, sense, Strength::Limit2000),
+        separation(motion, halves, response, sense, Strength::Limit1000),
+        separation(motion, halves, response, sense, Strength::Limit500),
+        separation(motion, halves, response, sense, Strength::Level),
+        separation(motion, halves, response, sense, Strength::Positive),
+        separation(motion, halves, response, sense, Strength::Increase),
+    ]
+}
+
+// How far a sense and a strength separate the two.
+#[tactic(auto, unfolding(crate::specs::Separations::separation))]
+fn separation(
+    motion: &Motion,
+    halves: u16,
+    response: Response,
+    sense: Sense,
+    strength: Strength,
+) -> i64
+    requires motion { IsMotion motion.now }
+    requires halves { halves ≤ 120 }
+    requires response { IsResponse response }
+    ensures { result ≡ separation motion.now halves response sense strength }
+{
+    let own = own_after(&motion.own, halves, response, sense, strength);
+    let target = target_after(&motion.target, halves);
+    match sense {
+        Sense::Up => difference(own, target),
+        Sense::Down => difference(target, own),
+    }
+}
+
+#[tactic(auto, unfolding(crate::specs::Separations::own_after))]
+fn own_after(
+    own: &Estimate,
+    halves: u16,
+    response: Response,
+    sense: Sense,
+    strength: Strength,
+) -> i64
+    requires own { IsAltitudeEstimate own.now }
+    requires halves { halves ≤ 120 }
+    requires response { IsResponse response }
+    ensures value { result ≡ own_after own.now halves response sense strength }
+    ensures bound { unsigned_abs result ≤ 2 ^ 41 }
+{
+    let goal = asked_rate(sense, strength, own.rate);
+    project(
+        own.est,
+        own.rate,
+        goal,
+        response.delay,
+        response.step,
+        halves,
+    )
+}
+
+#[tactic(auto, unfolding(crate::specs::Separations::target_after))]
+fn target_after(target: &Estimate, halves: u16) -> i64
+    requires target { IsAltitudeEstimate target.now }
+    requires halves { halves ≤ 120 }
+    ensures value { result ≡ target_after target.now halves }
+    ensures bound { unsigned_abs result ≤ 2 ^ 41 }
+{
+    sum(target.est, half_of_product(target.rate, halves))
+}
+
+fn half_of_product(rate: i64, halves: u16) -> i64
+    requires rate { unsigned_abs rate ≤ 2 ^ 18 }
+    requires halves { halves ≤ 120 }
+    ensures value { result ≡ int_div_euclid (rate *ℤ pos halves) (pos 2) }
+    ensures bound { unsigned_abs result ≤ 2 ^ 30 }
+{
+    floor_div(product(rate, halves), 2)
+}
+
+fn product(rate: i64, halves: u16) -> i64
+    requires rate { unsigned_abs rate ≤ 2 ^ 18 }
+    requires halves { halves ≤ 120 }
+    ensures value { result ≡ rate *ℤ pos halves }
+    ensures bound { unsigned_abs result ≤ 2 ^ 30 }
+{
+    rate * i64::from(halves)
+}
+
+fn sum(a: i64, b: i64) -> i64
+    requires a { unsigned_abs a ≤ 2 ^ 30 }
+    requires b { unsigned_abs b ≤ 2 ^ 30 }
+    ensures value { result ≡ a +ℤ b }
+    ensures bound { unsigned_abs result ≤ 2 ^ 31 }
+{
+    a + b
+}
+
+#[tactic(auto, unfolding(crate::specs::Separations::asked_rate))]
+fn asked_rate(sense: Sense, strength: Strength, rate: i64) -> i64
+    requires { unsigned_abs rate ≤ 2 ^ 18 }
+    ensures value { result ≡ asked_rate sense strength rate }
+    ensures bound { unsigned_abs result ≤ 2 ^ 20 }
+{
+    let floor = floor_of(strength);
+    match sense {
+        Sense::Up => rate.max(floor),
+        Sense::Down => rate.min(-floor),
+    }
+}
+
+// The vertical rate in its sense that a strength asks for at least.
+fn floor_of(strength: Strength) -> i64
+    ensures value { result ≡ floor_of strength }
+    ensures bound { unsigned_abs result ≤ 2 ^ 18 }
+{
+    match strength {
+        Strength::Limit2000 => -34_133,
+        Strength::Limit1000 => -17_066,
+        Strength::Limit500 => -8_533,
+        Strength::Level => 0,
+        Strength::Positive => 25_600,
+        Strength::Increase => 42_666,
+    }
+}
