@@ -2,3 +2,4 @@ pub mod Hitting
 pub mod Stepping
 pub mod Viewing
 pub mod Resolving
+pub mod Keeping

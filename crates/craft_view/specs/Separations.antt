@@ -1,5 +1,5 @@
 -- The vertical separations at closest approach. Altitudes are in 1/1024 ft, rates in 1/1024 ft/s.
-use Rattle.std.specs.Prelude.{ℕ, ◌*◌, ◌/◌, ◌^◌, if◌then◌else◌, ℤ, pos, neg_ℤ, ◌+ℤ◌, ◌-ℤ◌, ◌*ℤ◌, ◌≤ℤ◌, int_lt, unsigned_abs, map, min, replicate}
+use Rattle.std.specs.Prelude.{◌≡◌, ◌≤◌, ℕ, ◌*◌, ◌/◌, ◌^◌, if◌then◌else◌, ℤ, pos, neg_ℤ, ◌+ℤ◌, ◌-ℤ◌, ◌*ℤ◌, ◌≤ℤ◌, int_lt, unsigned_abs, map, min, replicate}
 use Rattle.std.specs.Int.{int_div_euclid, int_max, int_min}
 use Rattle.acas_base.specs.Strengths.{floor_of, weakest_first}
 use Rattle.acas_base.specs.declared.advisory.Sense.{Sense}
@@ -9,6 +9,7 @@ use Rattle.acas_base.specs.declared.level.Row.{Row}
 use Rattle.acas_base.specs.declared.view.Seps.{Seps}
 use Rattle.craft_view.specs.declared.motion.Estimate.{Estimate}
 use Rattle.craft_view.specs.declared.motion.Motion.{Motion}
+use Rattle.craft_view.specs.declared.separations.Approach.{Approach}
 use Rattle.craft_view.specs.declared.separations.Response.{Response}
 use Rattle.project.specs.Projection.{projected}
 
@@ -37,14 +38,14 @@ pub record IsResponse (response : Response) : Type 0 where
 unfoldable pub own_after : Estimate → ℕ → Response → Sense → Strength → ℤ
 own_after own halves response sense strength = projected own.est own.rate (asked_rate sense strength own.rate) response.delay response.step halves
 
--- The other's altitude after so many half-seconds. It keeps its rate.
-unfoldable pub target_after : Estimate → ℕ → ℤ
-target_after target halves = target.est +ℤ int_div_euclid (target.rate *ℤ pos halves) (pos 2)
+-- An altitude after so many half-seconds at its rate. The other aircraft keeps its own.
+unfoldable pub kept_after : Estimate → ℕ → ℤ
+kept_after altitude halves = altitude.est +ℤ int_div_euclid (altitude.rate *ℤ pos halves) (pos 2)
 
 -- How far a sense and a strength separate the two: own altitude over the other's for up, and the opposite for down.
 unfoldable pub separation : Motion → ℕ → Response → Sense → Strength → ℤ
-separation m halves response Up strength = own_after m.own halves response Up strength -ℤ target_after m.target halves
-separation m halves response Down strength = target_after m.target halves -ℤ own_after m.own halves response Down strength
+separation m halves response Up strength = own_after m.own halves response Up strength -ℤ kept_after m.target halves
+separation m halves response Down strength = kept_after m.target halves -ℤ own_after m.own halves response Down strength
 
 -- The separations of all strengths, weakest first.
 unfoldable pub separations : Motion → ℕ → Response → Seps
@@ -52,6 +53,14 @@ separations m halves response = record {
   up = map (separation m halves response Up) weakest_first;
   down = map (separation m halves response Down) weakest_first;
 }
+
+-- Where the two are at closest approach if both keep their rates.
+pub record IsApproach (m : Motion) (approach : Approach) : Type 0 where
+  pub halves : approach.halves ≤ 120
+  pub own : approach.own ≡ kept_after m.own approach.halves
+  pub target : approach.target ≡ kept_after m.target approach.halves
+  pub own_bound : unsigned_abs approach.own ≤ 2 ^ 41
+  pub target_bound : unsigned_abs approach.target ≤ 2 ^ 41
 
 abbrev pub zeros : Seps
 zeros = record { up = replicate 6 (pos 0); down = replicate 6 (pos 0) }

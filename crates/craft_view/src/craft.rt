@@ -15,6 +15,7 @@ use acas_base::{CRAFTS, Encounter, Picture, View};
 use acas_num::TrackState;
 use alt_track::AltTrack;
 use flight::own_altitude;
+use std::array::from_fn;
 use std::marker::Model;
 
 /// An active aircraft, which looks at the others once in each cycle of an encounter. It keeps a track
@@ -107,10 +108,7 @@ impl Craft {
         ensures { result ≡ picture_of encounter.now self.now.own self.now.cycle }
     {
         let own = own_aircraft(encounter, self.own, self.cycle);
-        let mut views = [no_view(); CRAFTS];
-        for target in 0..CRAFTS {
-            views[target] = self.view_of(encounter, &own, target as u8);
-        }
+        let views = from_fn(|target| { self.view_of(encounter, &own, target as u8) });
         Picture {
             own: self.own,
             cycle: self.cycle,

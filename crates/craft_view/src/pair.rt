@@ -8,7 +8,7 @@ ghost use Rattle.sens_table.specs.Levels.{IsTableRow};
 use crate::hits::is_hit;
 use crate::motion::{Motion, difference, motion_of};
 use crate::own::OwnAircraft;
-use crate::separations::{FIRST, LATER, halves_to, separations};
+use crate::separations::{FIRST, LATER, approach_of, separations};
 use crate::tracks::Tracks;
 use acas_base::{Row, Sense, Seps, View};
 use alt_track::AltTrack;
@@ -49,7 +49,7 @@ fn resolving_view(own: &OwnAircraft, motion: &Motion, row: &Row) -> View
     requires row { IsTableRow row.now }
     ensures { result ≡ resolving_view own.now motion.now row.now }
 {
-    let halves = halves_to(&motion.range, row);
+    let approach = approach_of(motion, row);
     View {
         tested: true,
         traffic: is_hit(motion, &own.traffic),
@@ -57,13 +57,13 @@ fn resolving_view(own: &OwnAircraft, motion: &Motion, row: &Row) -> View
         threat: is_hit(motion, row),
         climbs: own.climbs,
         side: side_of(motion),
-        halves,
+        halves: approach.halves,
         alim: own.alim,
         gap: difference(motion.own.est, motion.target.est),
         rate: motion.own.rate,
         agl: own.height,
-        first: separations(motion, halves, FIRST),
-        later: separations(motion, halves, LATER),
+        first: separations(motion, &approach, FIRST),
+        later: separations(motion, &approach, LATER),
     }
 }
 

@@ -2,7 +2,7 @@
 ghost use Rattle.std.specs.Prelude.{◌≡◌, ◌≤◌, ◌^◌, pos, ◌+ℤ◌, ◌-ℤ◌, ◌*ℤ◌, unsigned_abs, map};
 ghost use Rattle.std.specs.Int.{int_div_euclid};
 ghost use Rattle.acas_base.specs.Strengths.{floor_of, weakest_first};
-ghost use Rattle.craft_view.specs.Separations.{asked_rate, halves_to, own_after, separation, separations, target_after, IsResponse};
+ghost use Rattle.craft_view.specs.Separations.{asked_rate, halves_to, kept_after, own_after, separation, separations, IsApproach, IsResponse};
 ghost use Rattle.craft_view.specs.KnownTracks.{IsAltitudeEstimate, IsMotion, IsRangeEstimate};
 ghost use Rattle.sens_table.specs.Levels.{IsTableRow};
 
@@ -33,7 +33,7 @@ pub(crate) const LATER: Response = Response {
 
 // The half-seconds to closest approach.
 #[tactic(auto, unfolding(crate::specs::Separations::halves_to))]
-pub(crate) fn halves_to(range: &Estimate, row: &Row) -> u16
+fn halves_to(range: &Estimate, row: &Row) -> u16
     requires range { IsRangeEstimate range.now }
     requires row { IsTableRow row.now }
     ensures value { result ≡ halves_to range.now row.now }
@@ -47,34 +47,57 @@ pub(crate) fn halves_to(range: &Estimate, row: &Row) -> u16
     most.min(halves) as u16
 }
 
+// Where the two are at closest approach if both keep their rates, after so many half-seconds.
+#[derive(Clone, Copy, Debug, PartialEq, Eq)]
+pub struct Approach {
+    pub halves: u16,
+    pub own: i64,
+    pub target: i64,
+}
+
+// The closest approach, with the thresholds of a row.
+pub(crate) fn approach_of(motion: &Motion, row: &Row) -> Approach
+    requires motion { IsMotion motion.now }
+    requires row { IsTableRow row.now }
+    ensures halves { result.halves ≡ halves_to motion.now.range row.now }
+    ensures approach { IsApproach motion.now result }
+{
+    let halves = halves_to(&motion.range, row);
+    Approach {
+        halves,
+        own: kept_after(&motion.own, halves),
+        target: kept_after(&motion.target, halves),
+    }
+}
+
 // The separations of all strengths.
 #[tactic(auto, unfolding(crate::specs::Separations::separations))]
-pub(crate) fn separations(motion: &Motion, halves: u16, response: Response) -> Seps
+pub(crate) fn separations(motion: &Motion, approach: &Approach, response: Response) -> Seps
     requires motion { IsMotion motion.now }
-    requires halves { halves ≤ 120 }
+    requires approach { IsApproach motion.now approach.now }
     requires response { IsResponse response }
-    ensures { result ≡ separations motion.now halves response }
+    ensures { result ≡ separations motion.now approach.now.halves response }
 {
     Seps {
-        up: in_sense(motion, halves, response, Sense::Up),
-        down: in_sense(motion, halves, response, Sense::Down),
+        up: in_sense(motion, approach, response, Sense::Up),
+        down: in_sense(motion, approach, response, Sense::Down),
     }
 }
 
 // The separations of all strengths in a sense, weakest first.
-fn in_sense(motion: &Motion, halves: u16, response: Response, sense: Sense) -> [i64; 6]
+fn in_sense(motion: &Motion, approach: &Approach, response: Response, sense: Sense) -> [i64; 6]
     requires motion { IsMotion motion.now }
-    requires halves { halves ≤ 120 }
+    requires approach { IsApproach motion.now approach.now }
     requires response { IsResponse response }
-    ensures { result ≡ map (separation motion.now halves response sense) weakest_first }
+    ensures { result ≡ map (separation motion.now approach.now.halves response sense) weakest_first }
 {
     [
-        separation(motion, halves, response, sense, Strength::Limit2000),
-        separation(motion, halves, response, sense, Strength::Limit1000),
-        separation(motion, halves, response, sense, Strength::Limit500),
-        separation(motion, halves, response, sense, Strength::Level),
-        separation(motion, halves, response, sense, Strength::Positive),
-        separation(motion, halves, response, sense, Strength::Increase),
+        separation(motion, approach, response, sense, Strength::Limit2000),
+        separation(motion, approach, response, sense, Strength::Limit1000),
+        separation(motion, approach, response, sense, Strength::Limit500),
+        separation(motion, approach, response, sense, Strength::Level),
+        separation(motion, approach, response, sense, Strength::Positive),
+        separation(motion, approach, response, sense, Strength::Increase),
     ]
 }
 
@@ -82,57 +105,66 @@ fn in_sense(motion: &Motion, halves: u16, response: Response, sense: Sense) -> [
 #[tactic(auto, unfolding(crate::specs::Separations::separation))]
 fn separation(
     motion: &Motion,
-    halves: u16,
+    approach: &Approach,
     response: Response,
     sense: Sense,
     strength: Strength,
 ) -> i64
     requires motion { IsMotion motion.now }
-    requires halves { halves ≤ 120 }
+    requires approach { IsApproach motion.now approach.now }
     requires response { IsResponse response }
-    ensures { result ≡ separation motion.now halves response sense strength }
+    ensures { result ≡ separation motion.now approach.now.halves response sense strength }
 {
-    let own = own_after(&motion.own, halves, response, sense, strength);
-    let target = target_after(&motion.target, halves);
+    let own = own_after(motion, approach, response, sense, strength);
     match sense {
-        Sense::Up => difference(own, target),
-        Sense::Down => difference(target, own),
+        Sense::Up => difference(own, approach.target),
+        Sense::Down => difference(approach.target, own),
     }
 }
 
 #[tactic(auto, unfolding(crate::specs::Separations::own_after))]
 fn own_after(
-    own: &Estimate,
-    halves: u16,
+    motion: &Motion,
+    approach: &Approach,
     response: Response,
     sense: Sense,
     strength: Strength,
 ) -> i64
-    requires own { IsAltitudeEstimate own.now }
-    requires halves { halves ≤ 120 }
+    requires motion { IsMotion motion.now }
+    requires approach { IsApproach motion.now approach.now }
     requires response { IsResponse response }
-    ensures value { result ≡ own_after own.now halves response sense strength }
+    ensures value { result ≡ own_after motion.now.own approach.now.halves response sense strength }
     ensures bound { unsigned_abs result ≤ 2 ^ 41 }
 {
-    let goal = asked_rate(sense, strength, own.rate);
+    let Estimate { est, rate } = motion.own;
+    let goal = asked_rate(sense, strength, rate);
+    if goal == rate {
+        // Own aircraft does already what is asked for.
+        return approach.own;
+    }
+    if approach.halves <= u16::from(response.delay) {
+        // There is no time to respond.
+        return approach.own;
+    }
     project(
-        own.est,
-        own.rate,
+        est,
+        rate,
         goal,
         response.delay,
         response.step,
-        halves,
+        approach.halves,
     )
 }
 
-#[tactic(auto, unfolding(crate::specs::Separations::target_after))]
-fn target_after(target: &Estimate, halves: u16) -> i64
-    requires target { IsAltitudeEstimate target.now }
+// An altitude after so many half-seconds at its rate.
+#[tactic(auto, unfolding(crate::specs::Separations::kept_after))]
+fn kept_after(altitude: &Estimate, halves: u16) -> i64
+    requires altitude { IsAltitudeEstimate altitude.now }
     requires halves { halves ≤ 120 }
-    ensures value { result ≡ target_after target.now halves }
+    ensures value { result ≡ kept_after altitude.now halves }
     ensures bound { unsigned_abs result ≤ 2 ^ 41 }
 {
-    sum(target.est, half_of_product(target.rate, halves))
+    sum(altitude.est, half_of_product(altitude.rate, halves))
 }
 
 fn half_of_product(rate: i64, halves: u16) -> i64

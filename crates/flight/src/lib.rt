@@ -10,7 +10,7 @@ mod places;
 
 pub use flying::position;
 pub use inside_box::inside;
-pub use measuring::{Meas, measure, own_altitude, slant_range_law};
+pub use measuring::{Meas, measure, measure_from, own_altitude, slant_range_law};
 pub use places::Place;
 
 #[cfg(test)]

@@ -3,6 +3,7 @@ ghost use Rattle.std.specs.Prelude.{◌≡◌, ℕ, ◌*◌, ◌+◌, ◌<◌, �
 ghost use Rattle.acas_base.specs.Ranges.{IsCycle};
 ghost use Rattle.acas_num.specs.Clamp.{LiesBetween};
 ghost use Rattle.flight.specs.Bounds.{IsReachable};
+ghost use Rattle.flight.specs.Flight.{position};
 ghost use Rattle.flight.specs.Inside.{IsInside, IsInBox};
 ghost use Rattle.flight.specs.Measurement.{IsSlantRange, distance, feet, longest, measured, measurement, own_altitude, reported, slant_range, square};
 ghost use Rattle.flight.specs.declared.places.Place.{Place};
@@ -34,12 +35,37 @@ pub fn measure(encounter: &Encounter, own: u8, target: u8, cycle: u16) -> Option
     ensures range { IfSome result (λ m. m.range ≤ 182280) }
     ensures altitude { IsInside encounter.now → cycle ≤ encounter.now.cycles → IfSome result (λ m. LiesBetween (neg_ℤ (pos 2000)) (pos 62000) m.alt) }
 {
+    measure_from(
+        &position(encounter, own, cycle),
+        encounter,
+        own,
+        target,
+        cycle,
+    )
+}
+
+/// What [`measure`] gives, where it is known already where the own aircraft is: it measures from `here`.
+pub fn measure_from(
+    here: &Place,
+    encounter: &Encounter,
+    own: u8,
+    target: u8,
+    cycle: u16,
+) -> Option<Meas>
+    requires own { own < length encounter.now.crafts }
+    requires target { target < length encounter.now.crafts }
+    requires cycle { IsCycle cycle }
+    requires here { here.now ≡ position encounter.now own cycle }
+    requires reachable { IsReachable here.now }
+    ensures value { result ≡ measurement encounter.now own target cycle }
+    ensures range { IfSome result (λ m. m.range ≤ 182280) }
+    ensures altitude { IsInside encounter.now → cycle ≤ encounter.now.cycles → IfSome result (λ m. LiesBetween (neg_ℤ (pos 2000)) (pos 62000) m.alt) }
+{
     if is_missed(encounter.misses(), own, target, cycle) {
         return None;
     }
-    let here = position(encounter, own, cycle);
     let there = position(encounter, target, cycle);
-    measured(&here, &there)
+    measured(here, &there)
 }
 
 /// The altitude that an aircraft measures of itself in a cycle, in ft, rounded down (this project's
