@@ -5,9 +5,14 @@ use Rattle.std.proofs.lemmas.Int.{ints, clamps}
 use Rattle.std.specs.Prelude.{int_le}
 use Rattle.std.specs.Int.{int_div_euclid, int_min, int_max}
 use Rattle.acas_base.specs.declared.advisory.Sense.{Sense}
+use Rattle.acas_base.specs.Strengths.{floor_of}
 use Rattle.acas_base.specs.declared.advisory.Strength.{Strength}
-use Rattle.craft_view.specs.Separations.{asked_rate, kept_after, own_after}
+use Rattle.acas_base.specs.declared.advisory.Strength.TheVariants.{Level}
+use Rattle.acas_base.specs.declared.advisory.Sense.TheVariants.{Up, Down}
+use Rattle.craft_view.specs.Separations.{apart, asked_rate, kept_after, own_after, separation, IsApproach}
 use Rattle.craft_view.specs.declared.motion.Estimate.{Estimate}
+use Rattle.craft_view.specs.declared.motion.Motion.{Motion}
+use Rattle.craft_view.specs.declared.separations.Approach.{Approach}
 use Rattle.craft_view.specs.declared.separations.Response.{Response}
 use Rattle.project.specs.Projection.{projected, rate_at, rates}
 
@@ -61,3 +66,24 @@ after-at-goal own halves response sense strength forward met =
     at-goal : (step : ℤ) → pos 1 ≤ℤ step → own.est +ℤ int_div_euclid (own.rate *ℤ pos halves) (pos 2) ≡ projected own.est own.rate own.rate response.delay step halves
     at-goal (pos step) forward = after own.est own.rate (rates own.rate own.rate response.delay (pos step) halves) halves (rates-at-goal own.rate response.delay step halves)
     at-goal (negsuc k) forward = absurd (omega (arith, ints, forward))
+
+-- The separation at kept rates.
+pub separation-kept : (m : Motion) (approach : Approach) (response : Response) (sense : Sense) (strength : Strength) → IsApproach m approach
+    → kept_after m.own approach.halves ≡ own_after m.own approach.halves response sense strength → apart sense approach.own approach.target ≡ separation m approach.halves response sense strength
+unfolding separation
+separation-kept m approach response sense strength is keeps = ap₂ (apart sense) (is.own ∙ keeps) is.target
+
+pub separation-in-delay : (m : Motion) (approach : Approach) (response : Response) (sense : Sense) (strength : Strength) → IsApproach m approach → approach.halves ≤ response.delay
+    → apart sense approach.own approach.target ≡ separation m approach.halves response sense strength
+separation-in-delay m approach response sense strength is early = separation-kept m approach response sense strength is (after-in-delay m.own approach.halves response sense strength early)
+
+-- What meets a floor meets a lower one.
+meets-lower : (sense : Sense) (strength : Strength) (rate : ℤ) → floor_of strength ≤ℤ pos 0 → asked_rate sense Level rate ≡ rate → asked_rate sense strength rate ≡ rate
+unfolding asked_rate
+meets-lower Up strength rate low meets = omega (arith, ints, clamps, low, meets)
+meets-lower Down strength rate low meets = omega (arith, ints, clamps, low, meets)
+
+pub separation-met : (m : Motion) (approach : Approach) (response : Response) (sense : Sense) (strength : Strength) → IsApproach m approach → pos 1 ≤ℤ response.step
+    → floor_of strength ≤ℤ pos 0 → asked_rate sense Level m.own.rate ≡ m.own.rate → apart sense approach.own approach.target ≡ separation m approach.halves response sense strength
+separation-met m approach response sense strength is forward low meets =
+    separation-kept m approach response sense strength is (after-at-goal m.own approach.halves response sense strength forward (meets-lower sense strength m.own.rate low meets))

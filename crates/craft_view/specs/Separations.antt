@@ -42,10 +42,14 @@ own_after own halves response sense strength = projected own.est own.rate (asked
 unfoldable pub kept_after : Estimate → ℕ → ℤ
 kept_after altitude halves = altitude.est +ℤ int_div_euclid (altitude.rate *ℤ pos halves) (pos 2)
 
--- How far a sense and a strength separate the two: own altitude over the other's for up, and the opposite for down.
+-- How far a sense has two altitudes apart: own over the other for up, and the opposite for down.
+unfoldable pub apart : Sense → ℤ → ℤ → ℤ
+apart Up own target = own -ℤ target
+apart Down own target = target -ℤ own
+
+-- How far a sense and a strength separate the two.
 unfoldable pub separation : Motion → ℕ → Response → Sense → Strength → ℤ
-separation m halves response Up strength = own_after m.own halves response Up strength -ℤ kept_after m.target halves
-separation m halves response Down strength = kept_after m.target halves -ℤ own_after m.own halves response Down strength
+separation m halves response sense strength = apart sense (own_after m.own halves response sense strength) (kept_after m.target halves)
 
 -- The separations of all strengths, weakest first.
 unfoldable pub separations : Motion → ℕ → Response → Seps

@@ -2,7 +2,7 @@
 ghost use Rattle.std.specs.Prelude.{◌≡◌, ◌≤◌, ◌^◌, pos, ◌+ℤ◌, ◌-ℤ◌, ◌*ℤ◌, unsigned_abs, map};
 ghost use Rattle.std.specs.Int.{int_div_euclid};
 ghost use Rattle.acas_base.specs.Strengths.{floor_of, weakest_first};
-ghost use Rattle.craft_view.specs.Separations.{asked_rate, halves_to, kept_after, own_after, separation, separations, IsApproach, IsResponse};
+ghost use Rattle.craft_view.specs.Separations.{apart, asked_rate, halves_to, kept_after, own_after, separation, separations, IsApproach, IsResponse};
 ghost use Rattle.craft_view.specs.KnownTracks.{IsAltitudeEstimate, IsMotion, IsRangeEstimate};
 ghost use Rattle.sens_table.specs.Levels.{IsTableRow};
 
@@ -91,13 +91,25 @@ fn in_sense(motion: &Motion, approach: &Approach, response: Response, sense: Sen
     requires response { IsResponse response }
     ensures { result ≡ map (separation motion.now approach.now.halves response sense) weakest_first }
 {
+    let kept = apart(sense, approach.own, approach.target);
+    if approach.halves <= u16::from(response.delay) {
+        // There is no time to respond.
+        return [kept; 6];
+    }
+    let positive = separation(motion, approach, response, sense, Strength::Positive);
+    let increase = separation(motion, approach, response, sense, Strength::Increase);
+    let rate = motion.own.rate;
+    if asked_rate(sense, Strength::Level, rate) == rate {
+        // Own aircraft does already what Level asks for, and so what each weaker strength does.
+        return [kept, kept, kept, kept, positive, increase];
+    }
     [
         separation(motion, approach, response, sense, Strength::Limit2000),
         separation(motion, approach, response, sense, Strength::Limit1000),
         separation(motion, approach, response, sense, Strength::Limit500),
         separation(motion, approach, response, sense, Strength::Level),
-        separation(motion, approach, response, sense, Strength::Positive),
-        separation(motion, approach, response, sense, Strength::Increase),
+        positive,
+        increase,
     ]
 }
 
@@ -116,9 +128,19 @@ fn separation(
     ensures { result ≡ separation motion.now approach.now.halves response sense strength }
 {
     let own = own_after(motion, approach, response, sense, strength);
+    apart(sense, own, approach.target)
+}
+
+// How far a sense has two altitudes apart.
+#[tactic(auto, unfolding(crate::specs::Separations::apart))]
+fn apart(sense: Sense, own: i64, target: i64) -> i64
+    requires own { unsigned_abs own ≤ 2 ^ 41 }
+    requires target { unsigned_abs target ≤ 2 ^ 41 }
+    ensures { result ≡ apart sense own target }
+{
     match sense {
-        Sense::Up => difference(own, approach.target),
-        Sense::Down => difference(approach.target, own),
+        Sense::Up => difference(own, target),
+        Sense::Down => difference(target, own),
     }
 }
 
@@ -140,10 +162,6 @@ fn own_after(
     let goal = asked_rate(sense, strength, rate);
     if goal == rate {
         // Own aircraft does already what is asked for.
-        return approach.own;
-    }
-    if approach.halves <= u16::from(response.delay) {
-        // There is no time to respond.
         return approach.own;
     }
     project(
