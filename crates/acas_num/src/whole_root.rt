@@ -1,17 +1,59 @@
 // The root of a whole number.
-ghost use Rattle.std.specs.Prelude.{◌≡◌, ℕ};
+ghost use Rattle.std.specs.Prelude.{◌≡◌, ℕ, ◌<◌, IsTrue};
 ghost use Rattle.acas_num.specs.Root.{root, IsRoot};
+
+// The root of the largest number.
+const LARGEST: u64 = 4_294_967_295;
 
 /// The greatest number whose square is at most `n`.
 pub fn root(n: u64) -> u64
     ensures value { result ≡ root n }
     ensures greatest { IsRoot n result }
 {
-    match u32::try_from(n) {
-        // A small number takes half as many steps.
-        Ok(small) => u64::from(small.isqrt()),
-        Err(_) => n.isqrt(),
+    let near = near_root(n);
+    if is_root(n, near) {
+        return near;
     }
+    n.isqrt()
+}
+
+// A number near the root, by Newton's method. It nearly always is the root.
+fn near_root(n: u64) -> u64 {
+    let mut near = first_near(n);
+    for _ in 0..3 {
+        near = next_near(n, near);
+    }
+    near
+}
+
+// At most a sixteenth more than the root, for a number that isn't small.
+fn first_near(n: u64) -> u64
+    ensures { 0 < result }
+{
+    let half = (64 - n.leading_zeros()) / 2;
+    ((1u64 << half).wrapping_add(n >> half) / 2).max(1)
+}
+
+// A step of Newton's method.
+fn next_near(n: u64, near: u64) -> u64
+    requires { 0 < near }
+    ensures { 0 < result }
+{
+    (near.wrapping_add(n / near) / 2).max(1)
+}
+
+// Whether a number that is found is the root.
+fn is_root(n: u64, found: u64) -> bool
+    ensures { IsTrue result → found ≡ root n }
+{
+    if found > LARGEST {
+        return false;
+    }
+    let square = found * found;
+    if square > n {
+        return false;
+    }
+    n - square <= 2 * found
 }
 
 /// A law: the root of `n` is the greatest number whose square is at most `n`, and no other number is.

@@ -5,17 +5,18 @@ ghost use Rattle.craft_view.specs.Kept.{Belongs, Kept, IsActive, altitude_kept, 
 ghost use Rattle.craft_view.specs.Own.{own_of, AreRows};
 ghost use Rattle.craft_view.specs.Sight.{sight_of};
 ghost use Rattle.craft_view.specs.Views.{picture_of, view_of};
+ghost use Rattle.flight.specs.Bounds.{IsReachable};
+ghost use Rattle.flight.specs.Flight.{ArePlaces, position};
 ghost use Rattle.flight.specs.Inside.{IsInside};
 
-use crate::others::{is_other, step_tracks};
+use crate::others::{is_other, place_of, step_tracks};
 use crate::own::{OwnAircraft, own_aircraft};
 use crate::pair::{no_view, view_by};
 use crate::tracks::Tracks;
 use acas_base::{CRAFTS, Encounter, Picture, View};
 use acas_num::TrackState;
 use alt_track::AltTrack;
-use flight::own_altitude;
-use std::array::from_fn;
+use flight::{Place, altitude_at, places_in};
 use std::marker::Model;
 
 /// An active aircraft, which looks at the others once in each cycle of an encounter. It keeps a track
@@ -70,6 +71,8 @@ impl Craft {
 
     /// The picture of the next cycle of the encounter to which the craft belongs. Each track goes on
     /// by what is measured in that cycle alone.
+    // The caller's place for a picture is cleared first where this isn't inlined.
+    #[inline(always)]
     pub fn look(&mut self, encounter: &Encounter) -> Picture
         requires belongs { Belongs encounter.now self.old }
         requires left { self.old.cycle < encounter.now.cycles }
@@ -78,14 +81,38 @@ impl Craft {
         ensures cycle { self.new.cycle ≡ self.old.cycle + 1 }
         ensures belongs { Belongs encounter.now self.new }
     {
-        self.step(encounter);
-        self.picture(encounter)
+        // No run is longer than 600 cycles.
+        let _run = encounter.cycles();
+        let places = places_in(encounter, self.cycle + 1);
+        self.look_among(encounter, &places)
     }
 
-    // Each track goes on by what is measured in the next cycle.
-    fn step(&mut self, encounter: &Encounter)
+    /// What [`Craft::look`] gives and does, where it is known already where all aircraft are in that cycle, as
+    /// `flight::places_in` tells: all that look in a cycle can share these places.
+    // The caller's place for a picture is cleared first where this isn't inlined.
+    #[inline(always)]
+    pub fn look_among(&mut self, encounter: &Encounter, places: &[Place; CRAFTS]) -> Picture
         requires belongs { Belongs encounter.now self.old }
         requires left { self.old.cycle < encounter.now.cycles }
+        requires places { ArePlaces encounter.now (self.old.cycle + 1) places.now }
+        ensures picture { result ≡ picture_of encounter.now self.old.own (self.old.cycle + 1) }
+        ensures own { self.new.own ≡ self.old.own }
+        ensures cycle { self.new.cycle ≡ self.old.cycle + 1 }
+        ensures belongs { Belongs encounter.now self.new }
+    {
+        // No encounter has more than 16 aircraft.
+        let _run = encounter.cycles();
+        self.step(encounter, places);
+        self.picture(encounter, place_of(places, self.own))
+    }
+
+    // Each track goes on by what is measured in the next cycle, from where own aircraft is then. Inlined into
+    // [`Craft::look`], it would keep the compiler from seeing that a cleared picture is written whole.
+    #[inline(never)]
+    fn step(&mut self, encounter: &Encounter, places: &[Place; CRAFTS])
+        requires belongs { Belongs encounter.now self.old }
+        requires left { self.old.cycle < encounter.now.cycles }
+        requires places { ArePlaces encounter.now (self.old.cycle + 1) places.now }
         ensures own { self.new.own ≡ self.old.own }
         ensures cycle { self.new.cycle ≡ self.old.cycle + 1 }
         ensures belongs { Belongs encounter.now self.new }
@@ -94,25 +121,45 @@ impl Craft {
         let _run = encounter.cycles();
         let own = self.own;
         let cycle = self.cycle + 1;
-        let altitude = own_altitude(encounter, own, cycle);
+        let altitude = altitude_at(place_of(places, own));
         self.altitude
             .step(Some(altitude), encounter.altitude_gains());
-        step_tracks(&mut self.tracks, encounter, own, cycle);
+        step_tracks(&mut self.tracks, encounter, places, own, cycle);
         self.cycle = cycle;
     }
 
     // The picture of the present cycle.
-    fn picture(&self, encounter: &Encounter) -> Picture
+    #[inline(always)]
+    #[tactic(auto, unfolding(crate::specs::Views::picture_of))]
+    fn picture(&self, encounter: &Encounter, here: &Place) -> Picture
         requires belongs { Belongs encounter.now self.now }
         requires begun { 1 ≤ self.now.cycle }
+        requires here { here.now ≡ position encounter.now self.now.own self.now.cycle }
+        requires reachable { IsReachable here.now }
         ensures { result ≡ picture_of encounter.now self.now.own self.now.cycle }
     {
-        let own = own_aircraft(encounter, self.own, self.cycle);
-        let views = from_fn(|target| { self.view_of(encounter, &own, target as u8) });
+        let own = own_aircraft(encounter, here, self.own, self.cycle);
         Picture {
             own: self.own,
             cycle: self.cycle,
-            views,
+            views: [
+                self.view_of(encounter, &own, 0),
+                self.view_of(encounter, &own, 1),
+                self.view_of(encounter, &own, 2),
+                self.view_of(encounter, &own, 3),
+                self.view_of(encounter, &own, 4),
+                self.view_of(encounter, &own, 5),
+                self.view_of(encounter, &own, 6),
+                self.view_of(encounter, &own, 7),
+                self.view_of(encounter, &own, 8),
+                self.view_of(encounter, &own, 9),
+                self.view_of(encounter, &own, 10),
+                self.view_of(encounter, &own, 11),
+                self.view_of(encounter, &own, 12),
+                self.view_of(encounter, &own, 13),
+                self.view_of(encounter, &own, 14),
+                self.view_of(encounter, &own, 15),
+            ],
         }
     }
 

@@ -5,11 +5,13 @@ ghost use Rattle.acas_base.specs.Ranges.{IsWithin};
 ghost use Rattle.craft_view.specs.Kept.{IsActive};
 ghost use Rattle.craft_view.specs.Own.{own_at, own_of, resolution_row, may_climb, AreRows};
 ghost use Rattle.craft_view.specs.Sight.{sight_of};
+ghost use Rattle.flight.specs.Bounds.{IsReachable};
+ghost use Rattle.flight.specs.Flight.{position};
 ghost use Rattle.flight.specs.Inside.{IsInside};
 ghost use Rattle.sens_table.specs.Levels.{IsLevel, IsTableRow};
 
 use acas_base::{CraftSpec, Encounter, Kind, Level, Row};
-use flight::own_altitude;
+use flight::{Place, altitude_at};
 use sens_table::level_of;
 
 // The thresholds of advisories at own altitude, none of a resolution advisory where own aircraft
@@ -43,8 +45,10 @@ fn advises(kind: Kind) -> bool
     }
 }
 
-// What own aircraft brings into its views in a cycle.
-pub(crate) fn own_aircraft(encounter: &Encounter, own: u8, cycle: u16) -> OwnAircraft
+// What own aircraft brings into its views in a cycle, from `here`, where it is then.
+pub(crate) fn own_aircraft(encounter: &Encounter, here: &Place, own: u8, cycle: u16) -> OwnAircraft
+    requires here { here.now ≡ position encounter.now own cycle }
+    requires reachable { IsReachable here.now }
     requires inside { IsInside encounter.now }
     requires own { own < length encounter.now.crafts }
     requires begun { 1 ≤ cycle }
@@ -53,7 +57,7 @@ pub(crate) fn own_aircraft(encounter: &Encounter, own: u8, cycle: u16) -> OwnAir
     ensures rows { AreRows result }
 {
     let spec = &encounter.crafts()[usize::from(own)];
-    let altitude = own_altitude(encounter, own, cycle);
+    let altitude = altitude_at(here);
     own_at(spec, altitude, encounter.ground())
 }
 

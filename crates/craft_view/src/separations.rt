@@ -71,6 +71,7 @@ pub(crate) fn approach_of(motion: &Motion, row: &Row) -> Approach
 }
 
 // The separations of all strengths.
+#[inline(always)]
 #[tactic(auto, unfolding(crate::specs::Separations::separations))]
 pub(crate) fn separations(motion: &Motion, approach: &Approach, response: Response) -> Seps
     requires motion { IsMotion motion.now }
@@ -85,6 +86,7 @@ pub(crate) fn separations(motion: &Motion, approach: &Approach, response: Respon
 }
 
 // The separations of all strengths in a sense, weakest first.
+#[inline(always)]
 fn in_sense(motion: &Motion, approach: &Approach, response: Response, sense: Sense) -> [i64; 6]
     requires motion { IsMotion motion.now }
     requires approach { IsApproach motion.now approach.now }
@@ -115,6 +117,7 @@ fn in_sense(motion: &Motion, approach: &Approach, response: Response, sense: Sen
 
 // How far a sense and a strength separate the two.
 #[tactic(auto, unfolding(crate::specs::Separations::separation))]
+#[inline(always)]
 fn separation(
     motion: &Motion,
     approach: &Approach,
@@ -133,6 +136,7 @@ fn separation(
 
 // How far a sense has two altitudes apart.
 #[tactic(auto, unfolding(crate::specs::Separations::apart))]
+#[inline(always)]
 fn apart(sense: Sense, own: i64, target: i64) -> i64
     requires own { unsigned_abs own ≤ 2 ^ 41 }
     requires target { unsigned_abs target ≤ 2 ^ 41 }
@@ -145,6 +149,7 @@ fn apart(sense: Sense, own: i64, target: i64) -> i64
 }
 
 #[tactic(auto, unfolding(crate::specs::Separations::own_after))]
+#[inline(always)]
 fn own_after(
     motion: &Motion,
     approach: &Approach,
@@ -213,6 +218,7 @@ fn sum(a: i64, b: i64) -> i64
 }
 
 #[tactic(auto, unfolding(crate::specs::Separations::asked_rate))]
+#[inline(always)]
 fn asked_rate(sense: Sense, strength: Strength, rate: i64) -> i64
     requires { unsigned_abs rate ≤ 2 ^ 18 }
     ensures value { result ≡ asked_rate sense strength rate }

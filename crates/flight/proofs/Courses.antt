@@ -1,8 +1,8 @@
 -- The legs of one aircraft among those of all.
-use Rattle.std.proofs.Common.{◌≡◌, ℕ, zero, suc, ◌+◌, ◌-◌, ◌<◌, ◌≤◌, Bool, true, false, List, [], ◌∷◌, pos, length, get_or, take, drop, refl, ap, arith, inl, inr}
+use Rattle.std.proofs.Common.{◌≡◌, ℕ, zero, suc, ◌+◌, ◌-◌, ◌<◌, ◌≤◌, Bool, true, false, List, [], ◌∷◌, pos, length, get_or, take, drop, refl, sym, ap, arith}
+use Rattle.std.proofs.lemmas.List.{get_or-drop, length-drop}
 use Rattle.std.specs.Prelude.{All, filter, ◌==◌, nat_lt}
 use Rattle.std.specs.List.Sorted.{IsNonDecreasingBy, IsPartitionPoint}
-use Rattle.std.proofs.lemmas.Bool.{cases_lt}
 use Rattle.std.proofs.lemmas.Bool.Decides.{nat_tests}
 use Rattle.std.proofs.lemmas.List.Elements.{All-filter, filter_passes}
 use Rattle.std.proofs.lemmas.List.Kept.{AllPairs-filter}
@@ -15,7 +15,7 @@ use Rattle.acas_base.specs.Ranges.{IsCycle}
 use Rattle.acas_base.specs.declared.craft.Leg.{Leg}
 use Rattle.flight.specs.Bounds.{IsCourse}
 
-below-first : (a b c d e f : ℕ) → is_below (a, b, c) (d, e, f) ≡ true → a ≤ d
+pub below-first : (a b c d e f : ℕ) → is_below (a, b, c) (d, e, f) ≡ true → a ≤ d
 below-first a b c d e f below = grind (arith, nat_tests)
 
 below-last : (a c d f : ℕ) → is_below (a, 0, c) (d, 0, f) ≡ true → a ≡ d → c < f
@@ -30,7 +30,7 @@ crafts-rise legs rising =
     (λ k d h. let a = get_or legs k d in let b = get_or legs (k + 1) d in below-first a.craft 0 a.from b.craft 0 b.from (rising k d h))
 
 -- What a filter keeps, where only the elements of one part of a list pass.
-filter-middle : {X : Type 0} (test : X → Bool) (xs : List X) (a n : ℕ) → a + n ≤ length xs
+pub filter-middle : {X : Type 0} (test : X → Bool) (xs : List X) (a n : ℕ) → a + n ≤ length xs
     → ((k : ℕ) (d : X) → k < a → test (get_or xs k d) ≡ false)
     → ((k : ℕ) (d : X) → a ≤ k → k < a + n → test (get_or xs k d) ≡ true)
     → ((k : ℕ) (d : X) → a + n ≤ k → k < length xs → test (get_or xs k d) ≡ false)
@@ -61,36 +61,34 @@ filter-middle test (x ∷ xs) zero zero within front middle back =
 abbrev pub PartedAt : List Leg → ℕ → ℕ → Type 0
 PartedAt legs craft n = IsPartitionPoint (λ (leg : Leg). nat_lt leg.craft craft ≡ true) (λ (leg : Leg). nat_lt leg.craft craft ≡ false) legs n
 
-before : (a b : ℕ) → nat_lt a b ≡ true → (a == b) ≡ false
+pub before : (a b : ℕ) → nat_lt a b ≡ true → (a == b) ≡ false
 before a b h = grind (arith, nat_tests)
 
-within_one : (a b : ℕ) → nat_lt a b ≡ false → nat_lt a (b + 1) ≡ true → (a == b) ≡ true
-within_one a b h g = grind (arith, nat_tests)
-
-behind : (a b : ℕ) → nat_lt a (b + 1) ≡ false → (a == b) ≡ false
-behind a b h = grind (arith, nat_tests)
-
-grows : (a b : ℕ) → nat_lt a b ≡ true → nat_lt a (b + 1) ≡ false → ⊥
-grows a b h g = grind (arith, nat_tests)
+after : (a b c : ℕ) → nat_lt b c ≡ false → b ≤ a → (b == c) ≡ false → (a == c) ≡ false
+after a b c h g f = grind (arith, nat_tests)
 
 -- A leg where one is asked for that no fact speaks of.
 abbrev pub any_leg : Leg
 any_leg = record { craft = 0; from = 0; vx = pos 0; vy = pos 0; vz = pos 0 }
 
-pub parts-ordered : (legs : List Leg) (craft a b : ℕ) → PartedAt legs craft a → PartedAt legs (craft + 1) b → a ≤ length legs → a ≤ b
-parts-ordered legs craft a b one two within = elim (cases_lt b a) [
-  | inl h ↦ let leg = get_or legs b any_leg in absurd (grows leg.craft craft (one.0 b any_leg (omega arith) h) (two.1 b any_leg (omega arith) (omega arith)))
-  | inr h ↦ h
-]
-
-pub legs-between : (legs : List Leg) (craft a b : ℕ) → PartedAt legs craft a → PartedAt legs (craft + 1) b → a ≤ b → b ≤ length legs
-    → take (b - a) (drop a legs) ≡ filter (λ (leg : Leg). leg.craft == craft) legs
-legs-between legs craft a b one two order within =
-    let sums : a + (b - a) ≡ b = omega arith in
-    rw (filter-middle (λ (leg : Leg). leg.craft == craft) legs a (b - a) (omega arith)
-    (λ k d h. before (get_or legs k d).craft craft (one.0 k d (omega arith) h))
-    (λ k d h g. within_one (get_or legs k d).craft craft (one.1 k d h (omega arith)) (two.0 k d (omega arith) (omega arith)))
-    (λ k d h g. behind (get_or legs k d).craft craft (two.1 k d (omega arith) g))) refl
+-- The legs of an aircraft stand behind those of aircraft before it, and in front of the first one of another aircraft.
+pub legs-there : (legs : List Leg) (craft a n : ℕ) → IsRising leg_below legs → PartedAt legs craft a → a ≤ length legs → n ≤ length (drop a legs)
+    → ((k : ℕ) (d : Leg) → k < n → ((get_or (drop a legs) k d).craft == craft) ≡ true)
+    → ((d : Leg) → n < length (drop a legs) → ((get_or (drop a legs) n d).craft == craft) ≡ false)
+    → take n (drop a legs) ≡ filter (λ (leg : Leg). leg.craft == craft) legs
+legs-there legs craft a n rising parted within fits front next =
+    let long : length (drop a legs) ≡ length legs - a = length-drop a legs in
+    sym (filter-middle (λ (leg : Leg). leg.craft == craft) legs a n (omega (arith, long))
+    (λ k d h. before (get_or legs k d).craft craft (parted.0 k d (omega arith) h))
+    (λ k d h g.
+    let at : a + (k - a) ≡ k = omega arith in
+    let one : ((get_or (drop a legs) (k - a) d).craft == craft) ≡ true = front (k - a) d (omega arith) in
+    rw (get_or-drop a legs (k - a) d, at) at one)
+    (λ k d h g.
+    let one : ((get_or (drop a legs) n d).craft == craft) ≡ false = next d (omega (arith, long)) in
+    let other : ((get_or legs (a + n) d).craft == craft) ≡ false = rw (get_or-drop a legs n d) at one in
+    let low = parted.1 (a + n) d (omega arith) (omega arith) in
+    after (get_or legs k d).craft (get_or legs (a + n) d).craft craft low (crafts-rise legs rising (a + n) k d h g) other))
 
 -- The legs of one aircraft are a course.
 pub course-of : (legs : List Leg) (count craft : ℕ) → IsRising leg_below legs → All (IsLeg count) legs → IsCourse (filter (λ (leg : Leg). leg.craft == craft) legs)

@@ -20,7 +20,7 @@ raise : (a b c d e f g : ℕ) → is_below (a, b, c) (d, e, f) ≡ true → f �
 raise a b c d e f g below order = grind (arith, nat_tests)
 
 -- Each miss is over before all those after it.
-misses-apart : (misses : List Miss) → IsRising miss_below misses → AreOrdered misses
+pub misses-apart : (misses : List Miss) → IsRising miss_below misses → AreOrdered misses
     → (i j : ℕ) (d : Miss) → i < j → j < length misses → miss_below (get_or misses i d) (get_or misses j d) ≡ true
 misses-apart misses rising ordered i zero d order within = absurd (omega arith)
 misses-apart misses rising ordered i (suc m) d order within =

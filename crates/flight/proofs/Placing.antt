@@ -1,12 +1,12 @@
 -- Where the aircraft of an encounter are, and what they measure.
 use Rattle.std.proofs.Common.{◌≡◌, ℕ, ◌<◌, ◌≤◌, true, false, List, length, get_or, None, refl, sym, ◌∙◌, ap, subst}
 use Rattle.std.specs.Prelude.{◌↔◌}
-use Rattle.std.proofs.lemmas.Option.{slice_get_read}
+use Rattle.std.proofs.lemmas.Option.{slice_get_past, slice_get_read}
 use Rattle.acas_base.specs.Encounter.{Parts}
 use Rattle.acas_base.specs.declared.craft.CraftSpec.{CraftSpec}
 use Rattle.acas_base.specs.declared.craft.Leg.{Leg}
 use Rattle.flight.proofs.Staying.{StaysTo}
-use Rattle.flight.specs.Flight.{legs_of, place_in, position, start_of}
+use Rattle.flight.specs.Flight.{legs_of, nowhere, place_in, position, start_of}
 use Rattle.flight.specs.Inside.{IsInBox}
 use Rattle.flight.specs.Measurement.{is_missed, measured, measurement}
 use Rattle.flight.specs.declared.places.Place.{Place}
@@ -15,6 +15,10 @@ pub position-of : (e : Parts) (craft cycle : ℕ) (spec : CraftSpec) → craft <
     → place_in (start_of spec) (legs_of e craft) cycle ≡ position e craft cycle
 unfolding position
 position-of e craft cycle spec within is = rw (slice_get_read e.crafts (length e.crafts) craft spec refl within is) refl
+
+pub position-past : (e : Parts) (craft cycle : ℕ) → length e.crafts ≤ craft → nowhere ≡ position e craft cycle
+unfolding position
+position-past e craft cycle past = rw (slice_get_past e.crafts craft past) refl
 
 pub measurement-missed : (e : Parts) (own target cycle : ℕ) → is_missed e own target cycle ≡ true → None ≡ measurement e own target cycle
 unfolding measurement

@@ -1,10 +1,12 @@
 -- Where an aircraft is, second by second. x and y are in ft and z in 1/60 ft, so that a rate in ft/min is what z changes by in
 -- a second.
-use Rattle.std.specs.Prelude.{ℕ, zero, suc, ◌-◌, ◌==◌, nat_lt, nat_le, if◌then◌else◌, ℤ, pos, ◌+ℤ◌, ◌*ℤ◌, List, Option, Some, None, filter, fold, slice_get}
+use Rattle.std.specs.Prelude.{◌≡◌, ℕ, zero, suc, ◌-◌, ◌<◌, ◌==◌, nat_lt, nat_le, if◌then◌else◌, ℤ, pos, ◌+ℤ◌, ◌*ℤ◌, List, Option, Some, None, filter, fold, slice_get, slice_index_or}
 use Rattle.std.specs.Option.{option_map_or}
 use Rattle.acas_base.specs.Encounter.{Parts}
+use Rattle.acas_base.specs.declared.TheConstants.{CRAFTS}
 use Rattle.acas_base.specs.declared.craft.CraftSpec.{CraftSpec}
 use Rattle.acas_base.specs.declared.craft.Leg.{Leg}
+use Rattle.flight.specs.Bounds.{IsReachable}
 use Rattle.flight.specs.declared.places.Place.{Place}
 
 -- The legs of an aircraft.
@@ -49,3 +51,8 @@ nowhere = record { x = pos 0; y = pos 0; z = pos 0 }
 -- Where an aircraft is in a cycle.
 unfoldable pub position : Parts → ℕ → ℕ → Place
 position e craft cycle = option_map_or (λ spec. place_in (start_of spec) (legs_of e craft) cycle) (slice_get e.crafts craft) nowhere
+
+-- These are the places of all aircraft in a cycle, by index, and `nowhere` past the last one. None is too far to be measured.
+pub record ArePlaces (e : Parts) (cycle : ℕ) (places : List Place) : Type 0 where
+  pub at : (craft : ℕ) (d : Place) → craft < CRAFTS → slice_index_or places craft d ≡ position e craft cycle
+  pub reachable : (craft : ℕ) → craft < CRAFTS → IsReachable (position e craft cycle)

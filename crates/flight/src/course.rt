@@ -1,5 +1,5 @@
 // The legs of one aircraft.
-ghost use Rattle.std.specs.Prelude.{◌≡◌, ℕ, ◌+◌, ◌-◌, ◌^◌, ◌<◌, ◌≤◌, ◌==◌, nat_lt, true, false, filter, length};
+ghost use Rattle.std.specs.Prelude.{◌≡◌, ℕ, ◌+◌, ◌-◌, ◌^◌, ◌<◌, ◌≤◌, ◌==◌, nat_lt, true, false, filter, length, slice_index_or};
 ghost use Rattle.std.specs.List.Sorted.{IsPartitionPoint};
 ghost use Rattle.acas_base.specs.Order.{IsRising, leg_below};
 ghost use Rattle.acas_base.specs.Ranges.{IsCycle};
@@ -14,10 +14,8 @@ pub(crate) fn legs_of(legs: &[Leg], craft: usize) -> &[Leg]
     requires craft { craft < 2 ^ 16 }
     ensures { result.now ≡ filter (λ (leg : Leg). leg.craft == craft) legs.now }
 {
-    let first = count_before(legs, craft);
-    let end = count_before(legs, craft + 1);
-    let rest = &legs[first..];
-    &rest[..end - first]
+    let rest = &legs[count_before(legs, craft)..];
+    &rest[..count_of(rest, craft)]
 }
 
 // How many legs are of aircraft before one.
@@ -27,6 +25,20 @@ fn count_before(legs: &[Leg], craft: usize) -> usize
     ensures parted { IsPartitionPoint (λ (leg : Leg). nat_lt leg.craft craft ≡ true) (λ (leg : Leg). nat_lt leg.craft craft ≡ false) legs.now result }
 {
     legs.partition_point(|leg| usize::from(leg.craft) < craft)
+}
+
+// How many legs in front are of an aircraft.
+fn count_of(legs: &[Leg], craft: usize) -> usize
+    ensures bound { result ≤ length legs.now }
+    ensures front { (k : ℕ) (d : Leg) → k < result → ((slice_index_or legs.now k d).craft == craft) ≡ true }
+    ensures next { (d : Leg) → result < length legs.now → ((slice_index_or legs.now result d).craft == craft) ≡ false }
+{
+    for index in 0..legs.len() {
+        if usize::from(legs[index].craft) != craft {
+            return index;
+        }
+    }
+    legs.len()
 }
 
 // When the leg at an index begins, but no later than `cycle`, and `cycle` where there is no leg.

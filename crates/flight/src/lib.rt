@@ -8,9 +8,12 @@ mod measuring;
 mod misses;
 mod places;
 
-pub use flying::position;
+pub use flying::{places_in, position};
 pub use inside_box::inside;
-pub use measuring::{Meas, measure, measure_from, own_altitude, slant_range_law};
+pub use measuring::{
+    Meas, altitude_at, measure, measure_between, measure_from, own_altitude, slant_range_law,
+};
+pub use misses::misses_of;
 pub use places::Place;
 
 #[cfg(test)]

@@ -5,12 +5,12 @@ ghost use Rattle.acas_num.specs.Clamp.{LiesBetween};
 ghost use Rattle.flight.specs.Bounds.{IsReachable};
 ghost use Rattle.flight.specs.Flight.{position};
 ghost use Rattle.flight.specs.Inside.{IsInside, IsInBox};
-ghost use Rattle.flight.specs.Measurement.{IsSlantRange, distance, feet, longest, measured, measurement, own_altitude, reported, slant_range, square};
+ghost use Rattle.flight.specs.Measurement.{IsSlantRange, distance, feet, longest, measured, measurement, misses_of, own_altitude, reported, slant_range, square};
 ghost use Rattle.flight.specs.declared.places.Place.{Place};
 
-use crate::misses::is_missed;
+use crate::misses::{is_missed, misses_of};
 use crate::{Place, position};
-use acas_base::Encounter;
+use acas_base::{Encounter, Miss};
 use acas_num::{floor_div, root};
 
 /// What one aircraft measures of another one (this project's profile).
@@ -61,11 +61,40 @@ pub fn measure_from(
     ensures range { IfSome result (λ m. m.range ≤ 182280) }
     ensures altitude { IsInside encounter.now → cycle ≤ encounter.now.cycles → IfSome result (λ m. LiesBetween (neg_ℤ (pos 2000)) (pos 62000) m.alt) }
 {
-    if is_missed(encounter.misses(), own, target, cycle) {
+    let there = position(encounter, target, cycle);
+    let misses = misses_of(encounter, own);
+    measure_between(here, &there, misses, encounter, own, target, cycle)
+}
+
+/// What [`measure`] gives, where it is known already where both aircraft are: own aircraft `here`, and the
+/// target `there`. The misses are those that [`misses_of`] gives.
+pub fn measure_between(
+    here: &Place,
+    there: &Place,
+    misses: &[Miss],
+    encounter: &Encounter,
+    own: u8,
+    target: u8,
+    cycle: u16,
+) -> Option<Meas>
+    requires own { own < length encounter.now.crafts }
+    requires target { target < length encounter.now.crafts }
+    requires cycle { IsCycle cycle }
+    requires here { here.now ≡ position encounter.now own cycle }
+    requires here_reachable { IsReachable here.now }
+    requires there { there.now ≡ position encounter.now target cycle }
+    requires there_reachable { IsReachable there.now }
+    requires misses { misses.now ≡ misses_of encounter.now own }
+    ensures value { result ≡ measurement encounter.now own target cycle }
+    ensures range { IfSome result (λ m. m.range ≤ 182280) }
+    ensures altitude { IsInside encounter.now → cycle ≤ encounter.now.cycles → IfSome result (λ m. LiesBetween (neg_ℤ (pos 2000)) (pos 62000) m.alt) }
+{
+    // The misses of an encounter stand in their order.
+    let _run = encounter.cycles();
+    if is_missed(misses, own, target, cycle) {
         return None;
     }
-    let there = position(encounter, target, cycle);
-    measured(here, &there)
+    measured(here, there)
 }
 
 /// The altitude that an aircraft measures of itself in a cycle, in ft, rounded down (this project's
@@ -77,7 +106,17 @@ pub fn own_altitude(encounter: &Encounter, craft: u8, cycle: u16) -> i32
     ensures value { result ≡ own_altitude encounter.now craft cycle }
     ensures altitude { IsInside encounter.now → cycle ≤ encounter.now.cycles → LiesBetween (neg_ℤ (pos 1000)) (pos 60000) result }
 {
-    feet(position(encounter, craft, cycle).z)
+    altitude_at(&position(encounter, craft, cycle))
+}
+
+/// The altitude that an aircraft at a place measures of itself, in ft, rounded down: what [`own_altitude`]
+/// gives, where it is known already where the aircraft is.
+pub fn altitude_at(place: &Place) -> i32
+    requires { IsReachable place.now }
+    ensures value { result ≡ feet place.now.z }
+    ensures altitude { IsInBox place.now → LiesBetween (neg_ℤ (pos 1000)) (pos 60000) result }
+{
+    feet(place.z)
 }
 
 /// A law: `slant_range p q` is the greatest whole number of feet that is no more than the distance

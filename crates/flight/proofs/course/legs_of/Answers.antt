@@ -1,17 +1,12 @@
 use Rattle.std.proofs.lemmas.List.{take_rest}
-use Rattle.flight.proofs.Courses.{legs-between, parts-ordered}
+use Rattle.flight.proofs.Courses.{legs-there}
 use Rattle.flight.proofs.course.legs_of.Goals as goal
-
-pub slice_bounds-result-count : goal.slice_bounds-result-count
-slice_bounds-result-count c =
-    parts-ordered c.args.legs.now c.args.craft c.count_before-first.result c.count_before-end.result
-    c.count_before-first.ensures.parted c.count_before-end.ensures.parted c.count_before-first.ensures.bound
 
 pub returns : goal.returns
 returns c =
-    let order =
-    parts-ordered c.args.legs.now c.args.craft c.count_before-first.result c.count_before-end.result
-    c.count_before-first.ensures.parted c.count_before-end.ensures.parted c.count_before-first.ensures.bound in
-    rw (take_rest c.args.legs.now c.count_before-first.result)
-    (legs-between c.args.legs.now c.args.craft c.count_before-first.result c.count_before-end.result
-    c.count_before-first.ensures.parted c.count_before-end.ensures.parted order c.count_before-end.ensures.bound)
+    let legs = c.args.legs.now in
+    let first = c.count_before.result in
+    let rest = take_rest legs first in
+    rw rest
+    (legs-there legs c.args.craft first c.count_of.result c.requires.rising c.count_before.ensures.parted c.count_before.ensures.bound
+    (rw rest at c.count_of.ensures.bound) (rw rest at c.count_of.ensures.front) (rw rest at c.count_of.ensures.next))
