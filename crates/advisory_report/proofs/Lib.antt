@@ -1,0 +1,3 @@
+pub mod Strongest
+pub mod Adding
+pub mod Steps

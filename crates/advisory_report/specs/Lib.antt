@@ -1,0 +1,3 @@
+pub mod Composite
+pub mod Phrases
+pub mod Report

@@ -1,0 +1,14 @@
+//! What an aircraft's crew hears, and the lines of the report: the composite advisory of a cycle, the phrase from one composite
+//! to the next, and the line that tells both.
+#![tactic(auto)]
+
+mod aural;
+mod composite;
+mod report;
+
+pub use aural::{Aural, aural_of};
+pub use composite::{Composite, composite_of};
+pub use report::line;
+
+#[cfg(test)]
+mod tests;
