@@ -110,10 +110,11 @@ pub record IsMiss (count : ℕ) (miss : Miss) : Type 0 where
   pub to : IsCycle miss.to
   pub order : miss.from ≤ miss.to
 
--- The plan at a place from 0 holds back for at most 60 commits and flips at most three bits. It is zero where there are
--- no more than so many copies.
+-- The plan at a place from 0 holds back for at most 60 commits and flips at most three of eight bits. It is zero where
+-- there are no more than so many copies.
 pub record IsCopy (place copies : ℕ) (plan : CopyPlan) : Type 0 where
   pub hold : plan.hold ≤ 60
+  pub byte : plan.mask < 256
   pub mask : count_ones plan.mask ≤ 3
   pub unused : copies ≤ place → plan ≡ no_copy
 

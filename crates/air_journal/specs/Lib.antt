@@ -1,0 +1,3 @@
+pub mod Airs
+pub use Rattle.acas_base.specs.Encounter
+pub use Rattle.air_rules.specs.Air

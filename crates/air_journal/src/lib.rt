@@ -1,0 +1,6 @@
+//! The air of an encounter, as the rules of the journal see it.
+#![tactic(auto)]
+
+mod laws;
+
+pub use laws::sound_law;
