@@ -1,2 +1,6 @@
-pub mod Commits
 pub mod Outcomes
+pub mod WithoutAdvisories
+pub mod Rounds
+pub mod TrafficAir
+pub mod Looking
+pub mod Reporting

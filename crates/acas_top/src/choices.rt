@@ -12,7 +12,7 @@ use std::alloc::Global;
 use std::test::Fail;
 use strength_pick::least;
 
-fn aircraft(address: u32, x: i32, alt: i32) -> Result<CraftSpec, Fail> {
+pub(crate) fn aircraft(address: u32, x: i32, alt: i32) -> Result<CraftSpec, Fail> {
     Ok(CraftSpec {
         address: Address::new(address).ok_or("no address")?,
         kind: Kind::Ra,
@@ -34,7 +34,12 @@ fn leg(craft: u8, vx: i32) -> Leg {
 }
 
 // Two aircraft that fly towards each other.
-fn meeting(alloc: Global, low: CraftSpec, high: CraftSpec, speed: i32) -> Result<Encounter, Fail>
+pub(crate) fn meeting(
+    alloc: Global,
+    low: CraftSpec,
+    high: CraftSpec,
+    speed: i32,
+) -> Result<Encounter, Fail>
     requires speed { IsWithin 2000 speed }
 {
     let made = Encounter::make(

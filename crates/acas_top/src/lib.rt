@@ -3,7 +3,12 @@
 #![tactic(auto)]
 
 mod commands;
+mod entries;
+mod numbers;
 mod recording;
+mod refusal;
+mod report;
+mod serial;
 mod status;
 
 pub use commands::acas;
@@ -13,3 +18,5 @@ pub use status::Status;
 mod choices;
 #[cfg(test)]
 mod tests;
+#[cfg(test)]
+mod traffic;

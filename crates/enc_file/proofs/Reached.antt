@@ -96,7 +96,7 @@ next-takes cfg s f p (c ∷ rest) q e =
     (next-takes cfg (step cfg s c).0 (fields_after (step cfg s c).1 f p) (field_after (step cfg s c).1 c p) rest q) e
 
 -- There are no more records than bytes.
-reached-short : (cfg : Config) (s s2 : State) (xs ys : List ℕ) (rows : List (List (List ℕ))) → Reached cfg s xs rows s2 ys → length rows + length ys ≤ length xs + spare s
+pub reached-short : (cfg : Config) (s s2 : State) (xs ys : List ℕ) (rows : List (List (List ℕ))) → Reached cfg s xs rows s2 ys → length rows + length ys ≤ length xs + spare s
 unfolding Reached
 reached-short cfg s s2 xs ys [] h = rw (h.1) (omega arith)
 reached-short cfg s s2 xs ys (r ∷ rs) h =

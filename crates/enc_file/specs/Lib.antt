@@ -3,6 +3,12 @@ pub mod Batches
 pub mod Records
 pub mod Spelling
 pub mod Canonical
-pub mod Form
-pub mod FormParts
-pub mod Refused
+pub mod Codes
+pub mod Values
+pub mod Saying
+pub mod Earlier
+pub mod Faults
+pub mod Reading
+pub mod WellRead
+pub mod Groups
+pub mod Tables

@@ -2,16 +2,22 @@
 ghost use Rattle.std.specs.Prelude.{◌≡◌, ◌+◌, ◌≤◌, ◌++◌, [], length};
 ghost use Rattle.acas_io.specs.Stream.{Puts};
 ghost use Rattle.enc_file.specs.Batches.{Adds};
+ghost use Rattle.enc_file.specs.Lines.{joined};
 
+use crate::Lines;
 use acas_io::{Failed, Sink, write_all};
 use std::marker::Model;
 
 // How much is gathered at most before it is written.
 const BATCH_BYTES: usize = 8192;
 
-/// The bytes that wait to be written.
+/// The bytes of a text that wait to be written, at most 8,192. So a text of n bytes takes about n/8192 writes of a sink
+/// that takes whole pieces. It takes no memory.
+///
+/// In each call `Failed` comes only where the sink's count of faults rose; what was written then is a front of what waited
+/// and what was added.
 #[derive(Drop)]
-pub(crate) struct Batch {
+pub struct Batch {
     bytes: [u8; BATCH_BYTES],
     len: usize,
 }
@@ -28,7 +34,7 @@ impl Model for Batch {
 
 impl Batch {
     /// Nothing waits.
-    pub(crate) fn new() -> Batch
+    pub fn new() -> Batch
         ensures { result ≡ [] }
     {
         Batch {
@@ -65,7 +71,7 @@ impl Batch {
     }
 
     /// Writes all that waits. Nothing waits afterwards, whatever the answer is.
-    pub(crate) fn flush<K: Sink>(&mut self, sink: &mut K) -> Result<(), Failed>
+    pub fn flush<K: Sink>(&mut self, sink: &mut K) -> Result<(), Failed>
         ensures puts { Puts (K.written sink.old) (K.written sink.new) (K.faults sink.old) (K.faults sink.new) self.old result }
         ensures empty { self.new ≡ [] }
     {
@@ -75,7 +81,7 @@ impl Batch {
     }
 
     /// Adds a piece. Where it finds no room, what waits is written first.
-    pub(crate) fn put<K: Sink>(&mut self, sink: &mut K, piece: &[u8]) -> Result<(), Failed>
+    pub fn put<K: Sink>(&mut self, sink: &mut K, piece: &[u8]) -> Result<(), Failed>
         requires { length piece.now ≤ 8192 }
         ensures { Adds (K.written sink.old) (K.written sink.new) (K.faults sink.old) (K.faults sink.new) self.old self.new piece.now result }
     {
@@ -83,6 +89,20 @@ impl Batch {
             self.flush(sink)?;
         }
         self.append(piece);
+        Ok(())
+    }
+
+    /// Adds all lines that are left.
+    pub fn put_lines<T: Lines, K: Sink>(
+        &mut self,
+        sink: &mut K,
+        lines: &mut T,
+    ) -> Result<(), Failed>
+        ensures { Adds (K.written sink.old) (K.written sink.new) (K.faults sink.old) (K.faults sink.new) self.old self.new (joined (T.left lines.old)) result }
+    {
+        while let Some(line) = lines.next() {
+            self.put(sink, line.bytes())?;
+        }
         Ok(())
     }
 }

@@ -4,20 +4,28 @@
 
 mod batch;
 mod canonical;
-mod fields;
-mod form;
+mod conditions;
+mod groups;
 mod hex;
+mod laws;
 mod lines;
 mod reading;
-mod records;
+mod record;
+mod refusal;
+mod saying;
 mod spelling;
+mod tables;
+mod values;
 
+pub use batch::Batch;
 pub use canonical::{CanonicalLines, write};
-pub use fields::Fields;
 pub use hex::parse_hex;
+pub use laws::{canonical_records_law, canonical_text_law};
 pub use lines::{Lines, One, Then, write_lines};
-pub use reading::{Code, ReadError, Refusal, read};
-pub use records::first_records;
+pub use reading::read;
+pub use refusal::{Code, ReadError, Refusal};
 
+#[cfg(test)]
+mod faults;
 #[cfg(test)]
 mod tests;

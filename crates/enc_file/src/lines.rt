@@ -3,7 +3,7 @@ ghost use Rattle.std.specs.Prelude.{◌≡◌, ◌∷◌, ◌++◌, [], List, �
 ghost use Rattle.acas_io.specs.Stream.{Puts};
 ghost use Rattle.enc_file.specs.Lines.{joined};
 
-use crate::batch::Batch;
+use crate::Batch;
 use acas_io::{Failed, Sink};
 use acas_text::Line;
 
@@ -73,16 +73,13 @@ impl Lines for One {
     }
 }
 
-/// Writes all lines that are left, gathered into pieces of at most 8,192 bytes, so that a text of n bytes takes about
-/// n/8192 writes of a sink that takes whole pieces. It takes no memory.
+/// Writes all lines that are left, gathered in a [`Batch`]. It takes no memory.
 ///
 /// `Failed` comes only where the sink's count of faults rose; what was written then is a front of the text.
 pub fn write_lines<T: Lines, K: Sink>(lines: &mut T, sink: &mut K) -> Result<(), Failed>
     ensures { Puts (K.written sink.old) (K.written sink.new) (K.faults sink.old) (K.faults sink.new) (joined (T.left lines.old)) result }
 {
     let mut batch = Batch::new();
-    while let Some(line) = lines.next() {
-        batch.put(sink, line.bytes())?;
-    }
+    batch.put_lines(sink, lines)?;
     batch.flush(sink)
 }

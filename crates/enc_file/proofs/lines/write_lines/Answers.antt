@@ -1,32 +1,19 @@
-use Rattle.std.proofs.Common.{◌∙◌, ◌++◌, [], ap, refl}
+use Rattle.std.proofs.Common.{◌≡◌, ◌∙◌, ◌++◌, [], ap, refl, sym}
+use Rattle.std.proofs.lemmas.List.{append-nil}
 use Rattle.std.proofs.lemmas.Result.{err_from_is_err_and}
-use Rattle.acas_io.proofs.Pieces.{Grew-nil}
 use Rattle.enc_file.specs.Lines.{joined}
-use Rattle.enc_file.proofs.Adding.{along-more, along-stopped, along-end}
+use Rattle.enc_file.proofs.Adding.{along-end, along-more, along-start, along-stopped}
 use Rattle.enc_file.proofs.lines.write_lines.Goals as goal
 
-pub loop-line-init : goal.loop-line-init
-loop-line-init g c = record {
-  along = record { sent = []; grew = Grew-nil _; all = ap (λ t. t ++ joined (g.T.Lines.left c.args.lines.now)) c.new-batch.ensures };
-  count = refl;
-}
-
-pub loop-line-preserved : goal.loop-line-preserved
-loop-line-preserved g c =
-    let put = rw c.bytes.ensures.bytes at c.in_ok-put.ensures in
-    record {
-      along = along-more c.in-Some.line (joined (g.T.Lines.left c.next.new.self)) c.loop-line.invariant.along (ap joined c.in-Some.ensures) put.0;
-      count = put.1 ∙ c.loop-line.invariant.count;
-    }
-
-pub returns-in_err-put : goal.returns-in_err-put
-returns-in_err-put g c =
+pub returns-in_err-put_lines : goal.returns-in_err-put_lines
+returns-in_err-put_lines g c =
+    let text = joined (g.T.Lines.left c.args.lines.now) in
     let p = err_from_is_err_and c.from_residual.result c.from_residual.ensures.1 in
-    let put = rw c.bytes.ensures.bytes at c.in_err-put.ensures in
-    rw (p.1) (
-      along-stopped _ c.in-Some.line (joined (g.T.Lines.left c.next.new.self)) c.loop-line.invariant.along (ap joined c.in-Some.ensures) put.0,
-      rw (c.loop-line.invariant.count) at put.1,
-    )
+    let put = rw c.new-batch.ensures at c.in_err-put_lines.ensures in
+    rw (p.1) put
 
 pub returns : goal.returns
-returns g c = along-end _ _ c.flush.result c.loop-line.invariant.along (ap joined c.in_default.ensures.0) c.loop-line.invariant.count c.flush.ensures.puts
+returns g c =
+    let text = joined (g.T.Lines.left c.args.lines.now) in
+    let put = rw c.new-batch.ensures at c.in_ok-put_lines.ensures in
+    along-end _ _ c.flush.result (along-more text [] (along-start (g.K.Sink.written c.args.sink.now) [] text) (sym (append-nil text)) put.0) refl put.1 c.flush.ensures.puts

@@ -1,0 +1,87 @@
+-- The legs, misses, plans and fates of an encounter are read from its canonical records.
+use Rattle.std.proofs.Common.{◌≡◌, ℕ, ◌<◌, ◌≤◌, false, List, [], ◌∷◌, ◌++◌, length, map, ap, ◌∙◌, arith}
+use Rattle.std.proofs.lemmas.Bool.Decides.{nat_tests}
+use Rattle.std.proofs.lemmas.List.Elements.{recursion_from_All}
+use Rattle.acas_base.specs.Encounter.{IsEncounter, IsFate, IsLeg, IsMiss, IsPlan, Parts, most_crafts}
+use Rattle.acas_base.specs.Ranges.{IsAddress}
+use Rattle.acas_base.specs.declared.craft.Leg.{Leg}
+use Rattle.acas_base.specs.declared.craft.Miss.{Miss}
+use Rattle.acas_base.specs.declared.link.Fate.{Fate}
+use Rattle.acas_base.specs.declared.link.LinkPlan.{LinkPlan}
+use Rattle.enc_file.specs.Saying.{record_of}
+use Rattle.enc_file.specs.Spelling.{address_of, fate_record, leg_record, miss_record, plan_record}
+use Rattle.enc_file.specs.declared.record.Addresses.{Addresses}
+use Rattle.enc_file.specs.declared.record.Record.TheVariants as said
+use Rattle.enc_file.proofs.AircraftFound.{address-within, index-found, pair-found}
+use Rattle.enc_file.proofs.CanonicalSaid.{all-crafts, all-differ, is-two, with_lists}
+use Rattle.enc_file.proofs.OwnOrder.{fates-in-order, legs-in-order, misses-in-order, plans-in-order, repeats_fate, repeats_leg, repeats_miss, repeats_plan}
+use Rattle.enc_file.proofs.Pairwise.{all-here, pairs-before}
+use Rattle.enc_file.proofs.ReadBack.{Goes, goes-map, goes-one}
+use Rattle.enc_file.proofs.RecordsFollow.{fate-follows, leg-follows, miss-follows, plan-follows}
+use Rattle.enc_file.proofs.SaidByLines.{course_of, fate-said, fate_copies, leg-said, miss-said, plan-said, plan_copies}
+
+most-crafts : (version : ℕ) → most_crafts version ≤ 16
+most-crafts version = grind (arith, nat_tests)
+
+pub few-crafts : (e : Parts) → IsEncounter e → length e.crafts ≤ 16
+few-crafts e h = omega (arith, h.crafts.few, most-crafts e.version)
+
+address-in : (e : Parts) → IsEncounter e → (i : ℕ) → i < length e.crafts → IsAddress (address_of e.crafts i)
+address-in e h i within = address-within e.crafts i (all-crafts e h) within
+
+-- The addresses of two aircraft.
+abbrev pair_of : Parts → ℕ → ℕ → Addresses
+pair_of e a b = record { first = address_of e.crafts a; second = address_of e.crafts b }
+
+pub goes-legs : (e : Parts) → IsEncounter e → Goes (map (leg_record e.crafts) e.legs) (with_lists e [] [] [] []) (with_lists e e.legs [] [] [])
+goes-legs e h = goes-map (leg_record e.crafts) e.legs (λ done _. with_lists e done [] [] []) step where
+  step : (done : List Leg) (x : Leg) (rest : List Leg) → done ++ x ∷ rest ≡ e.legs → Goes (leg_record e.crafts x ∷ []) (with_lists e done [] [] []) (with_lists e (done ++ x ∷ []) [] [] [])
+  step done x rest w =
+      let is = all-here (IsLeg (length e.crafts)) e.legs done x rest w (recursion_from_All (IsLeg (length e.crafts)) e.legs h.records.legs.0) in
+      let later = pairs-before (λ a b. repeats_leg b a ≡ false) e.legs done x rest w (legs-in-order (length e.crafts) e.legs (few-crafts e h) h.records.legs).later in
+      let found = index-found e.crafts x.craft (all-differ e h) is.craft in
+      goes-one (leg_record e.crafts x) (said.Leg (address_of e.crafts x.craft) (course_of x)) (with_lists e done [] [] []) (with_lists e (done ++ x ∷ []) [] [] [])
+      (leg-said e.version (address_of e.crafts x.craft) x (address-in e h x.craft is.craft) is.from is.rates) (leg-follows (with_lists e done [] [] []) (address_of e.crafts x.craft) x found later)
+
+pub goes-misses : (e : Parts) → IsEncounter e → Goes (map (miss_record e.crafts) e.misses) (with_lists e e.legs [] [] []) (with_lists e e.legs e.misses [] [])
+goes-misses e h = goes-map (miss_record e.crafts) e.misses (λ done _. with_lists e e.legs done [] []) step where
+  step : (done : List Miss) (x : Miss) (rest : List Miss) → done ++ x ∷ rest ≡ e.misses → Goes (miss_record e.crafts x ∷ []) (with_lists e e.legs done [] []) (with_lists e e.legs (done ++ x ∷ []) [] [])
+  step done x rest w =
+      let is = all-here (IsMiss (length e.crafts)) e.misses done x rest w (recursion_from_All (IsMiss (length e.crafts)) e.misses h.records.misses.0) in
+      let later = pairs-before (λ a b. repeats_miss b a ≡ false) e.misses done x rest w (misses-in-order (length e.crafts) e.misses (few-crafts e h) h.records.misses).later in
+      let found = pair-found e.crafts x.own x.target (all-differ e h) is.pair in
+      goes-one (miss_record e.crafts x) (said.Miss (pair_of e x.own x.target) x.from x.to) (with_lists e e.legs done [] []) (with_lists e e.legs (done ++ x ∷ []) [] [])
+      (miss-said e.version (address_of e.crafts x.own) (address_of e.crafts x.target) x.from x.to (address-in e h x.own is.pair.first) (address-in e h x.target is.pair.second) is.from is.to is.order)
+      (miss-follows (with_lists e e.legs done [] []) (pair_of e x.own x.target) x found later)
+
+-- Where there is a plan, the format is the second.
+plan-format : (e : Parts) → IsEncounter e → (done : List LinkPlan) (x : LinkPlan) (rest : List LinkPlan) → done ++ x ∷ rest ≡ e.plans → e.version ≡ 2
+plan-format e h done x rest w = is-two e.version h.run.format (λ one. none done (w ∙ (h.format one).no_plan)) where
+  none : (before : List LinkPlan) → before ++ x ∷ rest ≡ [] → ⊥
+  none [] same = cc
+  none (y ∷ ys) same = cc
+
+pub goes-plans : (e : Parts) → IsEncounter e → Goes (map (plan_record e.crafts) e.plans) (with_lists e e.legs e.misses [] []) (with_lists e e.legs e.misses e.plans [])
+goes-plans e h = goes-map (plan_record e.crafts) e.plans (λ done _. with_lists e e.legs e.misses done []) step where
+  step : (done : List LinkPlan) (x : LinkPlan) (rest : List LinkPlan) → done ++ x ∷ rest ≡ e.plans
+      → Goes (plan_record e.crafts x ∷ []) (with_lists e e.legs e.misses done []) (with_lists e e.legs e.misses (done ++ x ∷ []) [])
+  step done x rest w =
+      let is = all-here (IsPlan (length e.crafts)) e.plans done x rest w (recursion_from_All (IsPlan (length e.crafts)) e.plans h.records.plans.0) in
+      let later = pairs-before (λ a b. repeats_plan b a ≡ false) e.plans done x rest w (plans-in-order (length e.crafts) e.plans (few-crafts e h) h.records.plans).later in
+      let found = pair-found e.crafts x.sender x.receiver (all-differ e h) is.pair in
+      let says = plan-said (address_of e.crafts x.sender) (address_of e.crafts x.receiver) x (address-in e h x.sender is.pair.first) (address-in e h x.receiver is.pair.second) is.copies in
+      goes-one (plan_record e.crafts x) (said.Plan (pair_of e x.sender x.receiver) (plan_copies x)) (with_lists e e.legs e.misses done []) (with_lists e e.legs e.misses (done ++ x ∷ []) [])
+      (ap (λ version. record_of version (plan_record e.crafts x)) (plan-format e h done x rest w) ∙ says)
+      (plan-follows (with_lists e e.legs e.misses done []) (pair_of e x.sender x.receiver) x found later is.copies)
+
+pub goes-fates : (e : Parts) → IsEncounter e → Goes (map (fate_record e.crafts) e.fates) (with_lists e e.legs e.misses e.plans []) (with_lists e e.legs e.misses e.plans e.fates)
+goes-fates e h = goes-map (fate_record e.crafts) e.fates (λ done _. with_lists e e.legs e.misses e.plans done) step where
+  step : (done : List Fate) (x : Fate) (rest : List Fate) → done ++ x ∷ rest ≡ e.fates
+      → Goes (fate_record e.crafts x ∷ []) (with_lists e e.legs e.misses e.plans done) (with_lists e e.legs e.misses e.plans (done ++ x ∷ []))
+  step done x rest w =
+      let is = all-here (IsFate (length e.crafts)) e.fates done x rest w (recursion_from_All (IsFate (length e.crafts)) e.fates h.records.fates.0) in
+      let later = pairs-before (λ a b. repeats_fate b a ≡ false) e.fates done x rest w (fates-in-order (length e.crafts) e.fates (few-crafts e h) h.records.fates).later in
+      let found = pair-found e.crafts x.sender x.receiver (all-differ e h) is.pair in
+      goes-one (fate_record e.crafts x) (said.Fate (pair_of e x.sender x.receiver) x.number (fate_copies x)) (with_lists e e.legs e.misses e.plans done) (with_lists e e.legs e.misses e.plans (done ++ x ∷ []))
+      (fate-said e.version (address_of e.crafts x.sender) (address_of e.crafts x.receiver) x (address-in e h x.sender is.pair.first) (address-in e h x.receiver is.pair.second) is.number is.copies)
+      (fate-follows (with_lists e e.legs e.misses e.plans done) (pair_of e x.sender x.receiver) x found later is.copies)

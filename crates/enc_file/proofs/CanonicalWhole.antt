@@ -1,0 +1,116 @@
+-- The canonical records of an encounter are read as that encounter.
+use Rattle.std.proofs.Common.{◌≡◌, ℕ, ◌||◌, not, Bool, true, false, if◌then◌else◌, ◌*◌, is_none, List, [], ◌∷◌, ◌++◌, length, map, Option, Some, None, Ok, IsTrue, refl, ap, ◌∙◌}
+use Rattle.std.specs.List.{flat_map, list_any}
+use Rattle.acas_base.specs.Encounter.{IsEncounter, Parts, encounter_of, is_active}
+use Rattle.acas_base.specs.declared.TheConstants.{CRAFTS}
+use Rattle.acas_base.specs.declared.craft.CraftSpec.{CraftSpec}
+use Rattle.acas_base.specs.declared.craft.Leg.{Leg}
+use Rattle.acas_base.specs.declared.craft.Miss.{Miss}
+use Rattle.acas_base.specs.declared.link.Fate.{Fate}
+use Rattle.acas_base.specs.declared.link.LinkPlan.{LinkPlan}
+use Rattle.enc_file.specs.Canonical.{canonical_records, canonical_text}
+use Rattle.enc_file.specs.Earlier.{all_gains, by_group, crafts_of, encounter_by, fate_group, gains_of, leg_group, legs_of, miss_group, plan_group, run_of, version_of, whole_run}
+use Rattle.enc_file.specs.Faults.{fault_of, stays_inside}
+use Rattle.enc_file.specs.Reading.{Says, next_record, read_from}
+use Rattle.enc_file.specs.Spelling.{climb_records, craft_record, end_record, fate_record, gains_record, header_record, leg_record, miss_record, plan_record, run_record}
+use Rattle.enc_file.specs.declared.record.Record.{Record}
+use Rattle.enc_file.specs.declared.record.Record.TheVariants as said
+use Rattle.enc_file.specs.declared.record.Run.{Run}
+use Rattle.enc_file.specs.declared.record.TrackGains.{TrackGains}
+use Rattle.enc_file.specs.declared.refusal.Code.{Code}
+use Rattle.enc_file.specs.declared.refusal.Code.TheVariants as code
+use Rattle.enc_file.proofs.CanonicalLists.{few-crafts, goes-fates, goes-legs, goes-misses, goes-plans}
+use Rattle.enc_file.proofs.CanonicalRead.{records-of-canonical}
+use Rattle.enc_file.proofs.CanonicalSaid.{begun, goes-climbs, goes-crafts, goes-gains, goes-run, with_crafts, with_lists, with_run}
+use Rattle.enc_file.proofs.OwnOrder.{fates-in-order, legs-in-order, misses-in-order, plans-in-order}
+use Rattle.enc_file.proofs.ReadBack.{Gives, Goes, Known, gives-known, goes-join, goes-next, goes-none, step-on}
+use Rattle.enc_file.proofs.SaidByLines.{end-said, header-said}
+
+-- The records between the header and the end.
+middle : Parts → List (List (List ℕ))
+middle e =
+    run_record e.cycles e.elevation ∷ gains_record e.range e.altitude ∷ [] ++ map craft_record e.crafts ++ flat_map climb_records e.crafts
+    ++ map (leg_record e.crafts) e.legs ++ map (miss_record e.crafts) e.misses ++ map (plan_record e.crafts) e.plans ++ map (fate_record e.crafts) e.fates
+
+abbrev whole : Parts → Known
+whole e = with_lists e e.legs e.misses e.plans e.fates
+
+goes-middle : (e : Parts) → IsEncounter e → Goes (middle e) (begun e) (whole e)
+unfolding middle
+goes-middle e h =
+    let crafts = goes-join [] _ (with_crafts e []) (with_crafts e []) _ (goes-none (with_crafts e [])) (goes-crafts e h) in
+    let climbs = goes-join _ _ (with_crafts e []) _ _ crafts (goes-climbs e h) in
+    let legs = goes-join _ _ (with_crafts e []) _ _ climbs (goes-legs e h) in
+    let misses = goes-join _ _ (with_crafts e []) _ _ legs (goes-misses e h) in
+    let plans = goes-join _ _ (with_crafts e []) _ _ misses (goes-plans e h) in
+    let fates = goes-join _ _ (with_crafts e []) _ _ plans (goes-fates e h) in
+    goes-join (run_record e.cycles e.elevation ∷ []) _ (begun e) (with_run e) (whole e) (goes-run e h)
+    (goes-join (gains_record e.range e.altitude ∷ []) _ (with_run e) (with_crafts e []) (whole e) (goes-gains e h) fates)
+
+-- The encounter that the records say.
+
+parts-are : (e : Parts) (version : ℕ) (run : Run) (gains : TrackGains) (crafts : List CraftSpec) (legs : List Leg) (misses : List Miss) (plans : List LinkPlan) (fates : List Fate)
+    → version ≡ e.version → run ≡ record { cycles = e.cycles; elevation = e.elevation } → gains ≡ record { range = e.range; altitude = e.altitude } → crafts ≡ e.crafts
+    → legs ≡ e.legs → misses ≡ e.misses → plans ≡ e.plans → fates ≡ e.fates → encounter_of version run.cycles run.elevation gains.range gains.altitude crafts legs misses plans fates ≡ e
+parts-are e version run gains crafts legs misses plans fates a b c d f g h i = rw (a, b, c, d, f, g, h, i) refl
+
+run-is : (earlier : List Record) (run : Run) → run_of earlier ≡ Some run → whole_run earlier ≡ run
+run-is earlier run h = rw h refl
+
+gains-are : (earlier : List Record) (gains : TrackGains) → gains_of earlier ≡ Some gains → all_gains earlier ≡ gains
+gains-are earlier gains h = rw h refl
+
+encounter-is : (e : Parts) → IsEncounter e → (earlier : List Record) → Gives earlier (whole e) → encounter_by earlier ≡ e
+encounter-is e h earlier g =
+    let few = few-crafts e h in
+    let n = length e.crafts in
+    parts-are e (version_of earlier) (whole_run earlier) (all_gains earlier) (crafts_of earlier) (by_group leg_group CRAFTS (legs_of earlier)) _ _ _
+    g.version (run-is earlier _ g.run) (gains-are earlier _ g.gains) g.crafts
+    (ap (by_group leg_group CRAFTS) g.legs ∙ (legs-in-order n e.legs few h.records.legs).own)
+    (ap (by_group miss_group (CRAFTS * CRAFTS)) g.misses ∙ (misses-in-order n e.misses few h.records.misses).own)
+    (ap (by_group plan_group (CRAFTS * CRAFTS)) g.plans ∙ (plans-in-order n e.plans few h.records.plans).own)
+    (ap (by_group fate_group (CRAFTS * CRAFTS)) g.fates ∙ (fates-in-order n e.fates few h.records.fates).own)
+
+-- The end.
+
+-- What is told at the end, by three tests.
+abbrev fault_at_end : Bool → Bool → Bool → Option Code
+fault_at_end unrun active inside =
+    if unrun || not active then Some code.Count else
+    if not inside then Some code.Box else None
+
+end-sound : (earlier : List Record) → is_none (run_of earlier) ≡ false → list_any is_active (crafts_of earlier) ≡ true → stays_inside (encounter_by earlier) ≡ true → fault_of earlier said.End ≡ None
+end-sound earlier a b c =
+    ap (λ x. fault_at_end x (list_any is_active (crafts_of earlier)) (stays_inside (encounter_by earlier))) a
+    ∙ ap (λ x. fault_at_end false x (stays_inside (encounter_by earlier))) b ∙ ap (fault_at_end false true) c
+
+end-read : (earlier : List Record) → read_from (said.End ∷ earlier) [] ≡ Ok (encounter_by earlier)
+unfolding read_from
+end-read earlier = refl
+
+reads-end : (e : Parts) → IsEncounter e → IsTrue (stays_inside e) → (earlier : List Record) → Gives earlier (whole e) → read_from earlier (end_record ∷ []) ≡ Ok e
+reads-end e h inside earlier g =
+    let is = encounter-is e h earlier g in
+    let sound = end-sound earlier (ap is_none g.run) (ap (list_any is_active) g.crafts ∙ h.crafts.active) (ap stays_inside is ∙ inside) in
+    step-on earlier end_record [] said.End (goes-next earlier end_record said.End e.version (g.begun end_record) g.unended g.version sound (end-said e.version)) ∙ end-read earlier ∙ ap Ok is
+
+-- The whole.
+
+header-gives : (e : Parts) → Gives (said.Header e.version ∷ []) (begun e)
+header-gives e = gives-known (said.Header e.version) [] (begun e) refl refl
+
+begins : (version : ℕ) (rest : List (List (List ℕ))) → next_record [] (header_record version) ≡ Ok (said.Header version)
+    → read_from [] (header_record version ∷ rest) ≡ read_from (said.Header version ∷ []) rest
+begins version rest e = step-on [] (header_record version) rest (said.Header version) e
+
+records-split : (e : Parts) → canonical_records e ≡ header_record e.version ∷ middle e ++ end_record ∷ []
+unfolding middle
+records-split e = refl
+
+pub canonical-reads : (e : Parts) → IsEncounter e → IsTrue (stays_inside e) → read_from [] (canonical_records e) ≡ Ok e
+canonical-reads e h inside =
+    let on = (goes-middle e h).goes (said.Header e.version ∷ []) (end_record ∷ []) (header-gives e) in
+    ap (read_from []) (records-split e) ∙ begins e.version (middle e ++ end_record ∷ []) (header-said e.version h.run.format) ∙ on.2 ∙ reads-end e h inside on.0 on.1
+
+pub canonical-says : (e : Parts) → IsEncounter e → IsTrue (stays_inside e) → Says (canonical_text e) e
+canonical-says e h inside = ap (read_from []) (records-of-canonical e) ∙ canonical-reads e h inside

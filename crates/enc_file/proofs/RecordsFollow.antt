@@ -1,0 +1,122 @@
+-- When a record stands well after what earlier ones give, and what is known then.
+use Rattle.std.proofs.Common.{◌≡◌, ℕ, ◌<◌, ◌≤◌, Bool, false, ℤ, List, [], ◌∷◌, ◌++◌, length, map, Some, None, count_ones, nat_le, refl, arith}
+use Rattle.std.specs.List.{AllByRecursion, list_any}
+use Rattle.std.proofs.lemmas.Bool.Decides.{nat_tests}
+use Rattle.acas_base.specs.Encounter.{AreCopies, most_crafts}
+use Rattle.acas_base.specs.declared.craft.CraftSpec.{CraftSpec}
+use Rattle.acas_base.specs.declared.craft.Leg.{Leg}
+use Rattle.acas_base.specs.declared.craft.Miss.{Miss}
+use Rattle.acas_base.specs.declared.link.CopyPlan.{CopyPlan}
+use Rattle.acas_base.specs.declared.link.Fate.{Fate}
+use Rattle.acas_base.specs.declared.link.LinkPlan.{LinkPlan}
+use Rattle.std.specs.Option.{option_to_list}
+use Rattle.enc_file.specs.Earlier.{fate_by, for_index, for_pair, index_of, leg_by, miss_by, plan_by, with_ceiling}
+use Rattle.enc_file.specs.Faults.{are_masks_bad, has_ceiling, is_mask_bad}
+use Rattle.enc_file.specs.declared.record.Addresses.{Addresses}
+use Rattle.enc_file.specs.declared.record.Record.TheVariants as said
+use Rattle.enc_file.specs.declared.record.Run.{Run}
+use Rattle.enc_file.specs.declared.record.TrackGains.{TrackGains}
+use Rattle.enc_file.proofs.AircraftFound.{ArePair, IsOther, index-none}
+use Rattle.enc_file.proofs.OwnOrder.{repeats_fate, repeats_leg, repeats_miss, repeats_plan}
+use Rattle.enc_file.proofs.Pairwise.{any-fails}
+use Rattle.enc_file.proofs.ReadBack.{Follows, Known}
+use Rattle.enc_file.proofs.SaidByLines.{course_of, fate_copies, plan_copies}
+
+pub run-follows : (known : Known) (run : Run) → known.run ≡ None → Follows (said.Run run) known (record known { run = Some run })
+run-follows known run none = record {
+  sound = λ earlier g. rw (g.run, none) refl;
+  adds = λ k. record k { run = Some run };
+  is = λ earlier. refl;
+  unended = λ earlier. refl;
+  gives = refl;
+}
+
+pub gains-follow : (known : Known) (gains : TrackGains) → known.gains ≡ None → Follows (said.Gains gains) known (record known { gains = Some gains })
+gains-follow known gains none = record {
+  sound = λ earlier g. rw (g.gains, none) refl;
+  adds = λ k. record k { gains = Some gains };
+  is = λ earlier. refl;
+  unended = λ earlier. refl;
+  gives = refl;
+}
+
+-- An aircraft of a new address, where there is room for one more.
+pub craft-follows : (known : Known) (craft : CraftSpec) → AllByRecursion (IsOther craft.address) known.crafts → length known.crafts < most_crafts known.version
+    → Follows (said.Craft craft) known (record known { crafts = known.crafts ++ craft ∷ [] })
+craft-follows known craft other room =
+    let fits : nat_le (most_crafts known.version) (length known.crafts) ≡ false = grind (arith, nat_tests, room) in
+    record {
+      sound = λ earlier g. rw (g.crafts, g.version, index-none known.crafts craft.address other, fits) refl;
+      adds = λ k. record k { crafts = k.crafts ++ craft ∷ [] };
+      is = λ earlier. refl;
+      unended = λ earlier. refl;
+      gives = refl;
+    }
+
+-- A ceiling of an aircraft that has none.
+pub climb-follows : (known : Known) (n : ℕ) (limit : ℤ) (i : ℕ) → index_of known.crafts n ≡ Some i → has_ceiling known.crafts i ≡ false
+    → Follows (said.Climb n limit) known (record known { crafts = map (with_ceiling n limit) known.crafts })
+climb-follows known n limit i found none = record {
+  sound = λ earlier g. rw (g.crafts, found, none) refl;
+  adds = λ k. record k { crafts = map (with_ceiling n limit) k.crafts };
+  is = λ earlier. refl;
+  unended = λ earlier. refl;
+  gives = refl;
+}
+
+no-repeat : {X : Type 0} (repeats : X → X → Bool) (x : X) (xs : List X) → AllByRecursion (λ other. repeats x other ≡ false) xs → list_any (repeats x) xs ≡ false
+no-repeat repeats x xs h = any-fails (repeats x) (λ other. repeats x other ≡ false) (λ other k. k) xs h
+
+-- A leg that begins after those of its aircraft.
+pub leg-follows : (known : Known) (n : ℕ) (leg : Leg) → index_of known.crafts n ≡ Some leg.craft → AllByRecursion (λ other. repeats_leg leg other ≡ false) known.legs
+    → Follows (said.Leg n (course_of leg)) known (record known { legs = known.legs ++ leg ∷ [] })
+leg-follows known n leg found later = record {
+  sound = λ earlier g. rw (g.crafts, g.legs, found, no-repeat repeats_leg leg known.legs later) refl;
+  adds = λ k. record k { legs = k.legs ++ option_to_list (for_index k.crafts n (leg_by (course_of leg))) };
+  is = λ earlier. refl;
+  unended = λ earlier. refl;
+  gives = rw found refl;
+}
+
+-- A miss that begins after those of its pair have ended.
+pub miss-follows : (known : Known) (pair : Addresses) (miss : Miss) → ArePair known.crafts pair miss.own miss.target → AllByRecursion (λ other. repeats_miss miss other ≡ false) known.misses
+    → Follows (said.Miss pair miss.from miss.to) known (record known { misses = known.misses ++ miss ∷ [] })
+miss-follows known pair miss found later = record {
+  sound = λ earlier g. rw (g.crafts, g.misses, found.apart, found.first, found.second, no-repeat repeats_miss miss known.misses later) refl;
+  adds = λ k. record k { misses = k.misses ++ option_to_list (for_pair k.crafts pair (miss_by miss.from miss.to)) };
+  is = λ earlier. refl;
+  unended = λ earlier. refl;
+  gives = rw (found.apart, found.first, found.second) refl;
+}
+
+mask-good : (copy : CopyPlan) → count_ones copy.mask ≤ 3 → is_mask_bad copy ≡ false
+mask-good copy h = grind (arith, nat_tests, h)
+
+masks-good : (count : ℕ) (one two three : CopyPlan) → AreCopies count one two three → are_masks_bad (record { count = count; first = one; second = two; third = three }) ≡ false
+masks-good count one two three h = rw (mask-good one h.first.mask, mask-good two h.second.mask, mask-good three h.third.mask) refl
+
+-- A plan of a pair that has none.
+pub plan-follows : (known : Known) (pair : Addresses) (plan : LinkPlan) → ArePair known.crafts pair plan.sender plan.receiver → AllByRecursion (λ other. repeats_plan plan other ≡ false) known.plans
+    → AreCopies plan.copies plan.first plan.second plan.third → Follows (said.Plan pair (plan_copies plan)) known (record known { plans = known.plans ++ plan ∷ [] })
+plan-follows known pair plan found later copies =
+    let masks = masks-good plan.copies plan.first plan.second plan.third copies in
+    record {
+      sound = λ earlier g. rw (g.crafts, g.plans, found.apart, found.first, found.second, no-repeat repeats_plan plan known.plans later, masks) refl;
+      adds = λ k. record k { plans = k.plans ++ option_to_list (for_pair k.crafts pair (plan_by (plan_copies plan))) };
+      is = λ earlier. refl;
+      unended = λ earlier. refl;
+      gives = rw (found.apart, found.first, found.second) refl;
+    }
+
+-- A fate of a greater number than those of its pair.
+pub fate-follows : (known : Known) (pair : Addresses) (fate : Fate) → ArePair known.crafts pair fate.sender fate.receiver → AllByRecursion (λ other. repeats_fate fate other ≡ false) known.fates
+    → AreCopies fate.copies fate.first fate.second fate.third → Follows (said.Fate pair fate.number (fate_copies fate)) known (record known { fates = known.fates ++ fate ∷ [] })
+fate-follows known pair fate found later copies =
+    let masks = masks-good fate.copies fate.first fate.second fate.third copies in
+    record {
+      sound = λ earlier g. rw (g.crafts, g.fates, found.apart, found.first, found.second, no-repeat repeats_fate fate known.fates later, masks) refl;
+      adds = λ k. record k { fates = k.fates ++ option_to_list (for_pair k.crafts pair (fate_by fate.number (fate_copies fate))) };
+      is = λ earlier. refl;
+      unended = λ earlier. refl;
+      gives = rw (found.apart, found.first, found.second) refl;
+    }

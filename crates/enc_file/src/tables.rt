@@ -1,0 +1,364 @@
+// What the records so far give, and what is wrong with the next one.
+ghost use Rattle.std.specs.Prelude.{◌≡◌, ◌-◌, ◌*◌, ◌<◌, ◌^◌, [], List, IfOk, Some, true};
+ghost use Rattle.std.specs.List.{list_any};
+ghost use Rattle.acas_base.specs.Encounter.{is_active};
+ghost use Rattle.acas_base.specs.declared.TheConstants.{CRAFTS};
+ghost use Rattle.csv.specs.Records.{fields_of};
+ghost use Rattle.enc_file.specs.Earlier.{encounter_by, for_pair, index_of, version_of};
+ghost use Rattle.enc_file.specs.Reading.{IsReading, read_from, refusal_after};
+ghost use Rattle.enc_file.specs.Tables.{Adds, AreGoing, Holds, IsHeld, Takes};
+ghost use Rattle.enc_file.specs.WellRead.{IsOfFormat, IsSaid};
+ghost use Rattle.enc_file.specs.declared.record.Record.{Record};
+
+use crate::conditions::{
+    are_masks_bad, fate_by, has_ceiling, is_late_fate, is_late_leg, is_late_miss, leg_by,
+    missing_after, most_crafts, pair_number, plan_by, some_active,
+};
+use crate::groups::Groups;
+use crate::record::{Addresses, Copies, Course, Record, Run, TrackGains};
+use crate::refusal::{Code, ReadError, Refusal};
+use crate::saying::{record_of, version_in};
+use acas_base::{Address, CRAFTS, CraftSpec, Encounter, Fate, Gains, Leg, LinkPlan, Miss};
+use csv::ByteRecord;
+use flight::inside;
+use std::alloc::{AllocError, Global};
+
+// The gains of a text that gives none.
+const USUAL_GAINS: TrackGains = TrackGains {
+    range: Gains {
+        alpha: 683,
+        beta: 256,
+    },
+    altitude: Gains {
+        alpha: 512,
+        beta: 128,
+    },
+};
+
+/// What the records so far give. The aircraft's and the pairs' records stand in groups, so that the next one is compared
+/// with the last of its group alone.
+#[derive(Drop)]
+pub(crate) struct Tables {
+    count: u32,
+    version: u8,
+    run: Option<Run>,
+    gains: Option<TrackGains>,
+    crafts: Vec<CraftSpec>,
+    legs: Groups<Leg>,
+    misses: Groups<Miss>,
+    plans: Groups<LinkPlan>,
+    fates: Groups<Fate>,
+    made: Option<Encounter>,
+}
+
+impl Tables {
+    /// Before the first record.
+    pub(crate) fn new(alloc: Global) -> Result<Tables, AllocError>
+        ensures { IfOk result (Holds []) }
+    {
+        Ok(Tables {
+            count: 0,
+            version: 0,
+            run: None,
+            gains: None,
+            crafts: Vec::new(alloc),
+            legs: Groups::new(alloc, CRAFTS)?,
+            misses: Groups::new(alloc, CRAFTS * CRAFTS)?,
+            plans: Groups::new(alloc, CRAFTS * CRAFTS)?,
+            fates: Groups::new(alloc, CRAFTS * CRAFTS)?,
+            made: None,
+        })
+    }
+
+    // The refusal of the next record.
+    fn refused(&self, code: Code) -> ReadError
+        requires { self.now.count < 2 ^ 32 - 1 }
+        ensures { result ≡ ReadError.Refused (refusal_after self.now.count code) }
+    {
+        ReadError::Refused(Refusal {
+            at: self.count + 1,
+            code,
+        })
+    }
+
+    // The index of the aircraft with an address.
+    fn index_of(&self, address: Address) -> Option<usize>
+        ensures { result ≡ index_of self.now.crafts.items address }
+    {
+        self.crafts
+            .iter()
+            .position(|craft| craft.address == address)
+    }
+
+    // The two different aircraft with these addresses, by their indices.
+    fn pair_of(&self, pair: Addresses) -> Option<(usize, usize)>
+        ensures { result ≡ for_pair self.now.crafts.items pair (λ first second. (first, second)) }
+    {
+        if pair.first == pair.second {
+            return None;
+        }
+        let first = self.index_of(pair.first)?;
+        let second = self.index_of(pair.second)?;
+        Some((first, second))
+    }
+
+    // The first record.
+    fn add_header(&mut self, row: &ByteRecord) -> Result<(), ReadError>
+        requires { self.old.count ≡ 0 }
+        ensures { Holds [] self.old → Takes [] (fields_of row.now) self.new result }
+    {
+        let Some(version) = version_in(row) else {
+            return Err(self.refused(Code::Header));
+        };
+        self.version = version;
+        self.count = 1;
+        Ok(())
+    }
+
+    fn add_run(&mut self, run: Run) -> Result<(), ReadError>
+        requires room { self.old.count < 2 ^ 32 - 1 }
+        requires said { IsSaid (Record.Run run) }
+        ensures { (earlier : List Record) → AreGoing earlier → Holds earlier self.old → Adds earlier (Record.Run run) self.new result }
+    {
+        if self.run.is_some() {
+            return Err(self.refused(Code::Repeat));
+        }
+        self.run = Some(run);
+        self.count += 1;
+        Ok(())
+    }
+
+    fn add_gains(&mut self, gains: TrackGains) -> Result<(), ReadError>
+        requires room { self.old.count < 2 ^ 32 - 1 }
+        requires said { IsSaid (Record.Gains gains) }
+        ensures { (earlier : List Record) → AreGoing earlier → Holds earlier self.old → Adds earlier (Record.Gains gains) self.new result }
+    {
+        if self.gains.is_some() {
+            return Err(self.refused(Code::Repeat));
+        }
+        self.gains = Some(gains);
+        self.count += 1;
+        Ok(())
+    }
+
+    fn add_craft(&mut self, craft: CraftSpec) -> Result<(), ReadError>
+        requires room { self.old.count < 2 ^ 32 - 1 }
+        requires said { IsSaid (Record.Craft craft) }
+        ensures { (earlier : List Record) → AreGoing earlier → Holds earlier self.old → Adds earlier (Record.Craft craft) self.new result }
+    {
+        if self.index_of(craft.address).is_some() {
+            return Err(self.refused(Code::Repeat));
+        }
+        if most_crafts(self.version) <= self.crafts.len() {
+            return Err(self.refused(Code::Count));
+        }
+        self.crafts.push(craft)?;
+        self.count += 1;
+        Ok(())
+    }
+
+    fn add_climb(&mut self, address: Address, limit: i32) -> Result<(), ReadError>
+        requires room { self.old.count < 2 ^ 32 - 1 }
+        requires said { IsSaid (Record.Climb address limit) }
+        ensures { (earlier : List Record) → AreGoing earlier → IsOfFormat (version_of earlier) (Record.Climb address limit) → Holds earlier self.old → Adds earlier (Record.Climb address limit) self.new result }
+    {
+        let Some(craft) = self.index_of(address) else {
+            return Err(self.refused(Code::Unknown));
+        };
+        if has_ceiling(&self.crafts, craft) {
+            return Err(self.refused(Code::Repeat));
+        }
+        self.crafts[craft].ceiling = Some(limit);
+        self.count += 1;
+        Ok(())
+    }
+
+    fn add_leg(&mut self, address: Address, course: Course) -> Result<(), ReadError>
+        requires room { self.old.count < 2 ^ 32 - 1 }
+        requires held { IsHeld self.old }
+        requires said { IsSaid (Record.Leg address course) }
+        ensures { (earlier : List Record) → AreGoing earlier → Holds earlier self.old → Adds earlier (Record.Leg address course) self.new result }
+    {
+        let Some(craft) = self.index_of(address) else {
+            return Err(self.refused(Code::Unknown));
+        };
+        if is_late_leg(course.from, self.legs.last(craft)) {
+            return Err(self.refused(Code::Repeat));
+        }
+        self.legs.add(craft, leg_by(course, craft as u8))?;
+        self.count += 1;
+        Ok(())
+    }
+
+    fn add_miss(&mut self, pair: Addresses, from: u16, to: u16) -> Result<(), ReadError>
+        requires room { self.old.count < 2 ^ 32 - 1 }
+        requires held { IsHeld self.old }
+        requires said { IsSaid (Record.Miss pair from to) }
+        ensures { (earlier : List Record) → AreGoing earlier → Holds earlier self.old → Adds earlier (Record.Miss pair from to) self.new result }
+    {
+        let Some((own, target)) = self.pair_of(pair) else {
+            return Err(self.refused(Code::Unknown));
+        };
+        let group = pair_number(own, target);
+        if is_late_miss(from, self.misses.last(group)) {
+            return Err(self.refused(Code::Repeat));
+        }
+        let miss = Miss {
+            own: own as u8,
+            target: target as u8,
+            from,
+            to,
+        };
+        self.misses.add(group, miss)?;
+        self.count += 1;
+        Ok(())
+    }
+
+    fn add_plan(&mut self, pair: Addresses, copies: Copies) -> Result<(), ReadError>
+        requires room { self.old.count < 2 ^ 32 - 1 }
+        requires held { IsHeld self.old }
+        requires said { IsSaid (Record.Plan pair copies) }
+        ensures { (earlier : List Record) → AreGoing earlier → IsOfFormat (version_of earlier) (Record.Plan pair copies) → Holds earlier self.old → Adds earlier (Record.Plan pair copies) self.new result }
+    {
+        let Some((sender, receiver)) = self.pair_of(pair) else {
+            return Err(self.refused(Code::Unknown));
+        };
+        let group = pair_number(sender, receiver);
+        if self.plans.last(group).is_some() {
+            return Err(self.refused(Code::Repeat));
+        }
+        if are_masks_bad(copies) {
+            return Err(self.refused(Code::Mask));
+        }
+        let plan = plan_by(copies, sender as u8, receiver as u8);
+        self.plans.add(group, plan)?;
+        self.count += 1;
+        Ok(())
+    }
+
+    fn add_fate(&mut self, pair: Addresses, number: u16, copies: Copies) -> Result<(), ReadError>
+        requires room { self.old.count < 2 ^ 32 - 1 }
+        requires held { IsHeld self.old }
+        requires said { IsSaid (Record.Fate pair number copies) }
+        ensures { (earlier : List Record) → AreGoing earlier → Holds earlier self.old → Adds earlier (Record.Fate pair number copies) self.new result }
+    {
+        let Some((sender, receiver)) = self.pair_of(pair) else {
+            return Err(self.refused(Code::Unknown));
+        };
+        let group = pair_number(sender, receiver);
+        if is_late_fate(number, self.fates.last(group)) {
+            return Err(self.refused(Code::Repeat));
+        }
+        if are_masks_bad(copies) {
+            return Err(self.refused(Code::Mask));
+        }
+        let fate = fate_by(number, copies, sender as u8, receiver as u8);
+        self.fates.add(group, fate)?;
+        self.count += 1;
+        Ok(())
+    }
+
+    // The encounter that the records so far say.
+    fn encounter(&self, alloc: Global, run: Run) -> Result<Encounter, AllocError>
+        requires run { self.now.run ≡ Some run }
+        requires active { list_any is_active self.now.crafts.items ≡ true }
+        requires held { IsHeld self.now }
+        ensures { (earlier : List Record) → Holds earlier self.now → IfOk result (λ e. e ≡ encounter_by earlier) }
+    {
+        let gains = self.gains.unwrap_or(USUAL_GAINS);
+        let made = Encounter::make(
+            self.version,
+            run.cycles,
+            run.elevation,
+            gains.range,
+            gains.altitude,
+            Vec::from_slice(alloc, &self.crafts)?,
+            self.legs.joined(alloc)?,
+            self.misses.joined(alloc)?,
+            self.plans.joined(alloc)?,
+            self.fates.joined(alloc)?,
+        );
+        match made {
+            Some(encounter) => Ok(encounter),
+            None => unreachable!(),
+        }
+    }
+
+    // The end: the encounter is made.
+    fn add_end(&mut self, alloc: Global) -> Result<(), ReadError>
+        requires room { self.old.count < 2 ^ 32 - 1 }
+        requires held { IsHeld self.old }
+        ensures { (earlier : List Record) → AreGoing earlier → Holds earlier self.old → Adds earlier Record.End self.new result }
+    {
+        let Some(run) = self.run else {
+            return Err(self.refused(Code::Count));
+        };
+        if !some_active(&self.crafts) {
+            return Err(self.refused(Code::Count));
+        }
+        let encounter = self.encounter(alloc, run)?;
+        if !inside(&encounter) {
+            return Err(self.refused(Code::Box));
+        }
+        self.made = Some(encounter);
+        self.count += 1;
+        Ok(())
+    }
+
+    // A record after the header, before the end.
+    fn add(&mut self, alloc: Global, now: Record) -> Result<(), ReadError>
+        requires room { self.old.count < 2 ^ 32 - 1 }
+        requires held { IsHeld self.old }
+        requires said { IsSaid now }
+        requires format { IsOfFormat self.old.version now }
+        ensures { (earlier : List Record) → AreGoing earlier → Holds earlier self.old → Adds earlier now self.new result }
+    {
+        match now {
+            Record::Header(_) => unreachable!(),
+            Record::Run(run) => self.add_run(run),
+            Record::Gains(gains) => self.add_gains(gains),
+            Record::Craft(craft) => self.add_craft(craft),
+            Record::Climb { address, limit } => self.add_climb(address, limit),
+            Record::Leg { address, course } => self.add_leg(address, course),
+            Record::Miss { pair, from, to } => self.add_miss(pair, from, to),
+            Record::Plan { pair, copies } => self.add_plan(pair, copies),
+            Record::Fate {
+                pair,
+                number,
+                copies,
+            } => self.add_fate(pair, number, copies),
+            Record::End => self.add_end(alloc),
+        }
+    }
+
+    /// Takes the next record.
+    pub(crate) fn take(&mut self, alloc: Global, row: &ByteRecord) -> Result<(), ReadError>
+        requires room { self.old.count < 2 ^ 32 - 1 }
+        requires held { IsHeld self.old }
+        ensures { (earlier : List Record) → Holds earlier self.old → Takes earlier (fields_of row.now) self.new result }
+    {
+        if self.count == 0 {
+            return self.add_header(row);
+        }
+        if self.made.is_some() {
+            return Err(self.refused(Code::After));
+        }
+        match record_of(self.version, row) {
+            Ok(now) => self.add(alloc, now),
+            Err(code) => Err(self.refused(code)),
+        }
+    }
+
+    /// The encounter, where no record follows.
+    pub(crate) fn finish(self) -> Result<Encounter, ReadError>
+        requires room { self.count < 2 ^ 32 - 1 }
+        ensures { (earlier : List Record) → Holds earlier self → IsReading (read_from earlier []) result }
+    {
+        let missing = self.refused(missing_after(self.count));
+        let Tables { made, .. } = self;
+        match made {
+            Some(encounter) => Ok(encounter),
+            None => Err(missing),
+        }
+    }
+}
