@@ -8,7 +8,7 @@ use Rattle.acas_base.specs.Order.{IsRising, fate_below, fate_key, is_below}
 use Rattle.acas_base.specs.declared.link.Fate.{Fate}
 use Rattle.acas_base.specs.Fates.{is_fate_of}
 use Rattle.acas_base.proofs.Finding.{find-here, find-none}
-use Rattle.acas_base.proofs.Keys.{above-other, below-else, below-other, below-trans}
+use Rattle.acas_base.proofs.KeyOrder.{above-other, below-else, below-other, below-trans}
 use Rattle.acas_base.proofs.Rising.{rising-pairs}
 
 pub fates-trans : (a b c : Fate) → fate_below a b ≡ true → fate_below b c ≡ true → fate_below a c ≡ true

@@ -1,5 +1,5 @@
 pub mod Rising
 pub mod Apart
-pub mod Keys
+pub mod KeyOrder
 pub mod Finding
 pub mod FateOrder

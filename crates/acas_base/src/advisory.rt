@@ -1,4 +1,6 @@
 // Advisories, and what coordinates them.
+ghost use Rattle.std.specs.Prelude.{◌≡◌, ◌<◌};
+
 use crate::{Address, CRAFTS};
 
 /// The vertical sense of an advisory.
@@ -6,6 +8,20 @@ use crate::{Address, CRAFTS};
 pub enum Sense {
     Up,
     Down,
+}
+
+impl Sense {
+    ghost use Rattle.acas_base.specs.Senses.{other_sense};
+
+    /// The other sense.
+    pub fn other(self) -> Sense
+        ensures { result ≡ other_sense self }
+    {
+        match self {
+            Sense::Up => Sense::Down,
+            Sense::Down => Sense::Up,
+        }
+    }
 }
 
 /// The strength of an advisory, weakest first. The limits are on a rate against the sense, in
@@ -21,6 +37,40 @@ pub enum Strength {
     Increase,
 }
 
+impl Strength {
+    ghost use Rattle.acas_base.specs.Strengths.{floor_of, place_of};
+
+    /// Its place in the order of strengths, from 0 for the weakest.
+    pub fn place(self) -> usize
+        ensures value { result ≡ place_of self }
+        ensures bound { result < 6 }
+    {
+        match self {
+            Strength::Limit2000 => 0,
+            Strength::Limit1000 => 1,
+            Strength::Limit500 => 2,
+            Strength::Level => 3,
+            Strength::Positive => 4,
+            Strength::Increase => 5,
+        }
+    }
+
+    /// Its floor: the vertical rate in its sense that it asks for at least, in 1/1024 ft/s (FAA,
+    /// Introduction to TCAS II v7.1; rounded towards zero, as this project's profile has it).
+    pub fn floor(self) -> i64
+        ensures { result ≡ floor_of self }
+    {
+        match self {
+            Strength::Limit2000 => -34_133,
+            Strength::Limit1000 => -17_066,
+            Strength::Limit500 => -8_533,
+            Strength::Level => 0,
+            Strength::Positive => 25_600,
+            Strength::Increase => 42_666,
+        }
+    }
+}
+
 /// The vertical resolution advisory complement: none, "do not pass below", which forbids the sense
 /// down, or "do not pass above", which forbids up (ICAO Annex 10 vol. IV, 4.3).
 #[derive(Clone, Copy, Debug, PartialEq, Eq)]
@@ -28,6 +78,21 @@ pub enum Vrc {
     Nil,
     NotBelow,
     NotAbove,
+}
+
+impl Vrc {
+    ghost use Rattle.acas_base.specs.Complements.{forbids};
+
+    /// Whether it forbids this sense to its receiver.
+    pub fn forbids(self, sense: Sense) -> bool
+        ensures { result ≡ forbids self sense }
+    {
+        match self {
+            Vrc::Nil => false,
+            Vrc::NotBelow => sense == Sense::Down,
+            Vrc::NotAbove => sense == Sense::Up,
+        }
+    }
 }
 
 /// Who gives way in a pair. Of two aircraft with resolution advisories the one of lower address is

@@ -4,7 +4,7 @@ ghost use Rattle.std.specs.List.{list_any};
 ghost use Rattle.acas_base.specs.Encounter.{AreApart, AreCopies, AreCrafts, AreRates, IsAltitude, IsCopy, IsCraft, IsElevation, IsGains, IsPair, IsPlain, IsRun, IsVersion, is_active, most_crafts};
 ghost use Rattle.acas_base.specs.Ranges.{IsBetween, IsCycle};
 
-use crate::{Address, CRAFTS, CopyPlan, CraftSpec, Gains, Kind, Leg, LinkPlan};
+use crate::{Address, CopyPlan, CraftSpec, Gains, Leg, LinkPlan, most_crafts};
 
 fn is_between(low: i32, value: i32, high: i32) -> bool
     ensures { IsTrue result ↔ IsBetween low high value }
@@ -97,7 +97,7 @@ pub(crate) fn are_copies(copies: u8, first: CopyPlan, second: CopyPlan, third: C
 fn are_few(version: u8, count: usize) -> bool
     ensures { IsTrue result ↔ ((1 ≤ count) × (count ≤ most_crafts version)) }
 {
-    1 <= count && count <= if version == 1 { 8 } else { CRAFTS }
+    1 <= count && count <= most_crafts(version)
 }
 
 // Whether none of these aircraft has this address.
@@ -119,15 +119,6 @@ fn are_apart(crafts: &[CraftSpec]) -> bool
     true
 }
 
-fn is_active(craft: &CraftSpec) -> bool
-    ensures { result ≡ is_active craft.now }
-{
-    match craft.kind {
-        Kind::Ra | Kind::Ta => true,
-        Kind::Xpdr => false,
-    }
-}
-
 fn are_in_range(crafts: &[CraftSpec]) -> bool
     ensures { IsTrue result ↔ All IsCraft crafts.now }
 {
@@ -137,7 +128,7 @@ fn are_in_range(crafts: &[CraftSpec]) -> bool
 fn some_active(crafts: &[CraftSpec]) -> bool
     ensures { result ≡ list_any is_active crafts.now }
 {
-    crafts.iter().any(|craft| is_active(craft))
+    crafts.iter().any(|craft| craft.is_active())
 }
 
 pub(crate) fn are_crafts(version: u8, crafts: &[CraftSpec]) -> bool

@@ -1,5 +1,16 @@
 // Aircraft and how they fly.
-use crate::Address;
+ghost use Rattle.std.specs.Prelude.{◌≡◌};
+ghost use Rattle.acas_base.specs.Encounter.{most_crafts};
+
+use crate::{Address, CRAFTS};
+
+/// The most aircraft of an encounter of this version of the format: 8 in version 1, 16 in version 2.
+pub fn most_crafts(version: u8) -> usize
+    ensures value { result ≡ most_crafts version }
+    ensures sixteen { version ≡ 2 → result ≡ 16 }
+{
+    if version == 1 { 8 } else { CRAFTS }
+}
 
 /// What an aircraft carries. `Ra`: TCAS II with resolution advisories. `Ta`: traffic advisories
 /// alone, at the sensitivity level of its altitude (this project's own kind). `Xpdr`: a transponder
@@ -9,6 +20,20 @@ pub enum Kind {
     Ra,
     Ta,
     Xpdr,
+}
+
+impl Kind {
+    ghost use Rattle.acas_base.specs.Encounter.{is_active_kind};
+
+    /// Whether it advises, `Ra` or `Ta`.
+    pub fn is_active(self) -> bool
+        ensures { result ≡ is_active_kind self }
+    {
+        match self {
+            Kind::Ra | Kind::Ta => true,
+            Kind::Xpdr => false,
+        }
+    }
 }
 
 /// The gains of a track, in 1/1024: how much of a measurement's difference from the prediction goes
@@ -29,6 +54,17 @@ pub struct CraftSpec {
     pub y: i32,
     pub alt: i32,
     pub ceiling: Option<i32>,
+}
+
+impl CraftSpec {
+    ghost use Rattle.acas_base.specs.Encounter.{is_active};
+
+    /// Whether it advises, and so makes entries of its own in the journal.
+    pub fn is_active(&self) -> bool
+        ensures { result ≡ is_active self.now }
+    {
+        self.kind.is_active()
+    }
 }
 
 /// How the aircraft with index `craft` flies from cycle `from` on, until a later leg of it begins:

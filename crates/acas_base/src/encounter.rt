@@ -99,6 +99,14 @@ impl Encounter {
         })
     }
 
+    /// A law: each encounter is in its ranges and orders, as [`Encounter::make`] asks.
+    pub fn valid_law(&self)
+        ensures { IsEncounter self.now }
+    {
+        // Its invariant is known once a field is read.
+        let _version = self.version;
+    }
+
     /// An equal encounter.
     pub fn copy(&self, alloc: Global) -> Result<Encounter, AllocError>
         ensures { IfOk result (λ e. e ≡ self.now) }

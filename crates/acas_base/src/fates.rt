@@ -5,7 +5,7 @@ ghost use Rattle.acas_base.specs.Encounter.{no_copy};
 ghost use Rattle.acas_base.specs.Fates.{fate_by, is_fate_of, is_plan_of, plain_fate};
 ghost use Rattle.acas_base.specs.Order.{IsRising, fate_below, fate_key, is_below};
 
-use crate::records::{Key, is_below, key};
+use crate::keys::{Key, is_below, key};
 use crate::{CopyPlan, Fate, LinkPlan};
 
 // How many records stand before a key.

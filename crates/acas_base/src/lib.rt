@@ -9,18 +9,24 @@ mod craft;
 mod encounter;
 mod entry;
 mod fates;
+mod keys;
 mod level;
 mod link;
 mod records;
+mod separations;
+mod strengths;
 mod view;
 
 pub use address::Address;
 pub use advisory::{Cell, Cells, Intent, Rank, ResMsg, Sense, Strength, Vrc};
-pub use craft::{CraftSpec, Gains, Kind, Leg, Miss};
+pub use craft::{CraftSpec, Gains, Kind, Leg, Miss, most_crafts};
 pub use encounter::Encounter;
 pub use entry::Entry;
 pub use level::{Level, Row};
 pub use link::{CopyPlan, Fate, LinkPlan};
+pub use records::Record;
+pub use separations::{gives_alim, separation};
+pub use strengths::{allowed, meets_floor, strongest};
 pub use view::{Picture, Seps, View};
 
 /// The most aircraft of an encounter, and so the number of views in a picture and of cells in a

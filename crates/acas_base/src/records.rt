@@ -1,13 +1,15 @@
 // The records that stand in the lists of an encounter.
 ghost use Rattle.std.specs.Prelude.{◌≡◌, ◌↔◌, ℕ, Bool, All, IsTrue};
 ghost use Rattle.acas_base.specs.Encounter.{AreListed, AreRecords, IsFate, IsLeg, IsMiss, IsPlan};
-ghost use Rattle.acas_base.specs.Order.{IsRising, fate_below, is_below, leg_below, miss_below, plan_below};
+ghost use Rattle.acas_base.specs.Order.{IsRising, fate_below, leg_below, miss_below, plan_below};
 
 use crate::checks::{are_copies, are_rates, is_cycle, is_pair};
+use crate::keys::{is_below, key};
 use crate::{Fate, Leg, LinkPlan, Miss};
 
-/// A record of a list: it names aircraft by their indices, and the list has an order.
-pub(crate) trait Record {
+/// A record of one of an encounter's lists: it names aircraft by their indices, and its list has an
+/// order.
+pub trait Record {
     ghost fits: { ℕ → Self → Type 0 };
 
     ghost below: { Self → Self → Bool };
@@ -16,7 +18,8 @@ pub(crate) trait Record {
     fn fits(&self, count: usize) -> bool
         ensures { IsTrue result ↔ fits count self.now };
 
-    /// Whether it stands before another one.
+    /// Whether it may stand before another one: its key is below, and the cycles of a miss are over
+    /// before those of a later one of its pair begin.
     fn is_below(&self, other: &Self) -> bool
         ensures { result ≡ below self.now other.now };
 }
@@ -54,21 +57,6 @@ fn are_rising<T: Record>(records: &[T]) -> bool
     ensures { IsTrue result ↔ IsRising T.below records.now }
 {
     records.is_sorted_by(|a, b| a.is_below(b))
-}
-
-pub(crate) type Key = (u16, u16, u16);
-
-pub(crate) fn is_below(a: Key, b: Key) -> bool
-    ensures { result ≡ is_below a b }
-{
-    a.0 < b.0 || (a.0 == b.0 && (a.1 < b.1 || (a.1 == b.1 && a.2 < b.2)))
-}
-
-// A pair of aircraft and a number.
-pub(crate) fn key(first: u8, second: u8, number: u16) -> Key
-    ensures { result ≡ (first, second, number) }
-{
-    (u16::from(first), u16::from(second), number)
 }
 
 impl Record for Leg {
