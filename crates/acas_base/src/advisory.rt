@@ -1,5 +1,5 @@
 // Advisories, and what coordinates them.
-ghost use Rattle.std.specs.Prelude.{◌≡◌, ◌<◌};
+ghost use Rattle.std.specs.Prelude.{◌≡◌, ◌<◌, ◌≤◌, ◌^◌, unsigned_abs};
 
 use crate::{Address, CRAFTS};
 
@@ -58,7 +58,8 @@ impl Strength {
     /// Its floor: the vertical rate in its sense that it asks for at least, in 1/1024 ft/s (FAA,
     /// Introduction to TCAS II v7.1; rounded towards zero, as this project's profile has it).
     pub fn floor(self) -> i64
-        ensures { result ≡ floor_of self }
+        ensures value { result ≡ floor_of self }
+        ensures bound { unsigned_abs result ≤ 2 ^ 16 }
     {
         match self {
             Strength::Limit2000 => -34_133,
