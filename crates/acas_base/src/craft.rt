@@ -4,10 +4,10 @@ ghost use Rattle.acas_base.specs.Encounter.{most_crafts};
 
 use crate::{Address, CRAFTS};
 
-/// The most aircraft of an encounter of this version of the format: 8 in version 1, 16 in version 2.
+/// The most aircraft of an encounter of this version of the format: 8 in version 1, [`CRAFTS`] in
+/// version 2.
 pub fn most_crafts(version: u8) -> usize
-    ensures value { result ≡ most_crafts version }
-    ensures sixteen { version ≡ 2 → result ≡ 16 }
+    ensures { result ≡ most_crafts version }
 {
     if version == 1 { 8 } else { CRAFTS }
 }

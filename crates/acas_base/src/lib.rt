@@ -33,5 +33,8 @@ pub use view::{Picture, Seps, View};
 /// commit.
 pub const CRAFTS: usize = 16;
 
+// The text of an encounter promises sixteen.
+const _: () = prove!(CRAFTS == 16);
+
 #[cfg(test)]
 mod tests;
