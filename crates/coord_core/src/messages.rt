@@ -6,7 +6,7 @@ ghost use Rattle.acas_base.specs.Messages.{cancel_of, message_for};
 use acas_base::{Address, Cell, ResMsg, Sense, Vrc};
 
 // The complement that goes with an advisory of this sense.
-fn complement(sense: Sense) -> Vrc
+fn complement_of(sense: Sense) -> Vrc
     ensures { result ≡ complement_of sense }
 {
     match sense {
@@ -16,7 +16,7 @@ fn complement(sense: Sense) -> Vrc
 }
 
 // What a message cancels that sets `vrc` after `said`.
-fn cancelled(said: Vrc, vrc: Vrc) -> Vrc
+fn cancelled_complement(said: Vrc, vrc: Vrc) -> Vrc
     ensures { result ≡ cancelled_complement said vrc }
 {
     match said {
@@ -33,7 +33,7 @@ fn cancelled(said: Vrc, vrc: Vrc) -> Vrc
 }
 
 // The cancel of what was said; none where nothing was.
-fn cancel(said: Vrc, many: bool, own: Address) -> Option<ResMsg>
+fn cancel_of(said: Vrc, many: bool, own: Address) -> Option<ResMsg>
     ensures { result ≡ cancel_of said many own }
 {
     match said {
@@ -57,12 +57,12 @@ pub fn next_message(cell: &Cell, said: Vrc, many: bool, own: Address) -> Option<
     ensures { result ≡ message_for cell.now said many own }
 {
     match cell {
-        Cell::Clear | Cell::Traffic => cancel(said, many, own),
+        Cell::Clear | Cell::Traffic => cancel_of(said, many, own),
         Cell::Ra(intent) => {
-            let vrc = complement(intent.sense);
+            let vrc = complement_of(intent.sense);
             Some(ResMsg {
                 many,
-                cancel: cancelled(said, vrc),
+                cancel: cancelled_complement(said, vrc),
                 vrc,
                 sender: own,
             })

@@ -1,46 +1,18 @@
 // The next cell of a pair.
 ghost use Rattle.std.specs.Prelude.{◌≡◌, ◌<◌};
-ghost use Rattle.acas_base.specs.Complements.{forbids};
-ghost use Rattle.acas_base.specs.Senses.{is_same_sense};
 ghost use Rattle.acas_base.specs.Next.{starting_sense, crosses, advisory, new_advisory, reversal_of, continuation_of, changes_sense, is_turned_after, continuing_cell, traffic_cell, starting_cell, ends, cell_after, following_cell};
 ghost use Rattle.acas_base.specs.declared.advisory.Intent.{Intent};
 
-use acas_base::{Cell, Intent, Rank, Sense, Strength, View, Vrc};
+use acas_base::{Cell, Intent, Rank, Sense, Strength, View, Vrc, meets_floor, strongest};
 use reversal::turns;
 use sense_pick::pick;
-use strength_pick::{least, meets_floor, next_strength, opposite, strongest};
+use strength_pick::{least, next_strength};
 
 // The age in cycles from which an advisory doesn't outlive its threat.
 const ENDS_FROM: u16 = 5;
 
-fn is_same(one: Sense, other: Sense) -> bool
-    ensures { result ≡ is_same_sense one other }
-{
-    match one {
-        Sense::Up => match other {
-            Sense::Up => true,
-            Sense::Down => false,
-        },
-        Sense::Down => match other {
-            Sense::Up => false,
-            Sense::Down => true,
-        },
-    }
-}
-
-// The complement forbids this sense.
-fn is_forbidden(rac: Vrc, sense: Sense) -> bool
-    ensures { result ≡ forbids rac sense }
-{
-    match rac {
-        Vrc::Nil => false,
-        Vrc::NotBelow => is_same(sense, Sense::Down),
-        Vrc::NotAbove => is_same(sense, Sense::Up),
-    }
-}
-
 // The sense of a new advisory: a complement in force binds it, whatever the rank.
-fn first_sense(view: &View, rac: Vrc) -> Sense
+fn starting_sense(view: &View, rac: Vrc) -> Sense
     ensures { result ≡ starting_sense view.now rac }
 {
     match rac {
@@ -51,14 +23,14 @@ fn first_sense(view: &View, rac: Vrc) -> Sense
 }
 
 // The sense crosses the other's altitude.
-fn is_crossing(view: &View, sense: Sense) -> bool
+fn crosses(view: &View, sense: Sense) -> bool
     ensures { result ≡ crosses view.now sense }
 {
-    !is_same(sense, view.side)
+    sense != view.side
 }
 
 // An advisory; it is corrective where own rate doesn't meet its floor.
-fn advise(
+fn advisory(
     view: &View,
     sense: Sense,
     strength: Strength,
@@ -79,37 +51,37 @@ fn advise(
 }
 
 // A new advisory, of the least strength.
-fn start(view: &View, sense: Sense) -> Cell
+fn new_advisory(view: &View, sense: Sense) -> Cell
     ensures { result ≡ new_advisory view.now sense }
 {
     let strength = least(view, sense, true);
-    advise(view, sense, strength, 1, false, is_crossing(view, sense))
+    advisory(view, sense, strength, 1, false, crosses(view, sense))
 }
 
 // The advisory in the other sense.
-fn change(prev: &Intent, view: &View, turned: bool) -> Cell
+fn reversal_of(prev: &Intent, view: &View, turned: bool) -> Cell
     requires { prev.now.age < 600 }
     ensures { result ≡ reversal_of prev.now view.now turned }
 {
-    let sense = opposite(prev.sense);
+    let sense = prev.sense.other();
     let strength = strongest(view, sense, true);
-    advise(
+    advisory(
         view,
         sense,
         strength,
         prev.age + 1,
         turned,
-        is_crossing(view, sense),
+        crosses(view, sense),
     )
 }
 
 // The advisory in the same sense.
-fn keep(prev: &Intent, view: &View) -> Cell
+fn continuation_of(prev: &Intent, view: &View) -> Cell
     requires { prev.now.age < 600 }
     ensures { result ≡ continuation_of prev.now view.now }
 {
     let strength = next_strength(prev, view);
-    advise(
+    advisory(
         view,
         prev.sense,
         strength,
@@ -120,17 +92,17 @@ fn keep(prev: &Intent, view: &View) -> Cell
 }
 
 // A continuing advisory changes its sense.
-fn changes(prev: &Intent, view: &View, rac: Vrc, rank: Rank) -> bool
+fn changes_sense(prev: &Intent, view: &View, rac: Vrc, rank: Rank) -> bool
     ensures { result ≡ changes_sense prev.now view.now rac rank }
 {
     match rank {
-        Rank::Second => is_forbidden(rac, prev.sense),
+        Rank::Second => rac.forbids(prev.sense),
         Rank::First | Rank::Free => turns(view, prev.sense) && !prev.turned,
     }
 }
 
 // A geometric reversal is noted, and not made a second time; obeying a complement is none.
-fn is_turned(prev: &Intent, rank: Rank) -> bool
+fn is_turned_after(prev: &Intent, rank: Rank) -> bool
     ensures { result ≡ is_turned_after prev.now rank }
 {
     match rank {
@@ -139,19 +111,19 @@ fn is_turned(prev: &Intent, rank: Rank) -> bool
     }
 }
 
-fn go_on(prev: &Intent, view: &View, rac: Vrc, rank: Rank) -> Cell
+fn continuing_cell(prev: &Intent, view: &View, rac: Vrc, rank: Rank) -> Cell
     requires { prev.now.age < 600 }
     ensures { result ≡ continuing_cell prev.now view.now rac rank }
 {
-    if changes(prev, view, rac, rank) {
-        change(prev, view, is_turned(prev, rank))
+    if changes_sense(prev, view, rac, rank) {
+        reversal_of(prev, view, is_turned_after(prev, rank))
     } else {
-        keep(prev, view)
+        continuation_of(prev, view)
     }
 }
 
 // No resolution advisory.
-fn traffic(view: &View) -> Cell
+fn traffic_cell(view: &View) -> Cell
     ensures { result ≡ traffic_cell view.now }
 {
     if view.traffic {
@@ -161,34 +133,34 @@ fn traffic(view: &View) -> Cell
     }
 }
 
-fn begin(view: &View, rac: Vrc) -> Cell
+fn starting_cell(view: &View, rac: Vrc) -> Cell
     ensures { result ≡ starting_cell view.now rac }
 {
     if view.threat {
-        start(view, first_sense(view, rac))
+        new_advisory(view, starting_sense(view, rac))
     } else {
-        traffic(view)
+        traffic_cell(view)
     }
 }
 
 // The advisory ends.
-fn is_over(prev: &Intent, view: &View) -> bool
+fn ends(prev: &Intent, view: &View) -> bool
     ensures { result ≡ ends prev.now view.now }
 {
     !view.resolves || (!view.threat && prev.age >= ENDS_FROM)
 }
 
-fn follow(prev: &Cell, view: &View, rac: Vrc, rank: Rank) -> Cell
+fn cell_after(prev: &Cell, view: &View, rac: Vrc, rank: Rank) -> Cell
     requires { (intent : Intent) → prev.now ≡ Cell.Ra intent → intent.age < 600 }
     ensures { result ≡ cell_after prev.now view.now rac rank }
 {
     match prev {
-        Cell::Clear | Cell::Traffic => begin(view, rac),
+        Cell::Clear | Cell::Traffic => starting_cell(view, rac),
         Cell::Ra(intent) => {
-            if is_over(intent, view) {
-                traffic(view)
+            if ends(intent, view) {
+                traffic_cell(view)
             } else {
-                go_on(intent, view, rac, rank)
+                continuing_cell(intent, view, rac, rank)
             }
         }
     }
@@ -213,7 +185,7 @@ pub fn next_cell(prev: &Cell, view: &View, rac: Vrc, rank: Rank) -> Cell
     ensures { result ≡ following_cell prev.now view.now rac rank }
 {
     if view.tested {
-        follow(prev, view, rac, rank)
+        cell_after(prev, view, rac, rank)
     } else {
         Cell::Clear
     }

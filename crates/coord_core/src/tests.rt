@@ -1,6 +1,5 @@
 use crate::{next_cell, next_message, rank_of};
-use acas_base::{Address, Cell, Intent, Kind, Rank, Sense, Seps, Strength, View, Vrc};
-use res_message::encode;
+use acas_base::{Address, Cell, Intent, Kind, Rank, ResMsg, Sense, Seps, Strength, View, Vrc};
 use std::test::Fail;
 
 const NONE: Seps = Seps {
@@ -23,19 +22,25 @@ fn advisory(sense: Sense) -> Cell {
 fn owes_messages(rt: HostRuntime) -> Result<(), Fail> {
     let own = Address::new(0x40_0A01).ok_or("no address")?;
     let up = advisory(Sense::Up);
-    for (cell, said, word) in [
-        (up, Vrc::Nil, Some(0x30_0800_0740_0A01)),
-        (up, Vrc::NotAbove, Some(0x30_0800_0740_0A01)),
+    let down = advisory(Sense::Down);
+    for (cell, said, owed) in [
+        (up, Vrc::Nil, Some((Vrc::Nil, Vrc::NotAbove))),
+        (up, Vrc::NotAbove, Some((Vrc::Nil, Vrc::NotAbove))),
+        (down, Vrc::NotAbove, Some((Vrc::NotAbove, Vrc::NotBelow))),
         (
-            advisory(Sense::Down),
+            Cell::Traffic,
             Vrc::NotAbove,
-            Some(0x30_2400_0340_0A01),
+            Some((Vrc::NotAbove, Vrc::Nil)),
         ),
-        (Cell::Traffic, Vrc::NotAbove, Some(0x30_2000_0D40_0A01)),
         (Cell::Clear, Vrc::Nil, None),
     ] {
-        let owed = next_message(&cell, said, false, own).map(|message| encode(&message));
-        assert_eq!(rt; owed, word);
+        let message = owed.map(|(cancel, vrc)| ResMsg {
+            many: false,
+            cancel,
+            vrc,
+            sender: own,
+        });
+        assert_eq!(rt; next_message(&cell, said, false, own), message);
     }
     Ok(())
 }

@@ -2,8 +2,7 @@
 ghost use Rattle.std.specs.Prelude.{◌≡◌};
 ghost use Rattle.acas_base.specs.Choice.{calls_for_reversal};
 
-use acas_base::{Sense, View};
-use strength_pick::{gives_alim, opposite, strongest};
+use acas_base::{Sense, View, gives_alim, strongest};
 
 // The half-seconds to closest approach that a reversal wants at least.
 const LEAST_HALVES: u16 = 8;
@@ -17,7 +16,7 @@ const LEAST_HALVES: u16 = 8;
 pub fn turns(view: &View, sense: Sense) -> bool
     ensures { result ≡ calls_for_reversal view.now sense }
 {
-    let other = opposite(sense);
+    let other = sense.other();
     view.halves >= LEAST_HALVES
         && !gives_alim(view, sense, strongest(view, sense, false), false)
         && gives_alim(view, other, strongest(view, other, true), false)

@@ -2,8 +2,7 @@
 ghost use Rattle.std.specs.Prelude.{◌≡◌};
 ghost use Rattle.acas_base.specs.Choice.{best_separation, chosen_sense};
 
-use acas_base::{Sense, View};
-use strength_pick::{opposite, separation, strongest};
+use acas_base::{Sense, View, separation, strongest};
 
 // What the strongest allowed strength of a fresh choice gives in this sense, in 1/1024 ft.
 fn best_separation(view: &View, sense: Sense) -> i64
@@ -18,7 +17,7 @@ fn best_separation(view: &View, sense: Sense) -> i64
 pub fn pick(view: &View) -> Sense
     ensures { result ≡ chosen_sense view.now }
 {
-    let crossing = opposite(view.side);
+    let crossing = view.side.other();
     let best = best_separation(view, view.side);
     if best < view.alim && best < best_separation(view, crossing) {
         crossing

@@ -1,15 +1,10 @@
 // The next strength of an advisory that keeps its sense.
-ghost use Rattle.std.specs.Prelude.{◌≡◌, IsTrue, not, int_le};
+ghost use Rattle.std.specs.Prelude.{◌≡◌, int_le};
 ghost use Rattle.acas_base.specs.Strengths.{is_at_most};
 ghost use Rattle.acas_base.specs.Choice.{present_separation, weakens, reaches_both, least_of_both, strength_after};
-ghost use Rattle.acas_base.specs.declared.advisory.Intent.{Intent};
-ghost use Rattle.acas_base.specs.declared.view.View.{View};
-ghost use Rattle.strength_pick.specs.Extremes.{IsNext};
 
-use crate::permission::{allowed, strongest};
-use crate::separations::place;
 use crate::weakest::least;
-use acas_base::{Intent, Sense, Strength, View};
+use acas_base::{Intent, Sense, Strength, View, allowed, strongest};
 
 // The age in cycles from which an advisory may weaken to `Level`.
 const WEAKENS_FROM: u16 = 5;
@@ -31,7 +26,7 @@ fn has_alim(view: &View, sense: Sense) -> bool
 fn is_at_least(strength: Strength, other: Strength) -> bool
     ensures { result ≡ is_at_most other strength }
 {
-    place(other) <= place(strength)
+    other.place() <= strength.place()
 }
 
 // The advisory weakens to `Level`.
@@ -44,7 +39,7 @@ fn weakens(prev: &Intent, view: &View) -> bool
 }
 
 // The choice may take this strength, and it is at least as strong as two others.
-fn reaches(
+fn reaches_both(
     view: &View,
     sense: Sense,
     fresh: bool,
@@ -63,17 +58,17 @@ fn reaches(
 fn least_of_both(view: &View, sense: Sense, fresh: bool, one: Strength, two: Strength) -> Strength
     ensures { result ≡ least_of_both view.now sense fresh one two }
 {
-    if reaches(view, sense, fresh, one, two, Strength::Limit2000) {
+    if reaches_both(view, sense, fresh, one, two, Strength::Limit2000) {
         Strength::Limit2000
-    } else if reaches(view, sense, fresh, one, two, Strength::Limit1000) {
+    } else if reaches_both(view, sense, fresh, one, two, Strength::Limit1000) {
         Strength::Limit1000
-    } else if reaches(view, sense, fresh, one, two, Strength::Limit500) {
+    } else if reaches_both(view, sense, fresh, one, two, Strength::Limit500) {
         Strength::Limit500
-    } else if reaches(view, sense, fresh, one, two, Strength::Level) {
+    } else if reaches_both(view, sense, fresh, one, two, Strength::Level) {
         Strength::Level
-    } else if reaches(view, sense, fresh, one, two, Strength::Positive) {
+    } else if reaches_both(view, sense, fresh, one, two, Strength::Positive) {
         Strength::Positive
-    } else if reaches(view, sense, fresh, one, two, Strength::Increase) {
+    } else if reaches_both(view, sense, fresh, one, two, Strength::Increase) {
         Strength::Increase
     } else {
         strongest(view, sense, fresh)
@@ -98,11 +93,3 @@ pub fn next_strength(prev: &Intent, view: &View) -> Strength
         least_of_both(view, sense, fresh, prev.strength, need)
     }
 }
-
-/// A law: where the advisory doesn't weaken to `Level`, its next strength is allowed and at least as
-/// strong as the one before and the least one, and no weaker one is; or none is, and it is the
-/// strongest that is allowed.
-pub fn next_law()
-    ensures weakens { (before : Intent) (view : View) → IsTrue (weakens before view) → strength_after before view ≡ Strength.Level }
-    ensures goes_on { (before : Intent) (view : View) → IsTrue (not (weakens before view)) → IsNext before view (strength_after before view) }
-{}

@@ -1,14 +1,9 @@
 // The least strength.
-ghost use Rattle.std.specs.Prelude.{◌≡◌, ◌&&◌, Bool};
+ghost use Rattle.std.specs.Prelude.{◌≡◌, ◌&&◌};
 ghost use Rattle.acas_base.specs.Strengths.{is_allowed};
 ghost use Rattle.acas_base.specs.Choice.{gives_alim, least_strength};
-ghost use Rattle.acas_base.specs.declared.advisory.Sense.{Sense};
-ghost use Rattle.acas_base.specs.declared.view.View.{View};
-ghost use Rattle.strength_pick.specs.Extremes.{IsLeast};
 
-use crate::permission::{allowed, strongest};
-use crate::separations::gives_alim;
-use acas_base::{Sense, Strength, View};
+use acas_base::{Sense, Strength, View, allowed, gives_alim, strongest};
 
 // A choice may take this strength, and it gives ALIM.
 fn serves(view: &View, sense: Sense, strength: Strength, fresh: bool) -> bool
@@ -38,9 +33,3 @@ pub fn least(view: &View, sense: Sense, fresh: bool) -> Strength
         strongest(view, sense, fresh)
     }
 }
-
-/// A law: the least strength is allowed and gives ALIM, and no weaker one is and does; or none gives
-/// ALIM, and it is the strongest that is allowed.
-pub fn least_law()
-    ensures { (view : View) (sense : Sense) (fresh : Bool) → IsLeast view sense fresh (least_strength view sense fresh) }
-{}

@@ -1,5 +1,5 @@
 use Rattle.strength_pick.proofs.Finding.{weakened, next_found}
-use Rattle.strength_pick.proofs.next.next_law.Goals as goal
+use Rattle.strength_pick.proofs.laws.next_law.Goals as goal
 
 pub returns-clause-weakens : goal.returns-clause-weakens
 returns-clause-weakens c = weakened
