@@ -1,6 +1,7 @@
--- What contracts see of the adapters over std's readers and writers.
-use Rattle.std.specs.Prelude.{ℕ, ◌≤◌, List, length, take, Option, Result, MatchResult}
+-- What contracts see of the adapters over readers and writers.
+use Rattle.std.specs.Prelude.{ℕ, ◌≤◌, ◌<◌, ◌⊎◌, List, length, take, Option, Result, Ok, Err, MatchResult}
 use Rattle.std.specs.Io.KnownBytes.{Appends}
+use Rattle.acas_io.specs.declared.stream.Failed.{Failed}
 use Rattle.acas_io.specs.declared.std_source.StdSource.{StdSource}
 use Rattle.acas_io.specs.declared.std_sink.StdSink.{StdSink}
 
@@ -26,3 +27,10 @@ Passes old new piece result =
     MatchResult result
     (λ n. Appends old new (take n piece))
     (λ _. (n : ℕ) × (n ≤ length piece) × Appends old new (take n piece))
+
+-- A piece was written to a writer by one call and flushed by one after it: at an error the write failed or took none, or
+-- the flush of what it took failed.
+abbrev pub WritesOnce : {W : Type 0} → (W → List ℕ → Result ℕ Failed → W → Type 0) → (W → Result (Unit {0}) Failed → W → Type 0) → W → List ℕ → Result ℕ Failed → W → Type 0
+WritesOnce {W} Write Flush old piece (Ok n) new = (between : W) × (0 < n) × Write old piece (Ok n) between × Flush between (Ok tt) new
+WritesOnce {W} Write Flush old piece (Err e) new =
+    Write old piece (Err e) new ⊎ (Write old piece (Ok 0) new ⊎ ((between : W) × (n : ℕ) × (0 < n) × Write old piece (Ok n) between × Flush between (Err e) new))

@@ -1,5 +1,5 @@
 -- When a count of faults has risen, and what an answer says of it.
-use Rattle.std.specs.Prelude.{◌≡◌, ℕ, ◌+◌, ◌-◌, ◌^◌, ◌≤◌, min, Result, OnOk, OnErr, MatchResult}
+use Rattle.std.specs.Prelude.{◌≡◌, ℕ, ◌+◌, ◌-◌, ◌^◌, ◌≤◌, min, Result, MatchResult}
 
 -- The count after one more fault. It stays at the last value of 64 bits.
 abbrev pub one_more : ℕ → ℕ
@@ -8,12 +8,6 @@ one_more count = min (count + 1) (2 ^ 64 - 1)
 -- The count rose in a call: it is higher than before, or stood at the last value of 64 bits already.
 abbrev pub Rose : ℕ → ℕ → Type 0
 Rose before now = one_more before ≤ now
-
--- The count never falls, an error comes only where it rose, and `Ok` leaves it as it was.
-pub record HasCause {T E : Type 0} (before now : ℕ) (result : Result T E) : Type 0 where
-  pub later : before ≤ now
-  pub ok : OnOk result (now ≡ before)
-  pub failed : OnErr result (Rose before now)
 
 -- An error counted one fault, and `Ok` none.
 abbrev pub CountsOne : {T E : Type 0} → ℕ → ℕ → Result T E → Type 0

@@ -4,9 +4,10 @@
 //! a caller can show that a read or a write has failed, and that none has.
 //!
 //! `MemSource`, `MemSink`, `SureSource` and `SureSink` are in memory, and tell all their bytes. `StdSource` and `StdSink`
-//! stand over a reader and a writer of std, and are the program's edge.
+//! stand over a `Reader` and a `Writer`, which every reader and writer of std is, and are the program's edge.
 #![tactic(auto)]
 
+mod device;
 mod memory;
 mod std_sink;
 mod std_source;
@@ -14,6 +15,7 @@ mod stream;
 mod sure;
 mod whole;
 
+pub use device::{Reader, Writer};
 pub use memory::{MemSink, MemSource};
 pub use std_sink::StdSink;
 pub use std_source::StdSource;

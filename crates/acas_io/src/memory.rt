@@ -2,7 +2,7 @@
 ghost use Rattle.std.specs.Prelude.{◌≡◌, ◌+◌, ◌-◌, ◌<◌, ◌≤◌, ◌↔◌, ◌⊎◌, ◌++◌, [], min, length, take, drop, Some, IsErr, IsTrue, IfOk, Contains, vec_len, vec_capacity};
 ghost use Rattle.std.specs.Io.{ReadsAtMost};
 ghost use Rattle.std.specs.Io.KnownBytes.{ReadConsumes};
-ghost use Rattle.acas_io.specs.Faults.{HasCause, CountsOne, one_more};
+ghost use Rattle.acas_io.specs.Faults.{CountsOne, one_more};
 ghost use Rattle.acas_io.specs.Stream.{Writes};
 
 use crate::{Failed, Sink, Source};
@@ -92,7 +92,6 @@ impl Source for MemSource {
     fn read(&mut self, buf: &mut [u8]) -> Result<usize, Failed>
         ensures bound { ReadsAtMost result buf.new }
         ensures bytes { ReadConsumes (Some self.old.left) (Some self.new.left) result buf.new }
-        ensures cause { HasCause self.old.faults self.new.faults result }
         ensures count { CountsOne self.old.faults self.new.faults result }
 
         // Exactly the reads with these numbers fail, and the others give all that there is room for.
@@ -173,7 +172,6 @@ impl Sink for MemSink {
 
     fn write(&mut self, piece: &[u8]) -> Result<usize, Failed>
         ensures bytes { Writes (Some self.old.written) (Some self.new.written) piece.now result }
-        ensures cause { HasCause self.old.faults self.new.faults result }
         ensures count { CountsOne self.old.faults self.new.faults result }
 
         // Exactly the writes with these numbers fail, and those of something into no room. The others take all that there

@@ -1,10 +1,9 @@
-// The program's edge on the side of its output: a sink over any writer of std.
-ghost use Rattle.std.specs.Prelude.{◌≡◌, None, IsErr};
-ghost use Rattle.acas_io.specs.Faults.{HasCause, CountsOne};
+// The program's edge on the side of its output: a sink over any writer.
+ghost use Rattle.std.specs.Prelude.{◌≡◌, ◌<◌, [], None, Ok, length};
+ghost use Rattle.acas_io.specs.Faults.{CountsOne};
 ghost use Rattle.acas_io.specs.Stream.{Writes};
 
-use crate::{Failed, Sink};
-use std::io::Write;
+use crate::{Failed, Sink, Writer};
 
 /// A sink over a writer, which is flushed after each write, and which counts the writes that fail.
 ///
@@ -16,8 +15,8 @@ pub struct StdSink<W> {
     faults: u64,
 }
 
-impl<W: Write> StdSink<W> {
-    ghost use Rattle.acas_io.specs.Adapters.{sink_writer, sink_faults};
+impl<W: Writer> StdSink<W> {
+    ghost use Rattle.acas_io.specs.Adapters.{Passes, WritesOnce, sink_writer, sink_faults};
 
     /// Over this writer, with no fault counted.
     pub fn new(inner: W) -> StdSink<W>
@@ -27,20 +26,25 @@ impl<W: Write> StdSink<W> {
         StdSink { inner, faults: 0 }
     }
 
-    // Counts a fault.
-    fn fail(&mut self) -> Result<usize, Failed>
-        ensures failed { IsErr result }
-        ensures cause { HasCause (sink_faults self.old) (sink_faults self.new) result }
-        ensures count { CountsOne (sink_faults self.old) (sink_faults self.new) result }
-        ensures writer { sink_writer self.new ≡ sink_writer self.old }
+    // Writes once, and flushes what was taken.
+    fn write_through(&mut self, piece: &[u8]) -> Result<usize, Failed>
+        ensures bytes { Writes None None piece.now result }
+        ensures once { WritesOnce W.write_gives W.flush_gives (sink_writer self.old) piece.now result (sink_writer self.new) }
+        ensures passed { Passes (W.holds (sink_writer self.old)) (W.holds (sink_writer self.new)) piece.now result }
+        ensures count { sink_faults self.new ≡ sink_faults self.old }
     {
-        self.faults = self.faults.saturating_add(1);
-        Err(Failed)
+        match self.inner.write_once(piece)? {
+            0 => Err(Failed),
+            count => {
+                self.inner.flush_once()?;
+                Ok(count)
+            }
+        }
     }
 }
 
-impl<W: Write> Sink for StdSink<W> {
-    ghost use Rattle.acas_io.specs.Adapters.{sink_writer, sink_faults, Passes};
+impl<W: Writer> Sink for StdSink<W> {
+    ghost use Rattle.acas_io.specs.Adapters.{Passes, WritesOnce, sink_writer, sink_faults};
 
     ghost written = { λ _. None };
 
@@ -48,22 +52,25 @@ impl<W: Write> Sink for StdSink<W> {
 
     fn write(&mut self, piece: &[u8]) -> Result<usize, Failed>
         ensures bytes { Writes None None piece.now result }
-        ensures cause { HasCause (sink_faults self.old) (sink_faults self.new) result }
         ensures count { CountsOne (sink_faults self.old) (sink_faults self.new) result }
 
+        // A piece that has bytes is written by one call of the writer and flushed by one after it, and an error of theirs is
+        // the answer.
+        ensures none { piece.now ≡ [] → (result ≡ Ok 0) × (sink_writer self.new ≡ sink_writer self.old) }
+        ensures once { 0 < length piece.now
+            → WritesOnce W.write_gives W.flush_gives (sink_writer self.old) piece.now result (sink_writer self.new) }
+
         // What is answered as written was given to the writer, and no more; at a fault a front of the piece may have been.
-        ensures passed { Passes (W.contents (sink_writer self.old)) (W.contents (sink_writer self.new)) piece.now result }
+        ensures passed { Passes (W.holds (sink_writer self.old)) (W.holds (sink_writer self.new)) piece.now result }
     {
         if piece.is_empty() {
             return Ok(0);
         }
-        match self.inner.write(piece) {
-            Ok(count) if count > 0 => match self.inner.flush() {
-                Ok(()) => Ok(count),
-                Err(_) => self.fail(),
-            },
-            _ => self.fail(),
+        let result = self.write_through(piece);
+        if result.is_err() {
+            self.faults = self.faults.saturating_add(1);
         }
+        result
     }
 
     fn faults(&self) -> u64

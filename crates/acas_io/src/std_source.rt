@@ -1,11 +1,10 @@
-// The program's edge on the side of its input: a source over any reader of std.
-ghost use Rattle.std.specs.Prelude.{◌≡◌};
+// The program's edge on the side of its input: a source over any reader.
+ghost use Rattle.std.specs.Prelude.{◌≡◌, length};
 ghost use Rattle.std.specs.Io.{ReadsAtMost};
 ghost use Rattle.std.specs.Io.KnownBytes.{ReadConsumes};
-ghost use Rattle.acas_io.specs.Faults.{HasCause, CountsOne};
+ghost use Rattle.acas_io.specs.Faults.{CountsOne};
 
-use crate::{Failed, Source};
-use std::io::Read;
+use crate::{Failed, Reader, Source};
 
 /// A source over a reader, which counts the reads that fail.
 ///
@@ -17,7 +16,7 @@ pub struct StdSource<R> {
     faults: u64,
 }
 
-impl<R: Read> StdSource<R> {
+impl<R: Reader> StdSource<R> {
     ghost use Rattle.acas_io.specs.Adapters.{source_reader, source_faults};
 
     /// Over this reader, with no fault counted.
@@ -29,26 +28,26 @@ impl<R: Read> StdSource<R> {
     }
 }
 
-impl<R: Read> Source for StdSource<R> {
+impl<R: Reader> Source for StdSource<R> {
     ghost use Rattle.acas_io.specs.Adapters.{source_reader, source_faults};
 
-    ghost left = { λ s. R.remaining s.inner };
+    ghost left = { λ s. R.left s.inner };
 
     ghost faults = { λ s. s.faults };
 
     fn read(&mut self, buf: &mut [u8]) -> Result<usize, Failed>
         ensures bound { ReadsAtMost result buf.new }
-        ensures bytes { ReadConsumes (R.remaining (source_reader self.old)) (R.remaining (source_reader self.new)) result buf.new }
-        ensures cause { HasCause (source_faults self.old) (source_faults self.new) result }
+        ensures bytes { ReadConsumes (R.left (source_reader self.old)) (R.left (source_reader self.new)) result buf.new }
         ensures count { CountsOne (source_faults self.old) (source_faults self.new) result }
+
+        // All of it is what one call of the reader gave.
+        ensures once { R.read_gives (source_reader self.old) (length buf.old) result buf.new (source_reader self.new) }
     {
-        match self.inner.read(buf) {
-            Ok(count) => Ok(count),
-            Err(_) => {
-                self.faults = self.faults.saturating_add(1);
-                Err(Failed)
-            }
+        let result = self.inner.read_once(buf);
+        if result.is_err() {
+            self.faults = self.faults.saturating_add(1);
         }
+        result
     }
 
     fn faults(&self) -> u64

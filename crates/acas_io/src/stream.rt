@@ -3,14 +3,14 @@ ghost use Rattle.std.specs.Prelude.{◌≡◌, ℕ, List};
 ghost use Rattle.std.specs.declared.option.Option.{Option};
 ghost use Rattle.std.specs.Io.{ReadsAtMost};
 ghost use Rattle.std.specs.Io.KnownBytes.{ReadConsumes};
-ghost use Rattle.acas_io.specs.Faults.{HasCause};
+ghost use Rattle.acas_io.specs.Faults.{CountsOne};
 ghost use Rattle.acas_io.specs.Stream.{Writes};
 ghost use Rattle.acas_io.specs.declared.stream.InError.TheVariants.{OutOfMemory};
 
 use std::alloc::AllocError;
 use thiserror::Error;
 
-/// A read or a write failed. The count of the source or the sink has risen.
+/// A read or a write failed. The count of the source or the sink has risen by one.
 #[derive(Clone, Copy, Debug, PartialEq, Eq, Error)]
 #[error("a read or a write failed")]
 pub struct Failed;
@@ -52,7 +52,7 @@ pub trait Source {
     fn read(&mut self, buf: &mut [u8]) -> Result<usize, Failed>
         ensures bound { ReadsAtMost result buf.new }
         ensures bytes { ReadConsumes (left self.old) (left self.new) result buf.new }
-        ensures cause { HasCause (faults self.old) (faults self.new) result };
+        ensures count { CountsOne (faults self.old) (faults self.new) result };
 
     /// The count of faults, which never falls. It stays at the last value of a `u64` once it is there.
     fn faults(&self) -> u64
@@ -72,7 +72,7 @@ pub trait Sink {
     /// A sink that tells what was written after a call told it before the call. After `Failed` nothing was added.
     fn write(&mut self, piece: &[u8]) -> Result<usize, Failed>
         ensures bytes { Writes (written self.old) (written self.new) piece.now result }
-        ensures cause { HasCause (faults self.old) (faults self.new) result };
+        ensures count { CountsOne (faults self.old) (faults self.new) result };
 
     /// The count of faults, which never falls. It stays at the last value of a `u64` once it is there.
     fn faults(&self) -> u64

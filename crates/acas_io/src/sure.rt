@@ -2,7 +2,7 @@
 ghost use Rattle.std.specs.Prelude.{◌≡◌, [], min, length, Some, IsOkAnd, vec_capacity};
 ghost use Rattle.std.specs.Io.{ReadsAtMost};
 ghost use Rattle.std.specs.Io.KnownBytes.{ReadConsumes};
-ghost use Rattle.acas_io.specs.Faults.{HasCause};
+ghost use Rattle.acas_io.specs.Faults.{CountsOne};
 ghost use Rattle.acas_io.specs.Fakes.{told, with_piece};
 ghost use Rattle.acas_io.specs.Stream.{Writes};
 
@@ -44,7 +44,7 @@ impl Source for SureSource {
     fn read(&mut self, buf: &mut [u8]) -> Result<usize, Failed>
         ensures bound { ReadsAtMost result buf.new }
         ensures bytes { ReadConsumes (Some self.old) (Some self.new) result buf.new }
-        ensures cause { HasCause 0 0 result }
+        ensures count { CountsOne 0 0 result }
 
         // It gives all that there is room for.
         ensures size { IsOkAnd result (λ n. n ≡ min (length self.old) (length buf.old)) }
@@ -104,7 +104,7 @@ impl Sink for SureSink {
 
     fn write(&mut self, piece: &[u8]) -> Result<usize, Failed>
         ensures bytes { Writes (told self.old) (told self.new) piece.now result }
-        ensures cause { HasCause 0 0 result }
+        ensures count { CountsOne 0 0 result }
 
         // It takes the whole piece, and holds the front of it that fits.
         ensures size { IsOkAnd result (λ n. n ≡ length piece.now) }

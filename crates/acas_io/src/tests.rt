@@ -47,61 +47,115 @@ fn writes_whole_pieces(rt: HostRuntime) -> Result<(), InError> {
     Ok(())
 }
 
-// A reader of one byte again and again, whose first read fails.
+// A reader that gives at most so many bytes at a time. The read of this number, from 1, fails.
 #[derive(Drop)]
-struct FailsOnce {
-    failed: bool,
+struct Input {
+    most: usize,
+    failing: u64,
+    reads: u64,
 }
 
-impl Read for FailsOnce {
+impl Read for Input {
     fn read(&mut self, buf: &mut [u8]) -> io::Result<usize> {
-        if !self.failed {
-            self.failed = true;
+        self.reads = self.reads.saturating_add(1);
+        if self.reads == self.failing {
             return Err(ErrorKind::Other.into());
         }
-        Ok(buf.len().min(1))
+        Ok(buf.len().min(self.most))
     }
 }
 
-// A writer that takes at most so many bytes, and whose flush fails where it is told to.
+// A writer that takes at most so many bytes at a time, and flags those that aren't flushed. The write and the flush of
+// these numbers, from 1, fail.
 #[derive(Drop)]
-struct Device {
+struct Output {
     most: usize,
-    flushes: bool,
+    failing_write: u64,
+    failing_flush: u64,
+    writes: u64,
+    flushes: u64,
+    unflushed: bool,
 }
 
-impl Write for Device {
+impl Write for Output {
     fn write(&mut self, buf: &[u8]) -> io::Result<usize> {
+        self.writes = self.writes.saturating_add(1);
+        if self.writes == self.failing_write {
+            return Err(ErrorKind::Other.into());
+        }
+        self.unflushed = true;
         Ok(buf.len().min(self.most))
     }
 
     fn flush(&mut self) -> io::Result<()> {
-        if self.flushes {
-            Ok(())
-        } else {
-            Err(ErrorKind::Other.into())
+        self.flushes = self.flushes.saturating_add(1);
+        if self.flushes == self.failing_flush {
+            return Err(ErrorKind::Other.into());
         }
+        self.unflushed = false;
+        Ok(())
     }
 }
 
+// Each read asks the reader once: also after a short read, after one that failed, and into a large buffer.
 #[test]
-fn counts_faults_of_a_reader(rt: HostRuntime) {
-    let mut source = StdSource::new(FailsOnce { failed: false });
-    let mut buf = [0; 4];
-    assert!(rt; source.read(&mut buf) == Err(Failed));
-    assert!(rt; source.read(&mut buf) == Ok(1));
-    assert_eq!(rt; source.faults(), 1);
+fn reads_the_reader_once(rt: HostRuntime) {
+    let mut buf = [0; 8192];
+    for (most, failing, first, second, faults) in [
+        (8192, 0, Ok(8192), Ok(8192), 0),
+        (1, 2, Ok(1), Err(Failed), 1),
+        (1, 1, Err(Failed), Ok(1), 1),
+    ] {
+        let mut input = Input {
+            most,
+            failing,
+            reads: 0,
+        };
+        let mut source = StdSource::new(&mut input);
+        assert!(rt; source.read(&mut buf) == first);
+        assert!(rt; source.read(&mut buf) == second);
+        assert_eq!(rt; source.faults(), faults);
+        assert_eq!(rt; input.reads, 2);
+    }
 }
 
+// A read that failed is not tried again.
 #[test]
-fn counts_faults_of_a_writer(rt: HostRuntime) {
-    for (most, flushes, want, faults) in [
-        (2, true, Ok(2), 0),
-        (0, true, Err(Failed), 1),
-        (2, false, Err(Failed), 1),
+fn reads_no_more_after_a_fault(rt: HostRuntime) {
+    let mut input = Input {
+        most: 1,
+        failing: 2,
+        reads: 0,
+    };
+    let mut source = StdSource::new(&mut input);
+    assert!(rt; read_all(rt.alloc(), &mut source, 5) == Err(InError::ReadFault));
+    assert_eq!(rt; input.reads, 2);
+}
+
+// Each write asks the writer once, and flushes what it took: also a large piece, and never again after an error.
+#[test]
+fn writes_and_flushes_once(rt: HostRuntime) {
+    let piece = [0; 8192];
+    for (most, failing_write, failing_flush, want, faults, flushes) in [
+        (8192, 0, 0, Ok(8192), 0, 1),
+        (2, 0, 0, Ok(2), 0, 1),
+        (0, 0, 0, Err(Failed), 1, 0),
+        (2, 1, 0, Err(Failed), 1, 0),
+        (2, 0, 1, Err(Failed), 1, 1),
     ] {
-        let mut sink = StdSink::new(Device { most, flushes });
-        assert!(rt; sink.write(b"bytes") == want);
+        let mut output = Output {
+            most,
+            failing_write,
+            failing_flush,
+            writes: 0,
+            flushes: 0,
+            unflushed: false,
+        };
+        let mut sink = StdSink::new(&mut output);
+        assert!(rt; sink.write(&piece) == want);
         assert_eq!(rt; sink.faults(), faults);
+        assert_eq!(rt; output.writes, 1);
+        assert_eq!(rt; output.flushes, flushes);
+        assert!(rt; want.is_err() || !output.unflushed);
     }
 }

@@ -1,6 +1,6 @@
 // Whole inputs and whole pieces.
 ghost use Rattle.std.specs.Prelude.{◌≡◌, ◌<◌, ◌≤◌, OnOk, IfOk, IsErrOf, vec_len};
-ghost use Rattle.acas_io.specs.Faults.{Rose};
+ghost use Rattle.acas_io.specs.Faults.{one_more};
 ghost use Rattle.acas_io.specs.Stream.{Puts, Took, TookAll};
 
 use crate::{Failed, InError, Sink, Source};
@@ -23,8 +23,8 @@ pub fn read_all<S: Source>(alloc: Global, source: &mut S, limit: usize) -> Resul
     ensures fault { IsErrOf result InError.ReadFault → Took (λ n. n ≤ limit) (S.left source.old) (S.left source.new) }
     ensures memory { IsErrOf result InError.OutOfMemory → Took (λ n. n ≤ limit) (S.left source.old) (S.left source.new) }
 
-    // A fault comes only where the count rose, and no other answer changes the count.
-    ensures rose { IsErrOf result InError.ReadFault → Rose (S.faults source.old) (S.faults source.new) }
+    // A fault comes where the count rose, by the one read that failed, and no other answer changes the count.
+    ensures rose { IsErrOf result InError.ReadFault → S.faults source.new ≡ one_more (S.faults source.old) }
     ensures ok_count { OnOk result (S.faults source.new ≡ S.faults source.old) }
     ensures long_count { IsErrOf result InError.TooLong → S.faults source.new ≡ S.faults source.old }
     ensures memory_count { IsErrOf result InError.OutOfMemory → S.faults source.new ≡ S.faults source.old }
