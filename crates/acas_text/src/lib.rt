@@ -1,7 +1,7 @@
 //! Numbers and short lines as text.
 //!
-//! A number is written as a plain decimal or in a fixed count of hexadecimal digits, and read as a plain decimal. `Line`
-//! collects such parts. A caller that adds to a line shows that the part fits: `proofs/Lengths` has how long each is.
+//! A number is written and read as a plain decimal or in a fixed count of hexadecimal digits. `Line` collects such parts,
+//! each with the most bytes that it adds as a constant: a caller shows that a part fits by adding them up.
 #![tactic(auto)]
 
 mod decimal;
@@ -9,7 +9,8 @@ mod hexadecimal;
 mod line;
 
 pub use decimal::parse;
-pub use line::{LINE_BYTES, Line};
+pub use hexadecimal::parse_hex;
+pub use line::{ADDRESS_BYTES, I32_BYTES, LINE_BYTES, Line, U16_BYTES, U32_BYTES};
 
 #[cfg(test)]
 mod tests;

@@ -1,15 +1,27 @@
 // Short lines, as they are made.
-ghost use Rattle.std.specs.Prelude.{◌≡◌, ℕ, ◌+◌, ◌≤◌, ◌<◌, ◌^◌, ◌++◌, [], length, unsigned_abs};
-ghost use Rattle.std.specs.Fmt.{signed_decimal};
+ghost use Rattle.std.specs.Prelude.{◌≡◌, ◌+◌, ◌≤◌, ◌<◌, ◌^◌, ◌++◌, [], length};
+ghost use Rattle.std.specs.Fmt.{decimal, signed_decimal};
 ghost use Rattle.std.specs.Str.Parse.{digits_value};
 ghost use Rattle.acas_text.specs.Hex.{hex};
 
 use crate::hexadecimal::digits_of;
-use itoa::Buffer;
+use itoa::{Buffer, Integer};
 use std::marker::Model;
 
 /// The most bytes that a line holds.
 pub const LINE_BYTES: usize = 256;
+
+/// The most bytes that `Line::u16` adds.
+pub const U16_BYTES: usize = 5;
+
+/// The most bytes that `Line::u32` adds.
+pub const U32_BYTES: usize = 10;
+
+/// The most bytes that `Line::i32` adds.
+pub const I32_BYTES: usize = 11;
+
+/// The bytes that `Line::address` adds.
+pub const ADDRESS_BYTES: usize = 6;
 
 /// A text of at most `LINE_BYTES` bytes, made part by part. Each adding call asks that what it adds still fits.
 #[derive(Drop)]
@@ -41,15 +53,40 @@ impl Line {
     }
 
     /// Adds a number as a plain decimal.
-    pub fn number(&mut self, value: i64)
-        requires { length self.old + length (signed_decimal value) ≤ LINE_BYTES }
-        ensures added { self.new ≡ self.old ++ signed_decimal value }
-
-        // A number of at most k digits takes at most k bytes, and one for the sign.
-        ensures short { (k : ℕ) → 0 < k → unsigned_abs value < 10 ^ k → length self.new ≤ length self.old + (k + 1) }
+    pub fn u16(&mut self, value: u16)
+        requires { length self.old + U16_BYTES ≤ LINE_BYTES }
+        ensures added { self.new ≡ self.old ++ decimal value }
+        ensures short { length self.new ≤ length self.old + U16_BYTES }
     {
-        let mut buffer = Buffer::new();
-        self.add(buffer.format(value).as_bytes());
+        self.number(value);
+    }
+
+    /// Adds a number as a plain decimal.
+    pub fn u32(&mut self, value: u32)
+        requires { length self.old + U32_BYTES ≤ LINE_BYTES }
+        ensures added { self.new ≡ self.old ++ decimal value }
+        ensures short { length self.new ≤ length self.old + U32_BYTES }
+    {
+        self.number(value);
+    }
+
+    /// Adds a number as a plain decimal.
+    pub fn i32(&mut self, value: i32)
+        requires { length self.old + I32_BYTES ≤ LINE_BYTES }
+        ensures added { self.new ≡ self.old ++ signed_decimal value }
+        ensures short { length self.new ≤ length self.old + I32_BYTES }
+    {
+        self.number(value);
+    }
+
+    /// Adds the number of an address, in six hexadecimal digits 0-9A-F.
+    pub fn address(&mut self, value: u32)
+        requires fits { value < 2 ^ 24 }
+        requires room { length self.old + ADDRESS_BYTES ≤ LINE_BYTES }
+        ensures added { self.new ≡ self.old ++ hex 6 value }
+        ensures short { length self.new ≤ length self.old + ADDRESS_BYTES }
+    {
+        self.hex(u64::from(value), 6);
     }
 
     /// Adds a number in so many hexadecimal digits, 0-9A-F, the highest first. The number has no more digits than that.
@@ -70,7 +107,8 @@ impl Line {
     /// Adds a text.
     pub fn text(&mut self, piece: &str)
         requires { length self.old + length piece.now ≤ LINE_BYTES }
-        ensures { self.new ≡ self.old ++ piece.now }
+        ensures added { self.new ≡ self.old ++ piece.now }
+        ensures longer { length self.new ≡ length self.old + length piece.now }
     {
         self.add(piece.as_bytes());
     }
@@ -79,13 +117,24 @@ impl Line {
     pub fn bytes(&self) -> &[u8]
         ensures bytes { result.now ≡ self.now }
         ensures short { length result.now ≤ LINE_BYTES }
+        ensures most { LINE_BYTES ≡ 256 }
     {
         &self.bytes[..self.len]
     }
 
+    fn number<I: Integer>(&mut self, value: I)
+        requires { length self.old + I.MAX_STR_LEN ≤ LINE_BYTES }
+        ensures added { self.new ≡ self.old ++ I.text value }
+        ensures short { length self.new ≤ length self.old + I.MAX_STR_LEN }
+    {
+        let mut buffer = Buffer::new();
+        self.add(buffer.format(value).as_bytes());
+    }
+
     fn add(&mut self, piece: &[u8])
         requires { length self.old + length piece.now ≤ LINE_BYTES }
-        ensures { self.new ≡ self.old ++ piece.now }
+        ensures added { self.new ≡ self.old ++ piece.now }
+        ensures longer { length self.new ≡ length self.old + length piece.now }
     {
         let end = self.len + piece.len();
         self.bytes[self.len..end].copy_from_slice(piece);

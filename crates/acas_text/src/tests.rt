@@ -1,4 +1,4 @@
-use crate::{Line, parse};
+use crate::{Line, parse, parse_hex};
 
 #[test]
 fn reads_plain_decimals(rt: HostRuntime) {
@@ -18,11 +18,32 @@ fn reads_plain_decimals(rt: HostRuntime) {
 }
 
 #[test]
+fn reads_digits(rt: HostRuntime) {
+    for (text, want) in [
+        ("00AB09", Some(0x00AB_09)),
+        ("FFFFFF", Some(0xFF_FFFF)),
+        ("00ab09", None),
+        ("0AB09", None),
+        ("00AB0G", None),
+    ] {
+        assert!(rt; parse_hex(text.as_bytes(), 6) == want, "at {text}");
+    }
+}
+
+#[test]
 fn collects_parts(rt: HostRuntime) {
     let mut line = Line::new();
     line.text("s,");
-    line.number(-12);
+    line.i32(i32::MIN);
     line.text(",");
-    line.hex(0x00AB_09, 6);
-    assert_eq!(rt; line.bytes(), b"s,-12,00AB09".as_slice());
+    line.u16(u16::MAX);
+    line.text(",");
+    line.u32(u32::MAX);
+    line.text(",");
+    line.address(0x00AB_09);
+    line.hex(0x0F, 2);
+    assert_eq!(rt;
+        line.bytes(),
+        b"s,-2147483648,65535,4294967295,00AB090F".as_slice()
+    );
 }
