@@ -8,7 +8,7 @@ use Rattle.flight.proofs.Carrying.{carried-along, carried-bound, rate-none, rate
 use Rattle.flight.proofs.Latest.{begins-some, leg-at, leg-none}
 use Rattle.flight.specs.Bounds.{IsCourse, IsReachable, IsStart, begins, flown}
 use Rattle.flight.specs.Flight.{carried, place_in}
-use Rattle.flight.specs.declared.places.Place.{Place}
+use Rattle.flight.specs.declared.place.Place.{Place}
 
 -- Where one coordinate is, some way along a leg.
 along-one : (start : ℤ) (rate : Leg → ℤ) (legs : List Leg) (index cycle k : ℕ) (d : Leg) → IsCourse legs → index < length legs → 1 ≤ cycle

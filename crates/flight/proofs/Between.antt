@@ -5,7 +5,7 @@ use Rattle.acas_base.specs.Ranges.{IsBetween}
 use Rattle.acas_base.specs.declared.craft.Leg.{Leg}
 use Rattle.flight.specs.Bounds.{flown}
 use Rattle.flight.specs.Inside.{IsInBox}
-use Rattle.flight.specs.declared.places.Place.{Place}
+use Rattle.flight.specs.declared.place.Place.{Place}
 
 between-one : (low high a v : ℤ) (n m : ℕ) → n ≤ m → IsBetween low high a → IsBetween low high (a +ℤ (v *ℤ pos m)) → IsBetween low high (a +ℤ (v *ℤ pos n))
 between-one low high a (pos w) n m order here there =

@@ -1,13 +1,13 @@
 -- The legs of one aircraft among those of all.
-use Rattle.std.proofs.Common.{◌≡◌, ℕ, zero, suc, ◌+◌, ◌-◌, ◌<◌, ◌≤◌, Bool, true, false, List, [], ◌∷◌, pos, length, get_or, take, drop, refl, sym, ap, arith}
-use Rattle.std.proofs.lemmas.List.{get_or-drop, length-drop}
+use Rattle.std.proofs.Common.{◌≡◌, ℕ, zero, suc, ◌+◌, ◌-◌, ◌<◌, ◌≤◌, Bool, true, false, List, [], ◌∷◌, pos, length, get_or, take, drop, refl, sym, ap, arith, inl, inr}
 use Rattle.std.specs.Prelude.{All, filter, ◌==◌, nat_lt}
 use Rattle.std.specs.List.Sorted.{IsNonDecreasingBy, IsPartitionPoint}
+use Rattle.std.proofs.lemmas.Bool.{cases_lt}
 use Rattle.std.proofs.lemmas.Bool.Decides.{nat_tests}
 use Rattle.std.proofs.lemmas.List.Elements.{All-filter, filter_passes}
 use Rattle.std.proofs.lemmas.List.Kept.{AllPairs-filter}
 use Rattle.std.proofs.lemmas.List.Sorted.{IsNonDecreasingBy-from_all_adjacent}
-use Rattle.acas_base.proofs.Keys.{below-trans}
+use Rattle.acas_base.proofs.KeyOrder.{below-trans}
 use Rattle.acas_base.proofs.Rising.{rising-pairs}
 use Rattle.acas_base.specs.Encounter.{AreRates, IsLeg}
 use Rattle.acas_base.specs.Order.{IsRising, is_below, leg_below}
@@ -64,31 +64,34 @@ PartedAt legs craft n = IsPartitionPoint (λ (leg : Leg). nat_lt leg.craft craft
 pub before : (a b : ℕ) → nat_lt a b ≡ true → (a == b) ≡ false
 before a b h = grind (arith, nat_tests)
 
-after : (a b c : ℕ) → nat_lt b c ≡ false → b ≤ a → (b == c) ≡ false → (a == c) ≡ false
-after a b c h g f = grind (arith, nat_tests)
+never : (a b : ℕ) → nat_lt a b ≡ true → nat_lt a (b + 1) ≡ false → ⊥
+never a b h g = grind (arith, nat_tests)
+
+within : (a b : ℕ) → nat_lt a b ≡ false → nat_lt a (b + 1) ≡ true → (a == b) ≡ true
+within a b h g = grind (arith, nat_tests)
+
+past : (a b : ℕ) → nat_lt a (b + 1) ≡ false → (a == b) ≡ false
+past a b h = grind (arith, nat_tests)
 
 -- A leg where one is asked for that no fact speaks of.
 abbrev pub any_leg : Leg
 any_leg = record { craft = 0; from = 0; vx = pos 0; vy = pos 0; vz = pos 0 }
 
--- The legs of an aircraft stand behind those of aircraft before it, and in front of the first one of another aircraft.
-pub legs-there : (legs : List Leg) (craft a n : ℕ) → IsRising leg_below legs → PartedAt legs craft a → a ≤ length legs → n ≤ length (drop a legs)
-    → ((k : ℕ) (d : Leg) → k < n → ((get_or (drop a legs) k d).craft == craft) ≡ true)
-    → ((d : Leg) → n < length (drop a legs) → ((get_or (drop a legs) n d).craft == craft) ≡ false)
-    → take n (drop a legs) ≡ filter (λ (leg : Leg). leg.craft == craft) legs
-legs-there legs craft a n rising parted within fits front next =
-    let long : length (drop a legs) ≡ length legs - a = length-drop a legs in
-    sym (filter-middle (λ (leg : Leg). leg.craft == craft) legs a n (omega (arith, long))
-    (λ k d h. before (get_or legs k d).craft craft (parted.0 k d (omega arith) h))
-    (λ k d h g.
-    let at : a + (k - a) ≡ k = omega arith in
-    let one : ((get_or (drop a legs) (k - a) d).craft == craft) ≡ true = front (k - a) d (omega arith) in
-    rw (get_or-drop a legs (k - a) d, at) at one)
-    (λ k d h g.
-    let one : ((get_or (drop a legs) n d).craft == craft) ≡ false = next d (omega (arith, long)) in
-    let other : ((get_or legs (a + n) d).craft == craft) ≡ false = rw (get_or-drop a legs n d) at one in
-    let low = parted.1 (a + n) d (omega arith) (omega arith) in
-    after (get_or legs k d).craft (get_or legs (a + n) d).craft craft low (crafts-rise legs rising (a + n) k d h g) other))
+pub in-order : (legs : List Leg) (craft a b : ℕ) → PartedAt legs craft a → PartedAt legs (craft + 1) b → a ≤ length legs → a ≤ b
+in-order legs craft a b one two size = elim (cases_lt b a) [
+  | inl h ↦ absurd (never (get_or legs b any_leg).craft craft (one.0 b any_leg (omega arith) (omega arith)) (two.1 b any_leg (omega arith) (omega arith)))
+  | inr h ↦ omega arith
+]
+
+-- The legs of an aircraft stand behind those of aircraft before it, and in front of those of aircraft after it.
+pub legs-there : (legs : List Leg) (craft a b : ℕ) → PartedAt legs craft a → PartedAt legs (craft + 1) b → a ≤ length legs → b ≤ length legs
+    → take (b - a) (drop a legs) ≡ filter (λ (leg : Leg). leg.craft == craft) legs
+legs-there legs craft a b one two first last =
+    let order : a ≤ b = in-order legs craft a b one two first in
+    sym (filter-middle (λ (leg : Leg). leg.craft == craft) legs a (b - a) (omega arith)
+    (λ k d h. before (get_or legs k d).craft craft (one.0 k d (omega arith) (omega arith)))
+    (λ k d h g. within (get_or legs k d).craft craft (one.1 k d (omega arith) (omega arith)) (two.0 k d (omega arith) (omega arith)))
+    (λ k d h g. past (get_or legs k d).craft craft (two.1 k d (omega arith) (omega arith))))
 
 -- The legs of one aircraft are a course.
 pub course-of : (legs : List Leg) (count craft : ℕ) → IsRising leg_below legs → All (IsLeg count) legs → IsCourse (filter (λ (leg : Leg). leg.craft == craft) legs)

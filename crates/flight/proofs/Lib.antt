@@ -4,7 +4,7 @@ pub mod Carrying
 pub mod Along
 pub mod Between
 pub mod Missing
-pub mod OwnMisses
 pub mod Slants
 pub mod Staying
 pub mod Placing
+pub mod Boxed

@@ -7,7 +7,7 @@ use Rattle.std.proofs.lemmas.Bool.{cases_lt}
 use Rattle.std.proofs.lemmas.Bool.Decides.{nat_tests}
 use Rattle.std.proofs.lemmas.List.{get_or_default}
 use Rattle.std.proofs.lemmas.List.Folds.{list_any_at, list_any_none}
-use Rattle.acas_base.proofs.Keys.{below-trans}
+use Rattle.acas_base.proofs.KeyOrder.{below-trans}
 use Rattle.acas_base.specs.Order.{IsRising, is_below, miss_below}
 use Rattle.acas_base.specs.declared.craft.Miss.{Miss}
 use Rattle.flight.specs.Measurement.{covers}

@@ -9,7 +9,7 @@ use Rattle.flight.proofs.Staying.{StaysTo}
 use Rattle.flight.specs.Flight.{legs_of, nowhere, place_in, position, start_of}
 use Rattle.flight.specs.Inside.{IsInBox}
 use Rattle.flight.specs.Measurement.{is_missed, measured, measurement}
-use Rattle.flight.specs.declared.places.Place.{Place}
+use Rattle.flight.specs.declared.place.Place.{Place}
 
 pub position-of : (e : Parts) (craft cycle : ℕ) (spec : CraftSpec) → craft < length e.crafts → spec ≡ get_or e.crafts craft spec
     → place_in (start_of spec) (legs_of e craft) cycle ≡ position e craft cycle

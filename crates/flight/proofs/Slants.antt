@@ -5,7 +5,7 @@ use Rattle.std.proofs.Math.Nat.{mod-lt}
 use Rattle.acas_num.proofs.Roots.{only_root, root_is}
 use Rattle.acas_num.specs.Root.{root}
 use Rattle.flight.specs.Measurement.{IsSlantRange, distance, slant_range}
-use Rattle.flight.specs.declared.places.Place.{Place}
+use Rattle.flight.specs.declared.place.Place.{Place}
 
 -- A square is no more than the whole part of a quotient exactly where its multiple is no more than the dividend.
 up : (n s : ℕ) → s ≤ n / 3600 → 3600 * s ≤ n

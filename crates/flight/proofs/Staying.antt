@@ -8,7 +8,7 @@ use Rattle.flight.proofs.Latest.{begins-le, begins-more, begins-some}
 use Rattle.flight.specs.Bounds.{IsCourse, IsReachable, IsStart, begins, flown}
 use Rattle.flight.specs.Flight.{place_in}
 use Rattle.flight.specs.Inside.{IsInBox}
-use Rattle.flight.specs.declared.places.Place.{Place}
+use Rattle.flight.specs.declared.place.Place.{Place}
 
 -- The place when the first leg begins is the start.
 pub place-first : (start : Place) (legs : List Leg) (cycle : ℕ) → IsCourse legs → 1 ≤ cycle → start ≡ place_in start legs (begins legs 0 cycle)

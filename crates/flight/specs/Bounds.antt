@@ -4,7 +4,7 @@ use Rattle.std.specs.Option.{option_map_or}
 use Rattle.acas_base.specs.Encounter.{AreRates}
 use Rattle.acas_base.specs.Ranges.{IsCycle}
 use Rattle.acas_base.specs.declared.craft.Leg.{Leg}
-use Rattle.flight.specs.declared.places.Place.{Place}
+use Rattle.flight.specs.declared.place.Place.{Place}
 
 -- A start in the ranges of an encounter.
 pub record IsStart (p : Place) : Type 0 where

@@ -7,7 +7,7 @@ use Rattle.acas_base.specs.declared.TheConstants.{CRAFTS}
 use Rattle.acas_base.specs.declared.craft.CraftSpec.{CraftSpec}
 use Rattle.acas_base.specs.declared.craft.Leg.{Leg}
 use Rattle.flight.specs.Bounds.{IsReachable}
-use Rattle.flight.specs.declared.places.Place.{Place}
+use Rattle.flight.specs.declared.place.Place.{Place}
 
 -- The legs of an aircraft.
 abbrev pub legs_of : Parts → ℕ → List Leg
@@ -51,6 +51,11 @@ nowhere = record { x = pos 0; y = pos 0; z = pos 0 }
 -- Where an aircraft is in a cycle.
 unfoldable pub position : Parts → ℕ → ℕ → Place
 position e craft cycle = option_map_or (λ spec. place_in (start_of spec) (legs_of e craft) cycle) (slice_get e.crafts craft) nowhere
+
+-- One cycle of an encounter.
+pub record Moment : Type 0 where
+  pub encounter : Parts
+  pub cycle : ℕ
 
 -- These are the places of all aircraft in a cycle, by index, and `nowhere` past the last one. None is too far to be measured.
 pub record ArePlaces (e : Parts) (cycle : ℕ) (places : List Place) : Type 0 where

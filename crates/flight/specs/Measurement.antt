@@ -1,12 +1,12 @@
 -- What one aircraft measures of another one.
-use Rattle.std.specs.Prelude.{ℕ, ◌+◌, ◌*◌, ◌/◌, ◌≤◌, ◌==◌, ◌&&◌, nat_lt, nat_le, if◌then◌else◌, Bool, ℤ, pos, ◌+ℤ◌, ◌-ℤ◌, ◌*ℤ◌, unsigned_abs, List, Option, Some, None, filter}
+use Rattle.std.specs.Prelude.{ℕ, ◌+◌, ◌*◌, ◌/◌, ◌≤◌, ◌==◌, ◌&&◌, nat_lt, nat_le, if◌then◌else◌, Bool, ℤ, pos, ◌+ℤ◌, ◌-ℤ◌, ◌*ℤ◌, unsigned_abs, Option, Some, None}
 use Rattle.std.specs.Int.{int_div_euclid}
 use Rattle.std.specs.List.{list_any}
 use Rattle.acas_base.specs.Encounter.{Parts}
 use Rattle.acas_base.specs.declared.craft.Miss.{Miss}
 use Rattle.acas_num.specs.Root.{root}
 use Rattle.flight.specs.Flight.{position}
-use Rattle.flight.specs.declared.places.Place.{Place}
+use Rattle.flight.specs.declared.place.Place.{Place}
 use Rattle.flight.specs.declared.measuring.Meas.{Meas}
 
 -- An altitude in 1/60 ft, in whole feet, rounded down.
@@ -40,10 +40,6 @@ longest = 182280
 -- A record of a miss of this own aircraft and this target, in that order, that covers a cycle.
 abbrev pub covers : ℕ → ℕ → ℕ → Miss → Bool
 covers own target cycle miss = (miss.own == own && miss.target == target) && (nat_le miss.from cycle && nat_le cycle miss.to)
-
--- The records of an own aircraft.
-abbrev pub misses_of : Parts → ℕ → List Miss
-misses_of e own = filter (λ (miss : Miss). miss.own == own) e.misses
 
 -- Whether a record says that the measurement is missed.
 abbrev pub is_missed : Parts → ℕ → ℕ → ℕ → Bool

@@ -1,21 +1,84 @@
-// The legs of one aircraft.
-ghost use Rattle.std.specs.Prelude.{◌≡◌, ℕ, ◌+◌, ◌-◌, ◌^◌, ◌<◌, ◌≤◌, ◌==◌, nat_lt, true, false, filter, length, slice_index_or};
+// How one aircraft flies.
+ghost use Rattle.std.specs.Prelude.{◌≡◌, ◌↔◌, ℕ, ◌+◌, ◌-◌, ◌<◌, ◌≤◌, ◌^◌, ◌==◌, nat_lt, true, false, IsTrue, filter, length};
 ghost use Rattle.std.specs.List.Sorted.{IsPartitionPoint};
 ghost use Rattle.acas_base.specs.Order.{IsRising, leg_below};
 ghost use Rattle.acas_base.specs.Ranges.{IsCycle};
 ghost use Rattle.acas_base.specs.declared.craft.Leg.{Leg};
-ghost use Rattle.flight.specs.Bounds.{IsCourse, begins};
+ghost use Rattle.flight.specs.Bounds.{IsCourse, IsReachable, IsStart, begins};
+ghost use Rattle.flight.specs.Flight.{place_in, position};
+ghost use Rattle.flight.specs.Inside.{IsInBox};
 
-use acas_base::Leg;
+use crate::Place;
+use crate::place::start_of;
+use acas_base::{Encounter, Leg};
+
+// Where an aircraft is in cycle 1, and its legs in their order.
+#[derive(Clone, Copy, Debug)]
+pub(crate) struct Course<'a> {
+    pub start: Place,
+    pub legs: &'a [Leg],
+    ghost near: { IsStart start },
+    ghost ordered: { IsCourse legs.now },
+}
+
+impl<'a> Course<'a> {
+    // That of an aircraft of an encounter.
+    pub(crate) fn of(encounter: &'a Encounter, craft: usize) -> Course<'a>
+        requires { craft < length encounter.now.crafts }
+        ensures { (cycle : ℕ) → place_in result.start result.legs.now cycle ≡ position encounter.now craft cycle }
+    {
+        Course {
+            start: start_of(&encounter.crafts()[craft]),
+            legs: legs_of(encounter.legs(), craft),
+        }
+    }
+
+    // The place in a cycle, leg by leg.
+    pub(crate) fn place_in(&self, cycle: u16) -> Place
+        requires { IsCycle cycle }
+        ensures value { result ≡ place_in self.now.start self.now.legs.now cycle }
+        ensures bounds { IsReachable result }
+    {
+        let mut place = self.start;
+        for index in 0..self.legs.len() {
+            if self.legs[index].from >= cycle {
+                // The rest begin too late.
+                return place;
+            }
+            place = place.flown(&self.legs[index], seconds_of(self.legs, index, cycle));
+        }
+        place
+    }
+
+    // Whether all places up to a cycle are in the box. Those on a leg lie between its ends.
+    pub(crate) fn stays_inside(&self, cycles: u16) -> bool
+        requires { IsCycle cycles }
+        ensures { IsTrue result ↔ ((cycle : ℕ) → 1 ≤ cycle → cycle ≤ cycles → IsInBox (place_in self.now.start self.now.legs.now cycle)) }
+    {
+        let mut place = self.start;
+        if !place.is_in_box() {
+            return false;
+        }
+        for index in 0..self.legs.len() {
+            place = place.flown(&self.legs[index], seconds_of(self.legs, index, cycles));
+            if !place.is_in_box() {
+                return false;
+            }
+        }
+        true
+    }
+}
 
 // The legs of an aircraft, among all legs in their order.
-pub(crate) fn legs_of(legs: &[Leg], craft: usize) -> &[Leg]
+fn legs_of(legs: &[Leg], craft: usize) -> &[Leg]
     requires rising { IsRising leg_below legs.now }
     requires craft { craft < 2 ^ 16 }
     ensures { result.now ≡ filter (λ (leg : Leg). leg.craft == craft) legs.now }
 {
-    let rest = &legs[count_before(legs, craft)..];
-    &rest[..count_of(rest, craft)]
+    let first = count_before(legs, craft);
+    let past = count_before(legs, craft + 1);
+    let rest = &legs[first..];
+    &rest[..past - first]
 }
 
 // How many legs are of aircraft before one.
@@ -27,22 +90,8 @@ fn count_before(legs: &[Leg], craft: usize) -> usize
     legs.partition_point(|leg| usize::from(leg.craft) < craft)
 }
 
-// How many legs in front are of an aircraft.
-fn count_of(legs: &[Leg], craft: usize) -> usize
-    ensures bound { result ≤ length legs.now }
-    ensures front { (k : ℕ) (d : Leg) → k < result → ((slice_index_or legs.now k d).craft == craft) ≡ true }
-    ensures next { (d : Leg) → result < length legs.now → ((slice_index_or legs.now result d).craft == craft) ≡ false }
-{
-    for index in 0..legs.len() {
-        if usize::from(legs[index].craft) != craft {
-            return index;
-        }
-    }
-    legs.len()
-}
-
 // When the leg at an index begins, but no later than `cycle`, and `cycle` where there is no leg.
-pub(crate) fn begins(legs: &[Leg], index: usize, cycle: u16) -> u16
+fn begins(legs: &[Leg], index: usize, cycle: u16) -> u16
     ensures { result ≡ begins legs.now index cycle }
 {
     match legs.get(index) {
@@ -52,7 +101,7 @@ pub(crate) fn begins(legs: &[Leg], index: usize, cycle: u16) -> u16
 }
 
 // How many seconds of the leg at an index are over in `cycle`.
-pub(crate) fn seconds_of(legs: &[Leg], index: usize, cycle: u16) -> u16
+fn seconds_of(legs: &[Leg], index: usize, cycle: u16) -> u16
     requires course { IsCourse legs.now }
     requires index { index < length legs.now }
     requires cycle { IsCycle cycle }

@@ -3,18 +3,15 @@
 
 mod course;
 mod flying;
-mod inside_box;
 mod measuring;
 mod misses;
+mod place;
 mod places;
 
-pub use flying::{places_in, position};
-pub use inside_box::inside;
-pub use measuring::{
-    Meas, altitude_at, measure, measure_between, measure_from, own_altitude, slant_range_law,
-};
-pub use misses::misses_of;
-pub use places::Place;
+pub use flying::{inside, inside_law, position};
+pub use measuring::{Meas, measure, own_altitude, slant_range_law};
+pub use place::Place;
+pub use places::Places;
 
 #[cfg(test)]
 mod tests;

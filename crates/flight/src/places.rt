@@ -1,88 +1,113 @@
-// Places, and how they change along a leg.
-ghost use Rattle.std.specs.Prelude.{◌≡◌, ◌↔◌, ◌≤◌, ◌^◌, pos, ◌+ℤ◌, ◌*ℤ◌, unsigned_abs, IsTrue};
-ghost use Rattle.acas_base.specs.Encounter.{AreRates, IsCraft};
-ghost use Rattle.acas_base.specs.Ranges.{IsBetween, IsWithin};
-ghost use Rattle.flight.specs.Bounds.{flown, IsReachable, IsStart};
-ghost use Rattle.flight.specs.Flight.{start_of};
-ghost use Rattle.flight.specs.Inside.{IsInBox};
+// Where all aircraft are in one cycle.
+ghost use Rattle.std.specs.Prelude.{◌≡◌, ◌<◌, ◌≤◌, pos, neg_ℤ, IfSome, length};
+ghost use Rattle.acas_base.specs.Ranges.{IsCycle};
+ghost use Rattle.acas_base.specs.declared.TheConstants.{CRAFTS};
+ghost use Rattle.acas_num.specs.Clamp.{LiesBetween};
+ghost use Rattle.flight.specs.Bounds.{IsReachable};
+ghost use Rattle.flight.specs.Flight.{nowhere, position};
+ghost use Rattle.flight.specs.Inside.{IsInBox, IsInside};
+ghost use Rattle.flight.specs.Measurement.{measurement, own_altitude};
 
-use acas_base::{CraftSpec, Leg};
+use crate::measuring::{feet, measured};
+use crate::misses::is_missed;
+use crate::{Meas, Place, position};
+use acas_base::{CRAFTS, Encounter};
+use std::array::from_fn;
+use std::marker::Model;
 
-/// Where an aircraft is: `x` and `y` in ft, and the altitude `z` in 1/60 ft.
-#[derive(Clone, Copy, Debug, PartialEq, Eq)]
-pub struct Place {
-    pub x: i64,
-    pub y: i64,
-    pub z: i64,
+/// Where all aircraft of an encounter are in a cycle, for those who measure several of them in it.
+#[derive(Debug, Drop)]
+pub struct Places<'a> {
+    encounter: &'a Encounter,
+    cycle: u16,
+    list: [Place; CRAFTS],
 }
 
-// Where an aircraft is in cycle 1.
-pub(crate) fn start_of(craft: &CraftSpec) -> Place
-    requires { IsCraft craft.now }
-    ensures value { result ≡ start_of craft.now }
-    ensures bounds { IsStart result }
-{
-    Place {
-        x: i64::from(craft.x),
-        y: i64::from(craft.y),
-        z: 60 * i64::from(craft.alt),
-    }
+impl<'a> Model for Places<'a> {
+    ghost use Rattle.acas_base.specs.Ranges.{IsCycle};
+    ghost use Rattle.flight.specs.Flight.{ArePlaces, Moment};
+
+    ghost Value = { Moment };
+
+    ghost view = { λ p. record { encounter = p.encounter.now; cycle = p.cycle } };
+
+    ghost invariant = { λ p. IsCycle p.cycle × ArePlaces p.encounter.now p.cycle p.list };
 }
 
-fn carried(rate: i32, seconds: u16) -> i64
-    requires rate { IsWithin 10000 rate }
-    requires seconds { seconds ≤ 600 }
-    ensures value { result ≡ rate *ℤ pos seconds }
-    ensures bound { unsigned_abs result ≤ 2 ^ 24 }
-{
-    i64::from(rate) * i64::from(seconds)
-}
-
-fn sum(a: i64, b: i64) -> i64
-    requires a { unsigned_abs a ≤ 2 ^ 24 }
-    requires b { unsigned_abs b ≤ 2 ^ 24 }
-    ensures { result ≡ a +ℤ b }
-{
-    a + b
-}
-
-// Where one coordinate is after so many seconds at a rate.
-fn moved(from: i64, rate: i32, seconds: u16) -> i64
-    requires from { unsigned_abs from ≤ 2 ^ 24 }
-    requires rate { IsWithin 10000 rate }
-    requires seconds { seconds ≤ 600 }
-    ensures { result ≡ from +ℤ (rate *ℤ pos seconds) }
-{
-    sum(from, carried(rate, seconds))
-}
-
-fn is_between(low: i64, value: i64, high: i64) -> bool
-    ensures { IsTrue result ↔ IsBetween low high value }
-{
-    low <= value && value <= high
-}
-
-impl Place {
-    // Where it is after so many seconds of a leg.
-    pub(crate) fn flown(self, leg: &Leg, seconds: u16) -> Place
-        requires place { IsReachable self }
-        requires rates { AreRates leg.now }
-        requires seconds { seconds ≤ 600 }
-        ensures { result ≡ flown self leg.now seconds }
+impl<'a> Places<'a> {
+    /// The places in a cycle: those that [`position`] gives.
+    pub fn new(encounter: &'a Encounter, cycle: u16) -> Places<'a>
+        requires { IsCycle cycle }
+        ensures { result ≡ record { encounter = encounter.now; cycle = cycle } }
     {
-        Place {
-            x: moved(self.x, leg.vx, seconds),
-            y: moved(self.y, leg.vy, seconds),
-            z: moved(self.z, leg.vz, seconds),
+        Places {
+            encounter,
+            cycle,
+            list: from_fn(|craft| { place_at(encounter, craft, cycle) }),
         }
     }
 
-    // Whether it is in the box.
-    pub(crate) fn is_in_box(&self) -> bool
-        ensures { IsTrue result ↔ IsInBox self.now }
+    /// The encounter.
+    pub fn encounter(&self) -> &'a Encounter
+        ensures { result.now ≡ self.now.encounter }
     {
-        is_between(-1_000_000, self.x, 1_000_000)
-            && is_between(-1_000_000, self.y, 1_000_000)
-            && is_between(-60_000, self.z, 3_600_000)
+        self.encounter
     }
+
+    // Where an aircraft is in that cycle.
+    fn place_of(&self, craft: u8) -> Place
+        requires { craft < length self.now.encounter.crafts }
+        ensures value { result ≡ position self.now.encounter craft self.now.cycle }
+        ensures bounds { IsReachable result }
+        ensures inside { IsInside self.now.encounter → self.now.cycle ≤ self.now.encounter.cycles → IsInBox result }
+    {
+        // No encounter has more than 16 aircraft.
+        self.encounter.valid_law();
+        self.list[usize::from(craft)]
+    }
+
+    /// What [`crate::own_altitude`] gives in that cycle.
+    #[tactic(auto, unfolding(crate::specs::Measurement::own_altitude))]
+    pub fn own_altitude(&self, craft: u8) -> i32
+        requires { craft < length self.now.encounter.crafts }
+        ensures value { result ≡ own_altitude self.now.encounter craft self.now.cycle }
+        ensures altitude { IsInside self.now.encounter → self.now.cycle ≤ self.now.encounter.cycles → LiesBetween (neg_ℤ (pos 1000)) (pos 60000) result }
+    {
+        feet(self.place_of(craft).z)
+    }
+
+    /// What [`crate::measure`] gives in that cycle.
+    pub fn measure(&self, own: u8, target: u8) -> Option<Meas>
+        requires own { own < length self.now.encounter.crafts }
+        requires target { target < length self.now.encounter.crafts }
+        ensures value { result ≡ measurement self.now.encounter own target self.now.cycle }
+        ensures range { IfSome result (λ m. m.range ≤ 182280) }
+        ensures altitude { IsInside self.now.encounter → self.now.cycle ≤ self.now.encounter.cycles → IfSome result (λ m. LiesBetween (neg_ℤ (pos 2000)) (pos 62000) m.alt) }
+    {
+        if is_missed(self.encounter, own, target, self.cycle) {
+            return None;
+        }
+        measured(self.place_of(own), self.place_of(target))
+    }
+}
+
+// Where the aircraft at an index is in a cycle.
+fn place_at(encounter: &Encounter, craft: usize, cycle: u16) -> Place
+    requires craft { craft < CRAFTS }
+    requires cycle { IsCycle cycle }
+    ensures value { result ≡ position encounter.now craft cycle }
+    ensures bounds { IsReachable result }
+{
+    if craft < encounter.crafts().len() {
+        return position(encounter, craft as u8, cycle);
+    }
+    no_place()
+}
+
+// The place that stands for that of an aircraft which there isn't.
+fn no_place() -> Place
+    ensures value { result ≡ nowhere }
+    ensures bounds { IsReachable result }
+{
+    Place { x: 0, y: 0, z: 0 }
 }

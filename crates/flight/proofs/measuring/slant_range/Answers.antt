@@ -6,8 +6,8 @@ use Rattle.flight.proofs.measuring.slant_range.Goals as goal
 pub returns : goal.returns
 unfolding slant_range
 returns c =
-    let p = c.args.here.now in
-    let q = c.args.there.now in
+    let p = c.args.here in
+    let q = c.args.there in
     let a : FitsSigned w64 p.x = search rules in
     let b : FitsSigned w64 p.y = search rules in
     let d : FitsSigned w64 p.z = search rules in

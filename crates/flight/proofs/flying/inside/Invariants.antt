@@ -1,7 +1,7 @@
 use Rattle.std.proofs.Common.{ℕ, ◌<◌, ◌≤◌}
 use Rattle.flight.specs.Flight.{position}
 use Rattle.flight.specs.Inside.{IsInBox}
-use Rattle.flight.proofs.inside_box.inside.Given as goal
+use Rattle.flight.proofs.flying.inside.Given as goal
 
 -- the aircraft so far stay in the box
 abbrev pub invariant-loop-craft : goal.invariant-loop-craft
