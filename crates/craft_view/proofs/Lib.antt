@@ -1,5 +1,5 @@
-pub mod Hitting
 pub mod Stepping
 pub mod Viewing
 pub mod Resolving
 pub mod Keeping
+pub mod Alike

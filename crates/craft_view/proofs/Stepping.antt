@@ -13,10 +13,7 @@ use Rattle.craft_view.specs.Kept.{IsActive}
 use Rattle.craft_view.specs.KnownTracks.{no_tracks, own_track, tracks_after, tracks_by, tracks_of, tracks_then}
 use Rattle.craft_view.specs.Sight.{Other, known_of, newest_first, other_craft, sight_of}
 use Rattle.craft_view.specs.declared.tracks.Tracks.{Tracks}
-use Rattle.flight.specs.Flight.{position}
-use Rattle.flight.specs.Inside.{IsInBox, IsInside}
-use Rattle.flight.specs.Measurement.{feet, measurement, own_altitude}
-use Rattle.flight.specs.declared.places.Place.{Place}
+use Rattle.flight.specs.Measurement.{measurement, own_altitude}
 
 -- The tracks of one cycle, after what is measured in the next, are those of the next.
 then_suc : (e : Parts) (own cycle index : ℕ) → tracks_then e own (suc cycle) index (tracks_of (sight_of e own cycle) index) ≡ tracks_of (sight_of e own (suc cycle)) index
@@ -46,15 +43,6 @@ active-within e own h = by_craft (slice_get e.crafts own) refl h
     by_craft : (o : Option CraftSpec) → slice_get e.crafts own ≡ o → IsTrue (option_map_or is_active o false) → own < length e.crafts
     by_craft None is f = absurd (search rules)
     by_craft (Some craft) is f = slice_get_within e.crafts own craft is
-
--- Own altitude is that of the own place.
-pub altitude-here : (e : Parts) (own cycle : ℕ) (here : Place) → here ≡ position e own cycle → feet here.z ≡ own_altitude e own cycle
-unfolding own_altitude
-altitude-here e own cycle here is = ap (λ (p : Place). feet p.z) is
-
--- The own place is in the box.
-pub here-inside : (e : Parts) (own cycle : ℕ) (here : Place) → IsInside e → own < length e.crafts → 1 ≤ cycle → cycle ≤ e.cycles → here ≡ position e own cycle → IsInBox here
-here-inside e own cycle here inside there begun run is = subst IsInBox (sym is) (inside own cycle there begun run)
 
 -- The track of own altitude goes on by the altitude of the next cycle.
 pub own-next : (e : Parts) (own cycle next : ℕ) (before after : TrackState) (feet : ℤ) (gains : Gains) → next ≡ cycle + 1 → gains ≡ e.altitude → feet ≡ own_altitude e own next

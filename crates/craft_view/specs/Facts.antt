@@ -1,12 +1,12 @@
 -- What every view keeps, for those who decide by it.
-use Rattle.std.specs.Prelude.{◌≡◌, ◌↔◌, ℕ, ◌≤◌, true, None, Some, ◌-ℤ◌, option_map, slice_get, is_some, IsTrue}
+use Rattle.std.specs.Prelude.{◌≡◌, ◌↔◌, ℕ, ◌≤◌, true, None, Some, ◌-ℤ◌, length, option_map, slice_get, is_some, IsTrue}
 use Rattle.acas_base.specs.Encounter.{Parts}
 use Rattle.acas_base.specs.declared.craft.CraftSpec.{CraftSpec}
 use Rattle.acas_base.specs.declared.craft.Kind.TheVariants.{Ra}
 use Rattle.acas_base.specs.declared.level.Level.{Level}
 use Rattle.acas_base.specs.declared.view.View.{View}
 use Rattle.craft_view.specs.Own.{newest_altitude}
-use Rattle.craft_view.specs.Sight.{other_craft, sight_of}
+use Rattle.craft_view.specs.Sight.{other_craft, rank_of, sight_of}
 use Rattle.craft_view.specs.Views.{no_view, view_of}
 use Rattle.sens_table.specs.Levels.{level_at}
 
@@ -34,3 +34,13 @@ ResolvesAsOwn e own target cycle = IsTrue (is_some (other_craft e own target)) �
 -- In the own place, and past the last aircraft, nothing is seen.
 abbrev pub SeesNothing : Parts → ℕ → ℕ → ℕ → Type 0
 SeesNothing e own target cycle = other_craft e own target ≡ None → view_of e own target cycle ≡ no_view
+
+-- An aircraft has the same sight up to a cycle in two encounters.
+abbrev pub SeesAlike : Parts → Parts → ℕ → ℕ → Type 0
+SeesAlike e f own cycle = sight_of e own cycle ≡ sight_of f own cycle
+
+-- It then sees the same in each cycle up to that one, has the same ranks, and is one of as many aircraft.
+pub record IsAlike (e f : Parts) (own cycle : ℕ) : Type 0 where
+  pub views : (target k : ℕ) → k ≤ cycle → view_of e own target k ≡ view_of f own target k
+  pub ranks : (target : ℕ) → rank_of e own target ≡ rank_of f own target
+  pub count : length e.crafts ≡ length f.crafts

@@ -1,16 +1,19 @@
 -- What an aircraft may know of the air up to a cycle.
 use Rattle.std.specs.Prelude.{ℕ, zero, suc, ◌==◌, if◌then◌else◌, ℤ, List, [], ◌∷◌, Option, None, option_map, slice_get}
-use Rattle.std.specs.Option.{option_and_then}
+use Rattle.std.specs.Option.{option_and_then, option_map_or}
 use Rattle.acas_base.specs.Encounter.{Parts}
+use Rattle.acas_base.specs.Next.{rank_by}
+use Rattle.acas_base.specs.declared.advisory.Rank.{Rank}
 use Rattle.acas_base.specs.declared.craft.CraftSpec.{CraftSpec}
 use Rattle.acas_base.specs.declared.craft.Gains.{Gains}
 use Rattle.acas_base.specs.declared.craft.Kind.{Kind}
 use Rattle.flight.specs.Measurement.{measurement, own_altitude}
 use Rattle.flight.specs.declared.measuring.Meas.{Meas}
 
--- Another aircraft: its kind, and what was measured of it in each cycle, the newest first.
+-- Another aircraft: its kind, the rank towards it, and what was measured of it in each cycle, the newest first.
 pub record Other : Type 0 where
   pub kind : Kind
+  pub rank : Rank
   pub seen : List (Option Meas)
 
 -- The gains of the tracks, the elevation of the ground in ft, own kind and ceiling, own altitudes in ft, the newest first,
@@ -29,13 +32,25 @@ abbrev pub newest_first : {X : Type 0} → (ℕ → X) → ℕ → List X
 newest_first f zero = []
 newest_first f (suc n) = f (suc n) ∷ newest_first f n
 
--- What an own aircraft knows of an aircraft at an index.
-abbrev pub known_of : Parts → ℕ → ℕ → ℕ → CraftSpec → Other
-known_of e own cycle index craft = record { kind = craft.kind; seen = newest_first (measurement e own index) cycle }
-
 -- The aircraft at an index, where it is another one.
 abbrev pub other_craft : Parts → ℕ → ℕ → Option CraftSpec
 other_craft e own index = if index == own then None else slice_get e.crafts index
+
+-- The address of the aircraft at an index; 0 past the last aircraft.
+abbrev pub address_of : Parts → ℕ → ℕ
+address_of e index = option_map_or (λ (craft : CraftSpec). craft.address) (slice_get e.crafts index) 0
+
+-- The rank that an own aircraft has towards the one at an index, where that is another one.
+abbrev pub rank_of : Parts → ℕ → ℕ → Option Rank
+rank_of e own index = option_map (λ (craft : CraftSpec). rank_by (address_of e own) craft.address craft.kind) (other_craft e own index)
+
+-- What an own aircraft knows of an aircraft at an index.
+abbrev pub known_of : Parts → ℕ → ℕ → ℕ → CraftSpec → Other
+known_of e own cycle index craft = record {
+  kind = craft.kind;
+  rank = rank_by (address_of e own) craft.address craft.kind;
+  seen = newest_first (measurement e own index) cycle;
+}
 
 -- What an own aircraft may know in a cycle.
 abbrev pub sight_of : Parts → ℕ → ℕ → Sight

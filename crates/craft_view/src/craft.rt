@@ -5,18 +5,16 @@ ghost use Rattle.craft_view.specs.Kept.{Belongs, Kept, IsActive, altitude_kept, 
 ghost use Rattle.craft_view.specs.Own.{own_of, AreRows};
 ghost use Rattle.craft_view.specs.Sight.{sight_of};
 ghost use Rattle.craft_view.specs.Views.{picture_of, view_of};
-ghost use Rattle.flight.specs.Bounds.{IsReachable};
-ghost use Rattle.flight.specs.Flight.{ArePlaces, position};
 ghost use Rattle.flight.specs.Inside.{IsInside};
 
-use crate::others::{is_other, place_of, step_tracks};
-use crate::own::{OwnAircraft, own_aircraft};
+use crate::others::{is_other, step_tracks};
+use crate::own::{OwnAircraft, own_of};
 use crate::pair::{no_view, view_by};
 use crate::tracks::Tracks;
 use acas_base::{CRAFTS, Encounter, Picture, View};
 use acas_num::TrackState;
 use alt_track::AltTrack;
-use flight::{Place, altitude_at, places_in};
+use flight::Places;
 use std::marker::Model;
 
 /// An active aircraft, which looks at the others once in each cycle of an encounter. It keeps a track
@@ -82,63 +80,61 @@ impl Craft {
         ensures belongs { Belongs encounter.now self.new }
     {
         // No run is longer than 600 cycles.
-        let _run = encounter.cycles();
-        let places = places_in(encounter, self.cycle + 1);
-        self.look_among(encounter, &places)
+        encounter.valid_law();
+        let places = Places::new(encounter, self.cycle + 1);
+        self.look_among(&places)
     }
 
-    /// What [`Craft::look`] gives and does, where it is known already where all aircraft are in that cycle, as
-    /// `flight::places_in` tells: all that look in a cycle can share these places.
+    /// What [`Craft::look`] gives and does, from the places in that next cycle: all that look in a cycle can
+    /// share them.
     // The caller's place for a picture is cleared first where this isn't inlined.
     #[inline(always)]
-    pub fn look_among(&mut self, encounter: &Encounter, places: &[Place; CRAFTS]) -> Picture
-        requires belongs { Belongs encounter.now self.old }
-        requires left { self.old.cycle < encounter.now.cycles }
-        requires places { ArePlaces encounter.now (self.old.cycle + 1) places.now }
-        ensures picture { result ≡ picture_of encounter.now self.old.own (self.old.cycle + 1) }
+    pub fn look_among(&mut self, places: &Places) -> Picture
+        requires belongs { Belongs places.now.encounter self.old }
+        requires left { self.old.cycle < places.now.encounter.cycles }
+        requires next { places.now.cycle ≡ self.old.cycle + 1 }
+        ensures picture { result ≡ picture_of places.now.encounter self.old.own (self.old.cycle + 1) }
         ensures own { self.new.own ≡ self.old.own }
         ensures cycle { self.new.cycle ≡ self.old.cycle + 1 }
-        ensures belongs { Belongs encounter.now self.new }
+        ensures belongs { Belongs places.now.encounter self.new }
     {
-        // No encounter has more than 16 aircraft.
-        let _run = encounter.cycles();
-        self.step(encounter, places);
-        self.picture(encounter, place_of(places, self.own))
+        self.step(places);
+        self.picture(places)
     }
 
-    // Each track goes on by what is measured in the next cycle, from where own aircraft is then. Inlined into
-    // [`Craft::look`], it would keep the compiler from seeing that a cleared picture is written whole.
+    // Each track goes on by what is measured in the next cycle. Inlined into [`Craft::look`], it would keep the
+    // compiler from seeing that a cleared picture is written whole.
     #[inline(never)]
-    fn step(&mut self, encounter: &Encounter, places: &[Place; CRAFTS])
-        requires belongs { Belongs encounter.now self.old }
-        requires left { self.old.cycle < encounter.now.cycles }
-        requires places { ArePlaces encounter.now (self.old.cycle + 1) places.now }
+    fn step(&mut self, places: &Places)
+        requires belongs { Belongs places.now.encounter self.old }
+        requires left { self.old.cycle < places.now.encounter.cycles }
+        requires next { places.now.cycle ≡ self.old.cycle + 1 }
         ensures own { self.new.own ≡ self.old.own }
         ensures cycle { self.new.cycle ≡ self.old.cycle + 1 }
-        ensures belongs { Belongs encounter.now self.new }
+        ensures belongs { Belongs places.now.encounter self.new }
     {
+        let encounter = places.encounter();
         // No run is longer than 600 cycles.
-        let _run = encounter.cycles();
+        encounter.valid_law();
         let own = self.own;
-        let cycle = self.cycle + 1;
-        let altitude = altitude_at(place_of(places, own));
+        let altitude = places.own_altitude(own);
         self.altitude
             .step(Some(altitude), encounter.altitude_gains());
-        step_tracks(&mut self.tracks, encounter, places, own, cycle);
-        self.cycle = cycle;
+        step_tracks(&mut self.tracks, places, own);
+        self.cycle += 1;
     }
 
     // The picture of the present cycle.
     #[inline(always)]
     #[tactic(auto, unfolding(crate::specs::Views::picture_of))]
-    fn picture(&self, encounter: &Encounter, here: &Place) -> Picture
-        requires belongs { Belongs encounter.now self.now }
+    fn picture(&self, places: &Places) -> Picture
+        requires belongs { Belongs places.now.encounter self.now }
         requires begun { 1 ≤ self.now.cycle }
-        requires here { here.now ≡ position encounter.now self.now.own self.now.cycle }
-        requires reachable { IsReachable here.now }
-        ensures { result ≡ picture_of encounter.now self.now.own self.now.cycle }
+        requires present { places.now.cycle ≡ self.now.cycle }
+        ensures { result ≡ picture_of places.now.encounter self.now.own self.now.cycle }
     {
-        let own = own_aircraft(encounter, here, self.own, self.cycle);
+        let own = own_of(places, self.own);
+        let encounter = places.encounter();
         Picture {
             own: self.own,
             cycle: self.cycle,

@@ -1,11 +1,10 @@
 // The two tests of an advisory.
-ghost use Rattle.std.specs.Prelude.{◌≡◌, ◌↔◌, ℤ, ◌-ℤ◌, IsTrue};
-ghost use Rattle.acas_base.specs.declared.level.Row.{Row};
-ghost use Rattle.craft_view.specs.Hits.{is_altitude_hit, is_hit, is_range_hit};
+ghost use Rattle.std.specs.Prelude.{◌≡◌, ◌-ℤ◌};
+ghost use Rattle.craft_view.specs.Hits.{is_hit};
 ghost use Rattle.craft_view.specs.KnownTracks.{IsMotion, IsRangeEstimate};
 ghost use Rattle.sens_table.specs.Levels.{IsTableRow};
-ghost use Rattle.tau_test.specs.RangeTest.{IsRangeHit};
-ghost use Rattle.vert_test.specs.AltTest.{IsAltHit};
+ghost use Rattle.tau_test.specs.RangeTest.{is_range_hit};
+ghost use Rattle.vert_test.specs.AltTest.{is_altitude_hit};
 
 use crate::motion::{Estimate, Motion, difference};
 use acas_base::Row;
@@ -38,10 +37,3 @@ fn is_altitude_hit(motion: &Motion, row: &Row) -> bool
     let rate = difference(motion.target.rate, motion.own.rate);
     alt_test(height, rate, row)
 }
-
-/// A law: the truth values of the range test and of the altitude test that stand in a view are true
-/// exactly where the tests hold.
-pub fn hits_law()
-    ensures range { (r rdot : ℤ) (row : Row) → IsTrue (is_range_hit r rdot row) ↔ IsRangeHit r rdot row }
-    ensures altitude { (dz dzdot : ℤ) (row : Row) → IsTrue (is_altitude_hit dz dzdot row) ↔ IsAltHit dz dzdot row }
-{}

@@ -1,7 +1,7 @@
-// What every view keeps.
+// What every view keeps, and what it follows from.
 ghost use Rattle.std.specs.Prelude.{ℕ};
 ghost use Rattle.acas_base.specs.Encounter.{Parts};
-ghost use Rattle.craft_view.specs.Facts.{ResolvesAsOwn, SeesNothing, Threatens};
+ghost use Rattle.craft_view.specs.Facts.{IsAlike, ResolvesAsOwn, SeesAlike, SeesNothing, Threatens};
 
 /// A law: a threat is only seen where the pair is tested and the view resolves; the view of another
 /// aircraft resolves exactly where own aircraft gives resolution advisories and its sensitivity level
@@ -10,4 +10,10 @@ pub fn view_law()
     ensures threat { (e : Parts) (own target cycle : ℕ) → Threatens e own target cycle }
     ensures resolves { (e : Parts) (own target cycle : ℕ) → ResolvesAsOwn e own target cycle }
     ensures nothing { (e : Parts) (own target cycle : ℕ) → SeesNothing e own target cycle }
+{}
+
+/// A law: an aircraft that has equal sights of two encounters up to a cycle has equal views in all cycles up
+/// to it, and equal ranks, and both encounters have as many aircraft.
+pub fn sight_law()
+    ensures { (e f : Parts) (own cycle : ℕ) → SeesAlike e f own cycle → IsAlike e f own cycle }
 {}

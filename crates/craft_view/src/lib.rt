@@ -12,8 +12,7 @@ mod separations;
 mod tracks;
 
 pub use craft::Craft;
-pub use hits::hits_law;
-pub use laws::view_law;
+pub use laws::{sight_law, view_law};
 pub use own::is_active;
 
 #[cfg(test)]

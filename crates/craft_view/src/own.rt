@@ -1,17 +1,14 @@
 // Own aircraft, and what it brings into each of its views.
 ghost use Rattle.std.specs.Prelude.{◌≡◌, ◌↔◌, ◌<◌, ◌≤◌, ◌-ℤ◌, length, Some, IfSome, IsTrue};
-ghost use Rattle.acas_base.specs.Encounter.{is_active_kind};
 ghost use Rattle.acas_base.specs.Ranges.{IsWithin};
 ghost use Rattle.craft_view.specs.Kept.{IsActive};
 ghost use Rattle.craft_view.specs.Own.{own_at, own_of, resolution_row, may_climb, AreRows};
 ghost use Rattle.craft_view.specs.Sight.{sight_of};
-ghost use Rattle.flight.specs.Bounds.{IsReachable};
-ghost use Rattle.flight.specs.Flight.{position};
 ghost use Rattle.flight.specs.Inside.{IsInside};
 ghost use Rattle.sens_table.specs.Levels.{IsLevel, IsTableRow};
 
 use acas_base::{CraftSpec, Encounter, Kind, Level, Row};
-use flight::{Place, altitude_at};
+use flight::Places;
 use sens_table::level_of;
 
 // The thresholds of advisories at own altitude, none of a resolution advisory where own aircraft
@@ -31,34 +28,23 @@ pub fn is_active(encounter: &Encounter, own: u8) -> bool
     ensures { IsTrue result ↔ IsActive encounter.now own }
 {
     match encounter.crafts().get(usize::from(own)) {
-        Some(craft) => advises(craft.kind),
+        Some(craft) => craft.is_active(),
         None => false,
     }
 }
 
-fn advises(kind: Kind) -> bool
-    ensures { result ≡ is_active_kind kind }
-{
-    match kind {
-        Kind::Ra | Kind::Ta => true,
-        Kind::Xpdr => false,
-    }
-}
-
-// What own aircraft brings into its views in a cycle, from `here`, where it is then.
-pub(crate) fn own_aircraft(encounter: &Encounter, here: &Place, own: u8, cycle: u16) -> OwnAircraft
-    requires here { here.now ≡ position encounter.now own cycle }
-    requires reachable { IsReachable here.now }
-    requires inside { IsInside encounter.now }
-    requires own { own < length encounter.now.crafts }
-    requires begun { 1 ≤ cycle }
-    requires run { cycle ≤ encounter.now.cycles }
-    ensures value { result ≡ own_of (sight_of encounter.now own cycle) }
+// What own aircraft brings into its views in a cycle.
+pub(crate) fn own_of(places: &Places, own: u8) -> OwnAircraft
+    requires own { own < length places.now.encounter.crafts }
+    requires inside { IsInside places.now.encounter }
+    requires begun { 1 ≤ places.now.cycle }
+    requires run { places.now.cycle ≤ places.now.encounter.cycles }
+    ensures value { result ≡ own_of (sight_of places.now.encounter own places.now.cycle) }
     ensures rows { AreRows result }
 {
+    let encounter = places.encounter();
     let spec = &encounter.crafts()[usize::from(own)];
-    let altitude = altitude_at(here);
-    own_at(spec, altitude, encounter.ground())
+    own_at(spec, places.own_altitude(own), encounter.ground())
 }
 
 // What follows from own kind and ceiling, the altitude and the elevation of the ground, in ft.

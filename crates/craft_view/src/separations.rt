@@ -1,7 +1,7 @@
 // The vertical separations at closest approach.
 ghost use Rattle.std.specs.Prelude.{◌≡◌, ◌≤◌, ◌^◌, pos, ◌+ℤ◌, ◌-ℤ◌, ◌*ℤ◌, unsigned_abs, map};
 ghost use Rattle.std.specs.Int.{int_div_euclid};
-ghost use Rattle.acas_base.specs.Strengths.{floor_of, weakest_first};
+ghost use Rattle.acas_base.specs.Strengths.{weakest_first};
 ghost use Rattle.craft_view.specs.Separations.{apart, asked_rate, halves_to, kept_after, own_after, separation, separations, IsApproach, IsResponse};
 ghost use Rattle.craft_view.specs.KnownTracks.{IsAltitudeEstimate, IsMotion, IsRangeEstimate};
 ghost use Rattle.sens_table.specs.Levels.{IsTableRow};
@@ -224,24 +224,9 @@ fn asked_rate(sense: Sense, strength: Strength, rate: i64) -> i64
     ensures value { result ≡ asked_rate sense strength rate }
     ensures bound { unsigned_abs result ≤ 2 ^ 20 }
 {
-    let floor = floor_of(strength);
+    let floor = strength.floor();
     match sense {
         Sense::Up => rate.max(floor),
         Sense::Down => rate.min(-floor),
-    }
-}
-
-// The vertical rate in its sense that a strength asks for at least.
-fn floor_of(strength: Strength) -> i64
-    ensures value { result ≡ floor_of strength }
-    ensures bound { unsigned_abs result ≤ 2 ^ 18 }
-{
-    match strength {
-        Strength::Limit2000 => -34_133,
-        Strength::Limit1000 => -17_066,
-        Strength::Limit500 => -8_533,
-        Strength::Level => 0,
-        Strength::Positive => 25_600,
-        Strength::Increase => 42_666,
     }
 }

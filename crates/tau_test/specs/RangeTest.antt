@@ -1,6 +1,6 @@
 -- The range test: is the other aircraft close, or will it soon be?
 -- Ranges and DMOD are in 1/1024 ft, range rates in 1/1024 ft/s, TAU in s.
-use Rattle.std.specs.Prelude.{ℕ, ◌-◌, ◌*◌, ◌≤◌, ◌⊎◌, ℤ, pos, ◌≤ℤ◌, ◌<ℤ◌, unsigned_abs}
+use Rattle.std.specs.Prelude.{ℕ, ◌-◌, ◌*◌, ◌≤◌, ◌⊎◌, ◌||◌, ◌&&◌, Bool, nat_le, ℤ, pos, ◌≤ℤ◌, ◌<ℤ◌, int_le, int_lt, unsigned_abs}
 use Rattle.acas_base.specs.declared.level.Row.{Row}
 use Rattle.acas_num.specs.Seconds.{need}
 
@@ -18,3 +18,8 @@ pub record IsClosingIn (r rdot : ℤ) (row : Row) : Type 0 where
 -- the range test: within DMOD, or closing in
 abbrev pub IsRangeHit : ℤ → ℤ → Row → Type 0
 IsRangeHit r rdot row = (r ≤ℤ row.dmod) ⊎ IsClosingIn r rdot row
+
+-- the same as a truth value, so that what is seen is a function of what is known
+unfoldable pub is_range_hit : ℤ → ℤ → Row → Bool
+is_range_hit r rdot row =
+    int_le r row.dmod || (int_lt rdot (pos 0) && nat_le (modified_tau (unsigned_abs r) (unsigned_abs rdot) (unsigned_abs row.dmod)) (unsigned_abs row.tau))

@@ -3,4 +3,4 @@
 
 mod range;
 
-pub use range::range_test;
+pub use range::{range_test, range_test_law};

@@ -1,7 +1,8 @@
 // The range test.
 ghost use Rattle.std.specs.Prelude.{◌≡◌, ◌↔◌, IsTrue, ◌<◌, ◌≤◌, ◌^◌, ◌*◌, ℤ, pos, unsigned_abs};
 ghost use Rattle.acas_base.specs.Ranges.{IsBetween};
-ghost use Rattle.tau_test.specs.RangeTest.{modified_tau, IsRangeHit};
+ghost use Rattle.acas_base.specs.declared.level.Row.{Row};
+ghost use Rattle.tau_test.specs.RangeTest.{modified_tau, is_range_hit, IsRangeHit};
 
 use acas_base::Row;
 
@@ -43,6 +44,11 @@ fn is_soon(r: u64, rate: u64, dmod: u64, tau: u64) -> bool
 {
     r * r - dmod * dmod <= tau * (r * rate)
 }
+
+/// A law: the truth value of the range test is true exactly where the test holds.
+pub fn range_test_law()
+    ensures { (r rdot : ℤ) (row : Row) → IsTrue (is_range_hit r rdot row) ↔ IsRangeHit r rdot row }
+{}
 
 #[cfg(test)]
 mod tests {

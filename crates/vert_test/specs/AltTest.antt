@@ -1,6 +1,6 @@
 -- The altitude test: is the other aircraft at nearly the same altitude, or will it soon be?
 -- Heights and ZTHR are in 1/1024 ft, height rates in 1/1024 ft/s, TAU in s.
-use Rattle.std.specs.Prelude.{◌≤◌, ◌⊎◌, ℤ, pos, ◌<ℤ◌, unsigned_abs}
+use Rattle.std.specs.Prelude.{◌≤◌, ◌⊎◌, ◌||◌, ◌&&◌, Bool, nat_le, ℤ, pos, ◌<ℤ◌, int_lt, unsigned_abs}
 use Rattle.acas_base.specs.declared.level.Row.{Row}
 use Rattle.acas_num.specs.Seconds.{need}
 
@@ -16,3 +16,12 @@ pub record IsConvergingIn (dz dzdot : ℤ) (row : Row) : Type 0 where
 -- the altitude test: within ZTHR, or converging in time
 abbrev pub IsAltHit : ℤ → ℤ → Row → Type 0
 IsAltHit dz dzdot row = (unsigned_abs dz ≤ unsigned_abs row.zthr) ⊎ IsConvergingIn dz dzdot row
+
+-- the same as a truth value, so that what is seen is a function of what is known
+abbrev pub are_opposite : ℤ → ℤ → Bool
+are_opposite a b = (int_lt a (pos 0) && int_lt (pos 0) b) || (int_lt (pos 0) a && int_lt b (pos 0))
+
+unfoldable pub is_altitude_hit : ℤ → ℤ → Row → Bool
+is_altitude_hit dz dzdot row =
+    nat_le (unsigned_abs dz) (unsigned_abs row.zthr)
+    || (are_opposite dz dzdot && nat_le (need (unsigned_abs dz) (unsigned_abs dzdot)) (unsigned_abs row.tau))

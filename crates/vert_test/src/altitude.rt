@@ -2,7 +2,8 @@
 ghost use Rattle.std.specs.Prelude.{◌≡◌, ◌↔◌, IsTrue, ◌<◌, ◌≤◌, ◌^◌, ℤ, pos, unsigned_abs};
 ghost use Rattle.acas_base.specs.Ranges.{IsBetween};
 ghost use Rattle.acas_num.specs.Seconds.{need};
-ghost use Rattle.vert_test.specs.AltTest.{AreOpposite, IsAltHit};
+ghost use Rattle.acas_base.specs.declared.level.Row.{Row};
+ghost use Rattle.vert_test.specs.AltTest.{AreOpposite, IsAltHit, is_altitude_hit};
 
 use acas_base::Row;
 
@@ -45,6 +46,11 @@ fn is_soon(height: u64, rate: u64, tau: u64) -> bool
 {
     height <= tau * rate
 }
+
+/// A law: the truth value of the altitude test is true exactly where the test holds.
+pub fn alt_test_law()
+    ensures { (dz dzdot : ℤ) (row : Row) → IsTrue (is_altitude_hit dz dzdot row) ↔ IsAltHit dz dzdot row }
+{}
 
 #[cfg(test)]
 mod tests {

@@ -18,6 +18,6 @@ loop-target-preserved c =
           (λ k h. let ne : k ≢ t = omega arith in get_or-set_other xs t k next no_tracks ne ∙ c.loop-target.invariant.done k h)
           (get_or-set_same xs t next no_tracks within
           ∙ c.step_place.ensures
-          ∙ ap (λ (s : Tracks). tracks_then c.args.encounter.now c.args.own c.args.cycle t s) before);
+          ∙ ap (λ (s : Tracks). tracks_then c.args.places.now.encounter c.args.own c.args.places.now.cycle t s) before);
       rest = λ k h. let ne : k ≢ t = omega arith in get_or-set_other xs t k next no_tracks ne ∙ c.loop-target.invariant.rest k (omega arith);
     }
