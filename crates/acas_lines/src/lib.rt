@@ -1,0 +1,12 @@
+//! Texts going out, as lines that are put one after the other into what takes them.
+#![tactic(auto)]
+
+mod batch;
+mod lines;
+mod writer;
+
+pub use lines::{LineSink, Text};
+pub use writer::write_text;
+
+#[cfg(test)]
+mod tests;
