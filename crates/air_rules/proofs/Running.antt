@@ -1,5 +1,5 @@
 -- What j sends in its present run.
-use Rattle.std.proofs.Common.{◌≡◌, ℕ, ◌<◌, Bool, true, false, eqb, List, [], ◌∷◌, length, Option, Some, None, unwrap_or, is_some, sym, refl, ap, ◌∙◌, subst, subst₂, arith, inl, inr, eqb-true, eq-eqb}
+use Rattle.std.proofs.Common.{◌≡◌, ◌↔◌, ◌⊎◌, ℕ, ◌<◌, ◌≤◌, IsSome, Bool, true, false, eqb, List, [], ◌∷◌, length, Option, Some, None, unwrap_or, is_some, sym, refl, ap, ◌∙◌, subst, subst₂, arith, inl, inr, eqb-true, eq-eqb}
 use Rattle.std.proofs.lemmas.Bool.{cond-false, cond-true, cases_Bool, and_parts}
 use Rattle.acas_base.specs.Complements.{cancelled_complement, complement_of}
 use Rattle.acas_base.specs.Messages.{cancel_of, message_for}
@@ -14,13 +14,14 @@ use Rattle.acas_base.specs.declared.advisory.Vrc.{Vrc}
 use Rattle.acas_base.specs.declared.advisory.Vrc.TheVariants.{Nil, NotAbove, NotBelow}
 use Rattle.acas_base.specs.declared.entry.Entry.{Entry}
 use Rattle.acas_base.specs.declared.entry.Entry.TheVariants.{Commit, Send, Take}
+use Rattle.air_rules.proofs.Beginnings.{begins_length}
 use Rattle.air_rules.proofs.Legal.{allowed, earlier}
 use Rattle.air_rules.proofs.Positions.{chosen, sent_within}
 use Rattle.air_rules.specs.Air.{Air, IsMessageOf, is_ra}
-use Rattle.air_rules.specs.Journal.{Sent, WasSent, cell_at, last_cell, sent_at}
+use Rattle.air_rules.specs.Journal.{Begins, Sent, WasSent, cell_at, last_cell, more, sent_at, whole}
 use Rattle.air_rules.specs.Owed.{has_many_threats, may_owe, owed, said}
 use Rattle.air_rules.specs.Rules.{IsLegal}
-use Rattle.air_rules.specs.Runs.{HasRunBySense, run_began}
+use Rattle.air_rules.specs.Runs.{BeginsRun, HasRunBySense, run_began}
 
 same_true : (s t : Sense) → is_same_sense s t ≡ true → s ≡ t
 same_true Up Up e = refl
@@ -185,9 +186,53 @@ run_there (Commit own cycle cells ∷ K) j i t e =
 run_there (Send own target number word ∷ K) j i t e = run_there K j i t e
 run_there (Take own p c good ∷ K) j i t e = run_there K j i t e
 
-pub has_run_by_sense : HasRunBySense
-has_run_by_sense K j i t = (λ e. ap is_some (run_there K j i t e).1, λ h. go (run_began K j i t) refl h)
+run_by_sense : (K : List Entry) (j i : ℕ) (t : Sense) → (sense_of (last_cell K j i) ≡ Some t) ↔ IsSome (run_began K j i t)
+run_by_sense K j i t = (λ e. ap is_some (run_there K j i t e).1, λ h. go (run_began K j i t) refl h)
   where
     go : (o : Option ℕ) → run_began K j i t ≡ o → is_some o ≡ true → sense_of (last_cell K j i) ≡ Some t
     go None e h = absurd (cc)
     go (Some b) e h = run_sense K j i t b e
+
+-- A commit in a longer journal is its last entry, or stands in the shorter one.
+commit_in : {x : Entry} {K : List Entry} (j c : ℕ) (cells : Cells) (L : List Entry) → Begins (Commit j c cells ∷ L) (x ∷ K) → (Commit j c cells ≡ x) ⊎ Begins (Commit j c cells ∷ L) K
+commit_in j c cells L whole = inl refl
+commit_in j c cells L (more b) = inr b
+
+-- A run that is older than an entry goes on past it, where the entry is no commit of the aircraft or has the sense.
+begins_more : (x : Entry) (K : List Entry) (j i b : ℕ) (t : Sense) → ((c : ℕ) (cells : Cells) → Commit j c cells ≡ x → sense_of (cell_at cells i) ≡ Some t) → BeginsRun K j i t b → BeginsRun (x ∷ K) j i t b
+begins_more x K j i b t has r = record {
+  before = r.before;
+  cycle = r.cycle;
+  cells = r.cells;
+  commit = more r.commit;
+  position = r.position;
+  lasts = λ L c cells is h. elim (commit_in j c cells L is) [ inl e ↦ has c cells e | inr in_K ↦ r.lasts L c cells in_K h ];
+  starts = r.starts;
+}
+
+begins_run : (K : List Entry) (j i : ℕ) (t : Sense) (b : ℕ) → run_began K j i t ≡ Some b → BeginsRun K j i t b
+begins_run [] j i t b e = absurd (cc)
+begins_run (Commit own cycle cells ∷ K) j i t b e =
+    let x = Commit own cycle cells in
+    let ih = begins_run K j i t b in
+    elim (run_step own cycle cells K j i t b e) [
+      | starts q s o h ↦ record {
+        before = K;
+        cycle = cycle;
+        cells = cells;
+        commit = subst (λ (k : ℕ). Begins (Commit k cycle cells ∷ K) (x ∷ K)) q whole;
+        position = h;
+        lasts = λ L c other is later. elim (commit_in j c other L is) [
+          | inl f ↦ let g : other ≡ cells = cc in subst (λ (z : Cells). sense_of (cell_at z i) ≡ Some t) (sym g) s
+          | inr in_K ↦ absurd (let k : length (Commit j c other ∷ L) ≤ length K = begins_length (Commit j c other ∷ L) K in_K in omega arith)
+        ];
+        starts = λ f. let there : is_some (run_began K j i t) ≡ true = (run_by_sense K j i t).0 f in let none : is_some (run_began K j i t) ≡ false = ap is_some o in let z : true ≡ false = sym there ∙ none in cc;
+      }
+      | lasts q s o ↦ begins_more x K j i b t (λ c other f. let g : other ≡ cells = cc in subst (λ (z : Cells). sense_of (cell_at z i) ≡ Some t) (sym g) s) (ih o)
+      | stays q o ↦ begins_more x K j i b t (λ c other f. let g : j ≡ own = cc in absurd (let z : false ≡ true = sym q ∙ eq-eqb own j (sym g) in cc)) (ih o)
+    ]
+begins_run (Send own target number word ∷ K) j i t b e = begins_more (Send own target number word) K j i b t (λ c cells f. absurd (cc)) (begins_run K j i t b e)
+begins_run (Take own p c good ∷ K) j i t b e = begins_more (Take own p c good) K j i b t (λ c cells f. absurd (cc)) (begins_run K j i t b e)
+
+pub has_run_by_sense : HasRunBySense
+has_run_by_sense = record { there = run_by_sense; began = begins_run }
