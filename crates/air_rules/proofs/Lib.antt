@@ -20,5 +20,7 @@ pub mod EntryKinds
 pub mod FewSends
 pub mod FewTakes
 pub mod Longest
-pub mod ExampleAir
+pub mod Deciding
+pub mod ExampleWords
 pub mod ExampleSteps
+pub mod ThreeAircraftSteps

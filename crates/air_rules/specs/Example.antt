@@ -5,6 +5,7 @@ use Rattle.std.specs.Prelude.{◌≡◌, ℕ, zero, suc, ◌+◌, ◌*◌, Bool,
 use Rattle.std.specs.List.{range_with_len}
 use Rattle.acas_base.specs.Complements.{forbidden_sense}
 use Rattle.acas_base.specs.Encounter.{no_copy}
+use Rattle.acas_base.specs.Senses.{sense_of}
 use Rattle.acas_base.specs.declared.advisory.Cell.{Cell}
 use Rattle.acas_base.specs.declared.advisory.Cell.TheVariants.{Clear, Ra}
 use Rattle.acas_base.specs.declared.advisory.ResMsg.{ResMsg}
@@ -19,12 +20,13 @@ use Rattle.acas_base.specs.declared.entry.Entry.{Entry}
 use Rattle.acas_base.specs.declared.entry.Entry.TheVariants.{Commit, Send, Take}
 use Rattle.acas_base.specs.declared.view.Seps.{Seps}
 use Rattle.acas_base.specs.declared.view.View.{View}
-use Rattle.air_rules.specs.Air.{Air, IsSound}
-use Rattle.air_rules.specs.Journal.{count_of, entries_after}
+use Rattle.air_rules.specs.Air.{Air, IsSecond, IsSound}
+use Rattle.air_rules.specs.Journal.{WasSent, count_of, entries_after, last_cell, was_taken}
 use Rattle.air_rules.specs.Priority.{advises}
 use Rattle.air_rules.specs.Rules.{IsLegal, IsComplete}
 use Rattle.air_rules.specs.Runs.{run_began}
 use Rattle.air_rules.specs.Serial.{IsSerial}
+use Rattle.air_rules.specs.Settled.{IsBoundBy, IsPlainLink, TakesInOrder}
 use Rattle.air_rules.specs.Takes.{complement_from, vrc_in_force}
 
 -- The limits and Level leave the aircraft at one altitude, to climb or to descend gives more than the 600 ft to aim
@@ -67,7 +69,7 @@ digit_of NotBelow = 1
 digit_of NotAbove = 2
 
 -- In this air a word has four digits: the complement set, the one cancelled, whether there are many threats, and the
--- sender.
+-- sender's address.
 abbrev pub word_of : ResMsg → ℕ
 word_of message = 1000 * digit_of message.vrc + 100 * digit_of message.cancel + 10 * (if message.many then 1 else 0) + message.sender
 
@@ -77,7 +79,11 @@ messages_of sender =
     flat_map (λ vrc. flat_map (λ cancel. map (λ many. record { many = many; cancel = cancel; vrc = vrc; sender = sender }) (false ∷ true ∷ [])) (Nil ∷ NotBelow ∷ NotAbove ∷ [])) (Nil ∷ NotBelow ∷ NotAbove ∷ [])
 
 abbrev pub read_word : ℕ → Option ResMsg
-read_word word = find (λ message. word_of message == word) (messages_of 1 ++ messages_of 2)
+read_word word = find (λ message. word_of message == word) (messages_of 1 ++ messages_of 2 ++ messages_of 3)
+
+-- Any mask but 0 spoils a word.
+abbrev pub flip : ℕ → ℕ → ℕ
+flip word mask = if mask == 0 then word else 0
 
 abbrev pub example : Air
 example = record {
@@ -90,7 +96,7 @@ example = record {
   view = λ own other cycle. view_of (is_here own);
   word = word_of;
   read = read_word;
-  flip = λ word mask. if mask == 0 then word else 0;
+  flip = flip;
 }
 
 -- To climb or to descend at 1500 ft/min.
@@ -123,6 +129,13 @@ second_round =
     Take 0 9 0 true ∷
     Take 1 8 0 true ∷
     []
+
+-- The whole of it, and its beginning up to the second aircraft's second commit.
+abbrev pub worked : List Entry
+worked = reverse (first_round ++ second_round)
+
+abbrev pub told : List Entry
+told = reverse (first_round ++ take 2 second_round)
 
 -- The same with one thing wrong in the end.
 abbrev pub wrong_sense : List Entry
@@ -171,12 +184,27 @@ pub record IsInForce : Type 0 where
   pub binds : complement_after 31 ≡ NotAbove
   pub lapses : complement_after 32 ≡ Nil
 
+-- What the laws ask for before they promise opposite senses can hold together. The second aircraft gives way; the first
+-- one's messages go over a plain link, are taken in order, and were taken; at its second commit the second one is bound
+-- by a message that was sent after the first one's present run began; and both advise against each other.
+pub record MeetsPremises : Type 0 where
+  pub second : IsSecond example 1 0
+  pub plain : IsPlainLink example worked 0 1
+  pub in_order : TakesInOrder worked 1 0
+  pub taken : was_taken worked 1 8 0 ≡ true
+  pub mine : sense_of (last_cell told 1 0) ≡ Some Down
+  pub theirs : sense_of (last_cell told 0 1) ≡ Some Up
+  pub run : run_began told 0 1 Up ≡ Some 0
+  pub sent : WasSent told 2 0 1 (record { sender = 0; receiver = 1; number = 1; word = 2001 })
+  pub bound : IsBoundBy example told 1 0 (record { send = 2; vrc = NotAbove; commits = 1 })
+
 -- What the rules say of it.
 pub record IsWorkedOut : Type 0 where
   pub sound : IsSound example
-  pub serial : IsSerial example (reverse (first_round ++ second_round))
-  pub legal : IsLegal example (reverse (first_round ++ second_round))
-  pub complete : IsComplete example (reverse (first_round ++ second_round))
+  pub serial : IsSerial example worked
+  pub legal : IsLegal example worked
+  pub complete : IsComplete example worked
+  pub premises : MeetsPremises
   pub sense : IsLegal example (reverse wrong_sense) → ⊥
   pub word : IsLegal example (reverse wrong_word) → ⊥
   pub order : IsLegal example (reverse wrong_order) → ⊥

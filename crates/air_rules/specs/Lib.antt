@@ -14,3 +14,4 @@ pub mod Serial
 pub mod Length
 pub mod Own
 pub mod Example
+pub mod ThreeAircraft

@@ -1,8 +1,19 @@
-// A worked journal.
+// Worked journals.
 ghost use Rattle.air_rules.specs.Example.{IsWorkedOut};
+ghost use Rattle.air_rules.specs.ThreeAircraft.{IsWorkedOutForThree};
 
 /// Two aircraft in conflict: their worked journal is the serial one, legal and complete. With one wrong
-/// sense, one wrong word, a take before its send, or a commit past a due copy it isn't legal.
+/// sense, one wrong word, a take before its send, or a commit past a due copy it isn't legal. The
+/// premises of the laws about opposite senses hold of it.
 pub fn example_law()
     ensures { IsWorkedOut }
+{}
+
+/// Three aircraft, of which one has two threats, with copies that are doubled, spoilt, held back and
+/// lost, and an advisory that starts late and ends: their worked journal is the serial one, legal and
+/// complete. A held copy is taken as soon as its receiver has made the commits, whatever the others
+/// have made. What is sent or taken twice, too early, in the wrong order or by another aircraft isn't
+/// legal.
+pub fn three_aircraft_law()
+    ensures { IsWorkedOutForThree }
 {}

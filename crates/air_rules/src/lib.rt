@@ -13,6 +13,6 @@ mod own;
 mod progress;
 
 pub use coordination::{priority_law, safe_law, settled_law, worlds_law};
-pub use example::example_law;
+pub use example::{example_law, three_aircraft_law};
 pub use own::own_law;
 pub use progress::{beginning_law, length_law, onward_law, serial_law};

@@ -1,0 +1,101 @@
+-- The journal of three aircraft, by computation.
+use Rattle.std.proofs.Common.{◌≡◌, ℕ, zero, suc, ◌<◌, ◌≤◌, Bool, true, false, ◌&&◌, cond, eqb, List, [], ◌∷◌, length, sym, refl, ap, ◌∙◌, arith, inl, inr}
+use Rattle.acas_base.specs.Encounter.{no_copy}
+use Rattle.acas_base.specs.declared.advisory.ResMsg.{ResMsg}
+use Rattle.acas_base.specs.declared.advisory.Sense.TheVariants.{Down, Up}
+use Rattle.acas_base.specs.declared.link.CopyPlan.{CopyPlan}
+use Rattle.acas_base.specs.declared.view.View.{View}
+use Rattle.air_rules.proofs.Deciding.{legal_by, serial_by}
+use Rattle.air_rules.proofs.ExampleWords.{IsSender, apart, reads}
+use Rattle.air_rules.proofs.Legal.{allowed}
+use Rattle.air_rules.specs.Air.{IsMessageOf, IsSound, is_active, is_ra}
+use Rattle.air_rules.specs.Rules.{IsLegal}
+use Rattle.air_rules.specs.Serial.{IsSerial}
+use Rattle.air_rules.specs.ThreeAircraft.{RefusesOthers, copies_of, ends_in_three, goes_ahead, held, near, quiet, spoilt, starts_in_three, starts_in_two, three, threat, view_of, worked}
+
+-- What holds of both holds of either.
+either : {X : Type 0} (P : X → Type 0) (b : Bool) (x y : X) → P x → P y → P (cond b x y)
+either P true x y p q = p
+either P false x y p q = q
+
+abbrev AreFew : List CopyPlan → Type 0
+AreFew copies = length copies ≤ 3
+
+few : (sender receiver number : ℕ) → AreFew (copies_of sender receiver number)
+few sender receiver number =
+    let one = λ (copies : List CopyPlan) (h : AreFew copies) (b : Bool) (rest : List CopyPlan) (g : AreFew rest). either AreFew b copies rest h g in
+    one (no_copy ∷ spoilt ∷ []) (omega arith) (eqb sender 0 && (eqb receiver 1 && eqb number 1)) _
+    (one (held ∷ []) (omega arith) (eqb sender 0 && (eqb receiver 2 && eqb number 1)) _
+    (one [] (omega arith) (eqb sender 0 && (eqb receiver 2 && eqb number 2)) (no_copy ∷ []) (omega arith)))
+
+counted : (own : ℕ) → is_active three own ≡ true → own < 3
+counted zero e = omega arith
+counted (suc zero) e = omega arith
+counted (suc (suc zero)) e = omega arith
+counted (suc (suc (suc n))) e = absurd (cc)
+
+abbrev Threatens : View → Type 0
+Threatens view = view.threat ≡ true → view.resolves ≡ true
+
+no_threat : (view : View) → view.threat ≡ false → Threatens view
+no_threat view none e = absurd (let f : true ≡ false = sym e ∙ none in cc)
+
+threat_ends : (cycle : ℕ) → Threatens (ends_in_three cycle)
+threat_ends cycle =
+    either Threatens (eqb cycle 2) (threat Up) (cond (eqb cycle 3) near quiet) (λ e. refl)
+    (either Threatens (eqb cycle 3) near quiet (no_threat near refl) (no_threat quiet refl))
+
+threat_starts : (cycle : ℕ) → Threatens (starts_in_two cycle)
+threat_starts cycle = either Threatens (eqb cycle 1) quiet (threat Down) (no_threat quiet refl) (λ e. refl)
+
+threat_starts_later : (cycle : ℕ) → Threatens (starts_in_three cycle)
+threat_starts_later cycle =
+    either Threatens (eqb cycle 1) quiet (cond (eqb cycle 2) near (threat Up)) (no_threat quiet refl)
+    (either Threatens (eqb cycle 2) near (threat Up) (no_threat near refl) (λ e. refl))
+
+threatens : (own other cycle : ℕ) → Threatens (view_of own other cycle)
+threatens zero other cycle =
+    either Threatens (eqb other 1) (ends_in_three cycle) (cond (eqb other 2) (starts_in_two cycle) quiet) (threat_ends cycle)
+    (either Threatens (eqb other 2) (starts_in_two cycle) quiet (threat_starts cycle) (no_threat quiet refl))
+threatens (suc zero) other cycle = either Threatens (eqb other 0) (starts_in_three cycle) quiet (threat_starts_later cycle) (no_threat quiet refl)
+threatens (suc (suc own)) other cycle = no_threat quiet refl
+
+resolves : (own other cycle : ℕ) → (view_of own other cycle).resolves ≡ true → is_ra three own ≡ true
+resolves zero other cycle e = refl
+resolves (suc zero) other cycle e = refl
+resolves (suc (suc zero)) other cycle e = refl
+resolves (suc (suc (suc n))) other cycle e = absurd (cc)
+
+sender : (own : ℕ) (m : ResMsg) → IsMessageOf three own m → IsSender m.sender
+sender zero m is = inr (inl is.sender)
+sender (suc zero) m is = inr (inr is.sender)
+sender (suc (suc zero)) m is = inl is.sender
+sender (suc (suc (suc n))) m is = absurd (let e = is.resolves in cc)
+
+pub three_sound : IsSound three
+three_sound = record {
+  few = few;
+  counted = counted;
+  threatens = threatens;
+  resolves = resolves;
+  reads = λ own message is. reads message (sender own message is);
+  plain = λ word. refl;
+  apart = λ own sent copy plan message read is e r. apart message read plan.mask (sender own message is) r;
+}
+
+pub three_serial : IsSerial three worked
+three_serial = serial_by three three_sound worked refl refl refl
+
+pub ahead_legal : IsLegal three goes_ahead
+ahead_legal = legal_by three three_sound goes_ahead refl refl
+
+pub refuses_others : RefusesOthers
+refuses_others = record {
+  order_of_sends = λ l. let e = (allowed l).first_owed.first 1 (omega arith) in cc;
+  sent_twice = λ l. let e = (allowed l).first_owed.owes in cc;
+  cancelled_twice = λ l. let e = (allowed l).first_owed.owes in cc;
+  taken_twice = λ l. let e : false ≡ true = (allowed l).due in cc;
+  held_back = λ l. let e : false ≡ true = (allowed l).due in cc;
+  not_its_own = λ l. let e : false ≡ true = (allowed l).due in cc;
+  lost = λ l. let e : false ≡ true = (allowed l).due in cc;
+}
