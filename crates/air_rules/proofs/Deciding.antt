@@ -2,21 +2,19 @@
 use Rattle.std.proofs.Common.{◌≡◌, ◌⊎◌, ℕ, zero, suc, ◌+◌, ◌<◌, ◌≤◌, Bool, true, false, eqb, not, ◌&&◌, ◌||◌, List, [], ◌∷◌, length, Option, Some, None, is_some, nat_le, nat_lt, sym, refl, ap, ◌∙◌, subst, arith, inl, inr, ltb-true, leb-false, ltb-false, eqb-true, eq-eqb}
 use Rattle.std.proofs.lemmas.Bool.{and_parts, and_right, and_left, cases_Bool, cases_lt, cases_eq, not-true, or_cases}
 use Rattle.std.proofs.lemmas.Option.{slice_get_past}
-use Rattle.acas_base.specs.declared.advisory.Cells.{Cells}
 use Rattle.acas_base.specs.declared.advisory.ResMsg.{ResMsg}
 use Rattle.acas_base.specs.declared.entry.Entry.{Entry}
 use Rattle.acas_base.specs.declared.entry.Entry.TheVariants.{Commit, Send, Take}
-use Rattle.acas_base.specs.declared.link.CopyPlan.{CopyPlan}
 use Rattle.air_rules.proofs.Beginnings.{begins_length}
 use Rattle.air_rules.proofs.Positions.{sent_within}
 use Rattle.air_rules.proofs.Searching.{some_or_none}
 use Rattle.air_rules.proofs.Waiting.{nobody_owes, owed_within}
 use Rattle.air_rules.specs.Air.{Air, IsSound, copy_plan, is_active}
-use Rattle.air_rules.specs.Due.{NobodyIsDue, NothingDue, is_copy_due, is_due, is_free}
+use Rattle.air_rules.specs.Due.{NothingDue, is_copy_due, is_due, is_free}
 use Rattle.air_rules.specs.Journal.{Begins, Sent, commits, entries_after, is_take_of, more, sends, sent_at, was_taken, whole}
 use Rattle.air_rules.specs.Owed.{NobodyOwes, OwesNothing, owed}
 use Rattle.air_rules.specs.Rules.{IsAllowed, IsLegal, MaySend, MayTake, cells_for, empty, extended}
-use Rattle.air_rules.specs.Serial.{ComesNext, IsIdle, IsInOrder, IsSerial, IsTimeToCommit, IsUneven, followed, started}
+use Rattle.air_rules.specs.Serial.{ComesNext, IsInOrder, IsSerial, IsTimeToCommit, IsUneven, followed, started}
 use Rattle.air_rules.specs.Settled.{TakesInOrder}
 use Rattle.air_rules.specs.Takes.{read_copy}
 
@@ -356,7 +354,7 @@ taken_below [] own n s c e t = absurd (cc)
 taken_below (Commit who cycle cells ∷ K) own n s c e t = taken_below K own n s c e t
 taken_below (Send who target number word ∷ K) own n s c e t = taken_below K own n s c e t
 taken_below (Take who send copy good ∷ K) own n s c e t =
-    let parts = and_parts _ (takes_below K own n) e in
+    let parts = and_parts (not (eqb who own) || nat_lt send n) (takes_below K own n) e in
     let ih = taken_below K own n s c parts.1 in
     elim (or_cases (is_take_of own s c (Take who send copy good)) (was_taken K own s c) t) [
       | inl y ↦
@@ -380,7 +378,7 @@ rises [] own e L s c g p d b t = absurd (no_begin b)
 rises (Commit who cycle cells ∷ K) own e L s c g p d b t = elim (take_in own s c g L b) [ inl f ↦ absurd (cc) | inr in_K ↦ rises K own e L s c g p d in_K t ]
 rises (Send who target number word ∷ K) own e L s c g p d b t = elim (take_in own s c g L b) [ inl f ↦ absurd (cc) | inr in_K ↦ rises K own e L s c g p d in_K t ]
 rises (Take who send copy good ∷ K) own e L s c g p d b t =
-    let parts = and_parts _ (takes_rise K own) e in
+    let parts = and_parts (not (eqb who own) || takes_below K own send) (takes_rise K own) e in
     let ih = rises K own parts.1 L s c g p d in
     elim (take_in own s c g L b) [
       | inl f ↦

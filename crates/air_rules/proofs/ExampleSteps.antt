@@ -1,5 +1,5 @@
 -- The journal of two aircraft, by computation.
-use Rattle.std.proofs.Common.{◌≡◌, ℕ, zero, suc, ◌<◌, true, false, Bool, List, reverse, Some, sym, refl, ap, arith, inl, inr}
+use Rattle.std.proofs.Common.{◌≡◌, ℕ, zero, suc, ◌<◌, true, false, reverse, Some, sym, refl, ap, arith, inl, inr}
 use Rattle.acas_base.specs.Senses.{sense_of}
 use Rattle.acas_base.specs.declared.advisory.Cells.{Cells}
 use Rattle.acas_base.specs.declared.advisory.ResMsg.{ResMsg}
