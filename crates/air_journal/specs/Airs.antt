@@ -1,6 +1,5 @@
 -- The air of an encounter.
 use Rattle.std.specs.Prelude.{ℕ, List, Option, length, option_map, slice_get}
-use Rattle.std.specs.Option.{option_map_or}
 use Rattle.acas_base.specs.Encounter.{Parts}
 use Rattle.acas_base.specs.Fates.{copies_of, fate_of}
 use Rattle.acas_base.specs.declared.TheConstants.{CRAFTS}
@@ -8,16 +7,13 @@ use Rattle.acas_base.specs.declared.craft.CraftSpec.{CraftSpec}
 use Rattle.acas_base.specs.declared.craft.Kind.{Kind}
 use Rattle.acas_base.specs.declared.link.CopyPlan.{CopyPlan}
 use Rattle.air_rules.specs.Air.{Air}
+use Rattle.craft_view.specs.Sight.{address_of}
 use Rattle.craft_view.specs.Views.{view_of}
 use Rattle.res_message.specs.Words.{flip_word, read_word, word_of}
 
 -- The kind of the aircraft at an index, where there is one.
 abbrev pub kind_of : Parts → ℕ → Option Kind
 kind_of e own = option_map (λ (craft : CraftSpec). craft.kind) (slice_get e.crafts own)
-
--- Its address; 0 past the last aircraft.
-abbrev pub address_of : Parts → ℕ → ℕ
-address_of e own = option_map_or (λ (craft : CraftSpec). craft.address) (slice_get e.crafts own) 0
 
 -- The plans of the copies of a message.
 abbrev pub plans_of : Parts → ℕ → ℕ → ℕ → List CopyPlan

@@ -1,5 +1,5 @@
 -- What an air is by itself, and the air of a small encounter.
-use Rattle.std.specs.Prelude.{◌≡◌, ℕ, zero, pos, List, [], ◌∷◌, length, None, option_map, slice_get}
+use Rattle.std.specs.Prelude.{◌≡◌, ℕ, pos, [], ◌∷◌, length, None, option_map, slice_get}
 use Rattle.std.specs.Option.{option_map_or}
 use Rattle.acas_base.specs.Encounter.{IsEncounter, Parts, no_copy}
 use Rattle.acas_base.specs.declared.TheConstants.{CRAFTS}

@@ -1,8 +1,11 @@
 // What the rules of the journal may rest on.
+ghost use Rattle.std.specs.Prelude.{ℕ};
 ghost use Rattle.acas_base.specs.Encounter.{Parts, IsEncounter};
 ghost use Rattle.air_journal.specs.Airs.{air_of};
 ghost use Rattle.air_journal.specs.Pinned.{HasSmallCopies, IsAirOf};
 ghost use Rattle.air_rules.specs.Air.{IsSound};
+ghost use Rattle.air_rules.specs.Worlds.{SeesTheSame};
+ghost use Rattle.craft_view.specs.Facts.{SeesAlike};
 
 /// A law: the air of an encounter has all that the laws of the journal rest on.
 pub fn sound_law()
@@ -15,4 +18,10 @@ pub fn sound_law()
 pub fn air_law()
     ensures fields { (e : Parts) → IsAirOf e (air_of e) }
     ensures copies { HasSmallCopies }
+{}
+
+/// A law: an aircraft that has equal sights of two encounters up to a cycle sees the same in their airs. So
+/// with equal complements in force before its commits it commits equal cells up to that cycle.
+pub fn alike_law()
+    ensures { (e f : Parts) (own last : ℕ) → SeesAlike e f own last → SeesTheSame (air_of e) (air_of f) own last }
 {}

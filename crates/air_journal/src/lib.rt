@@ -3,4 +3,4 @@
 
 mod laws;
 
-pub use laws::{air_law, sound_law};
+pub use laws::{air_law, alike_law, sound_law};
