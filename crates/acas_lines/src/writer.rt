@@ -46,17 +46,16 @@ impl<'a, K: Sink> TextWriter<'a, K> {
 impl<K: Sink> LineSink for TextWriter<'_, K> {
     ghost use Rattle.std.specs.Prelude.{◌≡◌, refl};
     ghost use Rattle.std.proofs.Common.{◌∙◌};
-    ghost use Rattle.std.proofs.lemmas.List.Concat.{flat_map-append};
     ghost use Rattle.acas_lines.specs.Gathering.{Gathers};
     ghost use Rattle.acas_lines.specs.Lines.{joined};
-    ghost use Rattle.acas_lines.specs.Gathered.{gathers-nothing, gathers-then};
+    ghost use Rattle.acas_lines.specs.Gathered.{gathers-lines, gathers-nothing};
 
     ghost took = { λ a b lines. (b.sink.ghost_name ≡ a.sink.ghost_name) × Gathers (K.written a.sink.now) (K.written b.sink.now) (K.faults a.sink.now) (K.faults b.sink.now) a.batch b.batch a.so_far b.so_far (joined lines) };
 
     ghost nothing = { λ a. (refl, gathers-nothing (K.written a.sink.now) (K.faults a.sink.now) a.batch a.so_far) };
 
     ghost then = { λ a b c xs ys g h.
-        (h.0 ∙ g.0, rw (flat_map-append) (gathers-then (K.written a.sink.now) (K.written b.sink.now) (K.written c.sink.now) (K.faults a.sink.now) (K.faults b.sink.now) (K.faults c.sink.now) a.batch b.batch c.batch a.so_far b.so_far c.so_far (joined xs) (joined ys) g.1 h.1)) };
+        (h.0 ∙ g.0, gathers-lines (K.written a.sink.now) (K.written b.sink.now) (K.written c.sink.now) (K.faults a.sink.now) (K.faults b.sink.now) (K.faults c.sink.now) a.batch b.batch c.batch a.so_far b.so_far c.so_far xs ys g.1 h.1) };
 
     fn line(&mut self, line: &Line) {
         if self.so_far.is_ok() {
