@@ -1,6 +1,5 @@
 // What the crew hears.
 ghost use Rattle.std.specs.Prelude.{◌≡◌, ◌≤◌, length, Some, false};
-ghost use Rattle.acas_base.specs.Senses.{other_sense};
 ghost use Rattle.advisory_report.specs.Phrases.{aural_in, aural_of, for_sense, has_advice, is_kept, phrase_text, strength_in};
 
 use crate::Composite;
@@ -61,15 +60,6 @@ fn strength_in(sense: Sense, composite: &Composite) -> Option<Strength>
     }
 }
 
-fn opposite(sense: Sense) -> Sense
-    ensures { result ≡ other_sense sense }
-{
-    match sense {
-        Sense::Up => Sense::Down,
-        Sense::Down => Sense::Up,
-    }
-}
-
 fn for_sense(sense: Sense, climb: Aural, descend: Aural) -> Aural
     ensures { result ≡ for_sense sense climb descend }
 {
@@ -84,7 +74,7 @@ fn positive(sense: Sense, before: &Composite, after: &Composite) -> Aural
     requires { strength_in sense after.now ≡ Some Strength.Positive }
     ensures { result ≡ aural_in sense before.now after.now }
 {
-    if strength_in(opposite(sense), before).is_some() && strength_in(sense, before).is_none() {
+    if strength_in(sense.other(), before).is_some() && strength_in(sense, before).is_none() {
         return for_sense(sense, Aural::ClimbNow, Aural::DescendNow);
     }
     if !after.corrective {

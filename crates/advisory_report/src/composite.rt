@@ -1,7 +1,6 @@
 // Composite advisories.
 ghost use Rattle.std.specs.Prelude.{◌≡◌, ◌∷◌, [], ◌++◌, ◌||◌, ◌≤◌, length, List, Some};
 ghost use Rattle.std.specs.List.{list_any};
-ghost use Rattle.acas_base.specs.Strengths.{place_of};
 ghost use Rattle.acas_base.specs.declared.advisory.Cell.{Cell};
 ghost use Rattle.advisory_report.specs.Composite.{advice_of, clear, composite_of, down_word, is_traffic, joint, up_word, word_of};
 
@@ -46,20 +45,6 @@ impl Composite {
     }
 }
 
-// The place of a strength in their order, weakest first.
-fn place(strength: Strength) -> u8
-    ensures { result ≡ place_of strength }
-{
-    match strength {
-        Strength::Limit2000 => 0,
-        Strength::Limit1000 => 1,
-        Strength::Limit500 => 2,
-        Strength::Level => 3,
-        Strength::Positive => 4,
-        Strength::Increase => 5,
-    }
-}
-
 // The advice of one advisory.
 fn alone(advisory: &Intent) -> Advice
     ensures { result ≡ record { strength = Some advisory.now.strength; corrective = advisory.now.corrective; crossing = advisory.now.crossing } }
@@ -89,7 +74,7 @@ fn with_advisory(advice: Advice, advisory: &Intent) -> Advice
     let Some(strongest) = advice.strength else {
         return alone(advisory);
     };
-    let (one, other) = (place(strongest), place(advisory.strength));
+    let (one, other) = (strongest.place(), advisory.strength.place());
     if one < other {
         return alone(advisory);
     }

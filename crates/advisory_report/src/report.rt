@@ -1,8 +1,5 @@
 // The lines of the report.
-ghost use Rattle.std.specs.Prelude.{◌≡◌, ◌+◌, ◌≤◌, ◌++◌, ◌∷◌, ◌↔◌, length, pos, IsNone};
-ghost use Rattle.std.specs.Fmt.{signed_decimal};
-ghost use Rattle.acas_text.specs.Hex.{hex};
-ghost use Rattle.acas_text.specs.declared.line.TheConstants.{LINE_BYTES};
+ghost use Rattle.std.specs.Prelude.{◌≡◌, ◌↔◌, IsNone};
 ghost use Rattle.advisory_report.specs.Composite.{word_of};
 ghost use Rattle.advisory_report.specs.Phrases.{aural_of};
 ghost use Rattle.advisory_report.specs.Report.{is_same_word, is_silent, line_text, report_line};
@@ -11,7 +8,7 @@ use crate::aural::phrase;
 use crate::composite::word;
 use crate::{Aural, Composite, aural_of};
 use acas_base::Address;
-use acas_text::{LINE_BYTES, Line};
+use acas_text::Line;
 
 fn is_silent(aural: Aural) -> bool
     ensures { result ≡ is_silent aural }
@@ -25,34 +22,15 @@ fn is_same_word(before: &Composite, after: &Composite) -> bool
     word(before) == word(after)
 }
 
-// Adds a cycle, after a comma.
-fn add_cycle(line: &mut Line, cycle: u16)
-    requires { length line.old + 6 ≤ LINE_BYTES }
-    ensures added { line.new ≡ line.old ++ 44 ∷ signed_decimal (pos cycle) }
-    ensures short { length line.new ≤ length line.old + 6 }
-{
-    line.text(",");
-    line.number(i64::from(cycle));
-}
-
-// Adds an address, after a comma.
-fn add_address(line: &mut Line, address: Address)
-    requires { length line.old + 7 ≤ LINE_BYTES }
-    ensures added { line.new ≡ line.old ++ 44 ∷ hex 6 address }
-    ensures short { length line.new ≤ length line.old + 7 }
-{
-    line.text(",");
-    line.hex(u64::from(address.value()), 6);
-}
-
 // The line of a commit after which the crew hears this.
 fn line_text(cycle: u16, own: Address, before: &Composite, after: &Composite) -> Line
     ensures { result ≡ line_text cycle own before.now after.now }
 {
     let mut line = Line::new();
-    line.text("r");
-    add_cycle(&mut line, cycle);
-    add_address(&mut line, own);
+    line.text("r,");
+    line.u16(cycle);
+    line.text(",");
+    line.address(own.value());
     line.text(",");
     line.text(word(after));
     line.text(",");
