@@ -17,7 +17,8 @@ pub fn root(n: u64) -> u64
     n.isqrt()
 }
 
-// A number near the root, by Newton's method. It nearly always is the root.
+// A number near the root, by Newton's method. It nearly always is the root. `isqrt` alone halves an interval 32
+// times: a quarter more instructions in a whole run of 16 aircraft.
 fn near_root(n: u64) -> u64 {
     let mut near = first_near(n);
     for _ in 0..3 {

@@ -1,6 +1,6 @@
 -- Misses in their order.
-use Rattle.std.proofs.Common.{◌≡◌, ℕ, zero, suc, ◌<◌, ◌≤◌, Bool, true, false, List, length, get_or, refl, sym, ◌∙◌, arith, add-one, inl, inr}
-use Rattle.std.specs.Prelude.{All, ◌==◌, ◌&&◌, nat_le}
+use Rattle.std.proofs.Common.{◌≡◌, ℕ, zero, suc, ◌<◌, ◌≤◌, Bool, true, false, List, [], ◌∷◌, length, get_or, refl, sym, ◌∙◌, arith, add-one, inl, inr}
+use Rattle.std.specs.Prelude.{All, ◌==◌, ◌&&◌, ◌||◌, nat_le}
 use Rattle.std.specs.List.{list_any}
 use Rattle.std.specs.List.Sorted.{IsPartitionedBy, IsPartitionPoint}
 use Rattle.std.proofs.lemmas.Bool.{cases_lt}
@@ -10,7 +10,7 @@ use Rattle.std.proofs.lemmas.List.Folds.{list_any_at, list_any_none}
 use Rattle.acas_base.proofs.KeyOrder.{below-trans}
 use Rattle.acas_base.specs.Order.{IsRising, is_below, miss_below}
 use Rattle.acas_base.specs.declared.craft.Miss.{Miss}
-use Rattle.flight.specs.Measurement.{covers}
+use Rattle.flight.specs.Measurement.{covers, lasts_in}
 
 -- No miss ends before it begins.
 abbrev pub AreOrdered : List Miss → Type 0
@@ -96,3 +96,15 @@ covered-at misses own target cycle n d rising ordered parted within = cases (cov
 pub covered-none : (misses : List Miss) (own target cycle n : ℕ) → PartedAt misses own target cycle n → length misses ≤ n → list_any (covers own target cycle) misses ≡ false
 covered-none misses own target cycle n parted past =
     list_any_none (covers own target cycle) misses (λ k d h. front-uncovers misses own target cycle n parted k d (omega arith) h)
+
+-- Where no miss lasts in a cycle, none covers it.
+pub none-covers : (misses : List Miss) (own target cycle : ℕ) → list_any (lasts_in cycle) misses ≡ false → list_any (covers own target cycle) misses ≡ false
+none-covers [] own target cycle none = refl
+none-covers (miss ∷ rest) own target cycle none =
+    by_test (miss.own == own && miss.target == target) (lasts_in cycle miss) (list_any (covers own target cycle) rest) (list_any (lasts_in cycle) rest) none
+    (none-covers rest own target cycle)
+  where
+    by_test : (pair lasts covered lasting : Bool) → (lasts || lasting) ≡ false → (lasting ≡ false → covered ≡ false) → ((pair && lasts) || covered) ≡ false
+    by_test pair true covered lasting h f = absurd (cc h)
+    by_test true false covered lasting h f = f h
+    by_test false false covered lasting h f = f h

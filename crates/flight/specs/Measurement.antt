@@ -37,13 +37,21 @@ slant_range p q = root (distance p q / 3600)
 abbrev pub longest : ℕ
 longest = 182280
 
+-- The cycles of a record of a miss.
+abbrev pub lasts_in : ℕ → Miss → Bool
+lasts_in cycle miss = nat_le miss.from cycle && nat_le cycle miss.to
+
 -- A record of a miss of this own aircraft and this target, in that order, that covers a cycle.
 abbrev pub covers : ℕ → ℕ → ℕ → Miss → Bool
-covers own target cycle miss = (miss.own == own && miss.target == target) && (nat_le miss.from cycle && nat_le cycle miss.to)
+covers own target cycle miss = (miss.own == own && miss.target == target) && lasts_in cycle miss
 
 -- Whether a record says that the measurement is missed.
 abbrev pub is_missed : Parts → ℕ → ℕ → ℕ → Bool
 is_missed e own target cycle = list_any (covers own target cycle) e.misses
+
+-- Whether a record says that some measurement is missed in a cycle.
+abbrev pub misses_in : Parts → ℕ → Bool
+misses_in e cycle = list_any (lasts_in cycle) e.misses
 
 -- The range from one place to another and the altitude reported there, where the range isn't too long.
 abbrev pub measured : Place → Place → Option Meas

@@ -3,7 +3,7 @@ ghost use Rattle.std.specs.Prelude.{◌≡◌, ◌≤◌, true, false, All, leng
 ghost use Rattle.std.specs.List.Sorted.{IsPartitionPoint};
 ghost use Rattle.acas_base.specs.Order.{IsRising, is_below, miss_below};
 ghost use Rattle.acas_base.specs.declared.craft.Miss.{Miss};
-ghost use Rattle.flight.specs.Measurement.{covers, is_missed};
+ghost use Rattle.flight.specs.Measurement.{covers, is_missed, lasts_in, misses_in};
 
 use acas_base::{Encounter, Miss};
 
@@ -17,6 +17,13 @@ pub(crate) fn is_missed(encounter: &Encounter, own: u8, target: u8, cycle: u16) 
         return false;
     }
     covers(&misses[first], own, target, cycle)
+}
+
+// Whether a record covers a cycle, whoever misses whom.
+pub(crate) fn misses_in(encounter: &Encounter, cycle: u16) -> bool
+    ensures { result ≡ misses_in encounter.now cycle }
+{
+    encounter.misses().iter().any(|miss| lasts_in(miss, cycle))
 }
 
 // How many records stand before those that can cover the cycle.
@@ -40,5 +47,11 @@ fn is_over(miss: &Miss, own: u8, target: u8, cycle: u16) -> bool
 fn covers(miss: &Miss, own: u8, target: u8, cycle: u16) -> bool
     ensures { result ≡ covers own target cycle miss.now }
 {
-    (miss.own == own && miss.target == target) && (miss.from <= cycle && cycle <= miss.to)
+    (miss.own == own && miss.target == target) && lasts_in(miss, cycle)
+}
+
+fn lasts_in(miss: &Miss, cycle: u16) -> bool
+    ensures { result ≡ lasts_in cycle miss.now }
+{
+    miss.from <= cycle && cycle <= miss.to
 }

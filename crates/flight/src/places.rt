@@ -6,10 +6,10 @@ ghost use Rattle.acas_num.specs.Clamp.{LiesBetween};
 ghost use Rattle.flight.specs.Bounds.{IsReachable};
 ghost use Rattle.flight.specs.Flight.{nowhere, position};
 ghost use Rattle.flight.specs.Inside.{IsInBox, IsInside};
-ghost use Rattle.flight.specs.Measurement.{measurement, own_altitude};
+ghost use Rattle.flight.specs.Measurement.{is_missed, measurement, own_altitude};
 
 use crate::measuring::{feet, measured};
-use crate::misses::is_missed;
+use crate::misses::{is_missed, misses_in};
 use crate::{Meas, Place, position};
 use acas_base::{CRAFTS, Encounter};
 use std::array::from_fn;
@@ -21,17 +21,21 @@ pub struct Places<'a> {
     encounter: &'a Encounter,
     cycle: u16,
     list: [Place; CRAFTS],
+    // Whether some measurement is missed in that cycle: mostly none is.
+    misses: bool,
 }
 
 impl<'a> Model for Places<'a> {
     ghost use Rattle.acas_base.specs.Ranges.{IsCycle};
     ghost use Rattle.flight.specs.Flight.{ArePlaces, Moment};
+    ghost use Rattle.flight.specs.Measurement.{misses_in};
+    ghost use Rattle.std.specs.Prelude.{◌≡◌};
 
     ghost Value = { Moment };
 
     ghost view = { λ p. record { encounter = p.encounter.now; cycle = p.cycle } };
 
-    ghost invariant = { λ p. IsCycle p.cycle × ArePlaces p.encounter.now p.cycle p.list };
+    ghost invariant = { λ p. IsCycle p.cycle × ArePlaces p.encounter.now p.cycle p.list × (p.misses ≡ misses_in p.encounter.now p.cycle) };
 }
 
 impl<'a> Places<'a> {
@@ -44,6 +48,7 @@ impl<'a> Places<'a> {
             encounter,
             cycle,
             list: from_fn(|craft| { place_at(encounter, craft, cycle) }),
+            misses: misses_in(encounter, cycle),
         }
     }
 
@@ -66,6 +71,13 @@ impl<'a> Places<'a> {
         self.list[usize::from(craft)]
     }
 
+    // Whether a record says that an own aircraft misses a target in that cycle.
+    fn is_missed(&self, own: u8, target: u8) -> bool
+        ensures { result ≡ is_missed self.now.encounter own target self.now.cycle }
+    {
+        self.misses && is_missed(self.encounter, own, target, self.cycle)
+    }
+
     /// What [`crate::own_altitude`] gives in that cycle.
     #[tactic(auto, unfolding(crate::specs::Measurement::own_altitude))]
     pub fn own_altitude(&self, craft: u8) -> i32
@@ -84,7 +96,7 @@ impl<'a> Places<'a> {
         ensures range { IfSome result (λ m. m.range ≤ 182280) }
         ensures altitude { IsInside self.now.encounter → self.now.cycle ≤ self.now.encounter.cycles → IfSome result (λ m. LiesBetween (neg_ℤ (pos 2000)) (pos 62000) m.alt) }
     {
-        if is_missed(self.encounter, own, target, self.cycle) {
+        if self.is_missed(own, target) {
             return None;
         }
         measured(self.place_of(own), self.place_of(target))

@@ -1,14 +1,12 @@
-use Rattle.std.proofs.Common.{◌≡◌, true, false, sym, ◌∙◌, subst}
+use Rattle.std.proofs.Common.{sym, ◌∙◌}
 use Rattle.flight.proofs.Placing.{measurement-made, measurement-missed}
-use Rattle.flight.specs.Flight.{Moment}
-use Rattle.flight.specs.Measurement.{is_missed}
 use Rattle.flight.proofs.places.Places.measure.Goals as goal
 
 pub returns-then-is_missed-clause-value : goal.returns-then-is_missed-clause-value
 returns-then-is_missed-clause-value c =
     let a = c.args in
     measurement-missed a.self.now.encounter a.own a.target a.self.now.cycle
-    (subst (λ (m : Moment). is_missed m.encounter a.own a.target m.cycle ≡ true) c.self.view_is (sym c.is_missed.ensures ∙ c.if-is_missed.true))
+    (sym c.is_missed.ensures ∙ c.if-is_missed.true)
 
 pub returns-clause-value : goal.returns-clause-value
 returns-clause-value c =
@@ -16,4 +14,4 @@ returns-clause-value c =
     c.measured.ensures.value
     ∙ rw (c.place_of.ensures.value, c.place_of-2.ensures.value)
     (measurement-made a.self.now.encounter a.own a.target a.self.now.cycle
-    (subst (λ (m : Moment). is_missed m.encounter a.own a.target m.cycle ≡ false) c.self.view_is (sym c.is_missed.ensures ∙ c.if-is_missed.false)))
+    (sym c.is_missed.ensures ∙ c.if-is_missed.false))
