@@ -1,5 +1,5 @@
 -- From one cycle to the next.
-use Rattle.std.proofs.Common.{◌≡◌, ℕ, suc, ◌+◌, ◌<◌, ◌≤◌, false, ℤ, List, ◌∷◌, map, length, get_or, Option, Some, None, refl, sym, ◌∙◌, ap, subst, rules, IsTrue}
+use Rattle.std.proofs.Common.{◌≡◌, ℕ, suc, ◌+◌, ◌<◌, false, ℤ, List, ◌∷◌, map, length, get_or, Option, Some, None, refl, sym, ◌∙◌, ap, rules, IsTrue}
 use Rattle.std.specs.Prelude.{option_map, slice_get}
 use Rattle.std.specs.Option.{option_map_or}
 use Rattle.std.proofs.Math.Numerals.{add-one}
