@@ -1,7 +1,7 @@
 -- A worked journal. Two aircraft of one altitude fly towards each other, and each is a threat to the other from the
 -- first cycle on. Both choose to climb. In the second cycle the one of higher address has taken the other one's
 -- complement, and descends.
-use Rattle.std.specs.Prelude.{◌≡◌, ℕ, zero, suc, ◌+◌, ◌*◌, Bool, true, false, if◌then◌else◌, ◌==◌, List, [], ◌∷◌, ◌++◌, map, reverse, take, find, flat_map, Option, Some, None, pos}
+use Rattle.std.specs.Prelude.{◌≡◌, ℕ, zero, suc, ◌+◌, ◌*◌, Bool, true, false, if◌then◌else◌, ◌==◌, List, [], ◌∷◌, ◌++◌, map, replicate, reverse, take, find, flat_map, Option, Some, None, pos}
 use Rattle.std.specs.List.{range_with_len}
 use Rattle.acas_base.specs.Complements.{forbidden_sense}
 use Rattle.acas_base.specs.Encounter.{no_copy}
@@ -175,14 +175,20 @@ pub record IsTwiceEqual : Type 0 where
 abbrev pub complement_after : ℕ → Vrc
 complement_after made = vrc_in_force (Some (record { send = 2; vrc = NotAbove; commits = 26 })) made
 
+-- Its first round, and so many more commits of one aircraft.
+abbrev pub and_commits : ℕ → ℕ → List Entry
+and_commits own n = replicate n (commit own 2 0 Clear) ++ reverse first_round
+
 -- Which complements are in force. The first aircraft's sense is forbidden to it after the first round, and it keeps it in
 -- the second one. A spoilt take puts none in force. A complement binds with five commits since the take, and has lapsed
--- with six.
+-- with six, and these are the taker's own.
 pub record IsInForce : Type 0 where
   pub kept : forbidden_sense (complement_from example (reverse first_round) 0 1) ≡ Some Up
   pub spoilt : complement_from example (reverse (take 5 first_round ++ Take 1 2 0 false ∷ [])) 1 0 ≡ Nil
   pub binds : complement_after 31 ≡ NotAbove
   pub lapses : complement_after 32 ≡ Nil
+  pub by_own_commits : complement_from example (and_commits 1 6) 1 0 ≡ Nil
+  pub not_by_others : complement_from example (and_commits 0 6) 1 0 ≡ NotAbove
 
 -- What the laws ask for before they promise opposite senses can hold together. The second aircraft gives way; the first
 -- one's messages go over a plain link, are taken in order, and were taken; at its second commit the second one is bound

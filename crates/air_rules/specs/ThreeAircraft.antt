@@ -2,12 +2,13 @@
 -- first one advises against both others, up against the second and down against the third. The advisory against the
 -- second ends in the third cycle. There the second one, which would choose to climb, descends, since the first one asked
 -- it not to pass above.
-use Rattle.std.specs.Prelude.{ℕ, zero, suc, Bool, true, false, ◌&&◌, if◌then◌else◌, ◌==◌, List, [], ◌∷◌, ◌++◌, reverse, take, Option, Some, None, pos}
+use Rattle.std.specs.Prelude.{◌≡◌, ℕ, zero, suc, Bool, true, false, ◌&&◌, if◌then◌else◌, ◌==◌, List, [], ◌∷◌, ◌++◌, reverse, take, Option, Some, None, pos}
 use Rattle.acas_base.specs.Encounter.{no_copy}
 use Rattle.acas_base.specs.declared.advisory.Cell.{Cell}
 use Rattle.acas_base.specs.declared.advisory.Cell.TheVariants.{Clear, Traffic}
 use Rattle.acas_base.specs.declared.advisory.Sense.{Sense}
 use Rattle.acas_base.specs.declared.advisory.Sense.TheVariants.{Up, Down}
+use Rattle.acas_base.specs.declared.advisory.Vrc.TheVariants.{NotBelow}
 use Rattle.acas_base.specs.declared.craft.Kind.{Kind}
 use Rattle.acas_base.specs.declared.craft.Kind.TheVariants as kinds
 use Rattle.acas_base.specs.declared.entry.Entry.{Entry}
@@ -18,6 +19,7 @@ use Rattle.air_rules.specs.Air.{Air, IsSound}
 use Rattle.air_rules.specs.Example.{advisory, flip, read_word, separations, word_of}
 use Rattle.air_rules.specs.Rules.{IsLegal, IsComplete}
 use Rattle.air_rules.specs.Serial.{IsSerial}
+use Rattle.air_rules.specs.Takes.{last_take}
 
 -- A view with tracks, and what its tests say of it.
 abbrev pub view_with : Bool → Bool → Bool → Sense → View
@@ -163,7 +165,8 @@ worked = reverse entries
 abbrev pub after_first : ℕ → List Entry → List Entry
 after_first n others = reverse (take n entries ++ others)
 
--- After its third round the third aircraft goes ahead, and takes the held copy before the others have committed.
+-- After its third round the third aircraft goes ahead, and takes the held copy before the others have committed. It has
+-- then made four commits.
 abbrev pub goes_ahead : List Entry
 goes_ahead = after_first 18 (commit 2 4 Clear Clear Clear ∷ Take 2 7 0 true ∷ [])
 
@@ -188,4 +191,5 @@ pub record IsWorkedOutForThree : Type 0 where
   pub legal : IsLegal three worked
   pub complete : IsComplete three worked
   pub ahead : IsLegal three goes_ahead
+  pub taken : last_take three goes_ahead 2 0 ≡ Some (record { send = 7; vrc = NotBelow; commits = 4 })
   pub refused : RefusesOthers

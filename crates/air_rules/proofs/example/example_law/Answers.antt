@@ -16,5 +16,5 @@ returns c = record {
   order = wrong_order_refused;
   past = past_a_copy_refused;
   twice = twice_legal;
-  in_force = record { kept = refl; spoilt = refl; binds = refl; lapses = refl };
+  in_force = record { kept = refl; spoilt = refl; binds = refl; lapses = refl; by_own_commits = refl; not_by_others = refl };
 }

@@ -1,4 +1,5 @@
 use Rattle.air_rules.proofs.example.three_aircraft_law.Goals as goal
+use Rattle.std.proofs.Common.{refl}
 use Rattle.air_rules.proofs.InOrder.{in_order_legal, serial_complete}
 use Rattle.air_rules.proofs.ThreeAircraftSteps.{ahead_legal, refuses_others, three_serial, three_sound}
 use Rattle.air_rules.specs.ThreeAircraft.{three, worked}
@@ -10,5 +11,6 @@ returns c = record {
   legal = in_order_legal three worked three_sound three_serial.in_order;
   complete = serial_complete three worked three_sound three_serial;
   ahead = ahead_legal;
+  taken = refl;
   refused = refuses_others;
 }
