@@ -7,7 +7,7 @@ use Rattle.acas_base.specs.declared.craft.CraftSpec.{CraftSpec}
 use Rattle.acas_base.specs.declared.craft.Kind.{Kind}
 use Rattle.acas_base.specs.declared.link.CopyPlan.{CopyPlan}
 use Rattle.air_rules.specs.Air.{Air}
-use Rattle.craft_view.specs.Sight.{address_of}
+pub use Rattle.craft_view.specs.Sight.{address_of}
 use Rattle.craft_view.specs.Views.{view_of}
 use Rattle.res_message.specs.Words.{flip_word, read_word, word_of}
 
