@@ -1,3 +1,17 @@
 pub mod Soundness
 pub mod SmallEncounter
+pub mod Paging
+pub mod Queued
+pub mod Dues
+pub mod Ages
+pub mod Steps
+pub mod Finding
+pub mod Writing
+pub mod Pairs
+pub mod Bounds
+pub mod Telling
+pub mod Adding
+pub mod Places
+pub mod Seeing
+pub mod Worlds
 pub mod Alike

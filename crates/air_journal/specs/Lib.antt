@@ -1,4 +1,13 @@
 pub mod Airs
 pub mod Pinned
+pub mod States
+pub mod Calls
+pub mod Cells
+pub mod Queues
+pub mod Kept
+pub mod Rooms
+pub mod Pages
+pub mod Written
+pub mod Found
 pub use Rattle.acas_base.specs.Encounter
 pub use Rattle.air_rules.specs.Air

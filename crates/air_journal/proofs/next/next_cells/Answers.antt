@@ -1,0 +1,26 @@
+use Rattle.std.proofs.Common.{◌≡◌, ℕ, ◌+◌, List, get_or, set, ap, ◌∙◌, arith, below_more, get_or-set_same, get_or-set_other, length-set}
+use Rattle.acas_base.specs.declared.advisory.Cell.{Cell}
+use Rattle.acas_base.specs.declared.advisory.Cell.TheVariants.{Clear}
+use Rattle.air_journal.proofs.Seeing.{seen}
+use Rattle.air_journal.proofs.next.next_cells.Goals as goal
+use Rattle.air_journal.specs.Airs.{air_of}
+use Rattle.air_journal.specs.Found.{next_in}
+use Rattle.air_journal.specs.Kept.{made_at}
+
+pub next_for-requires-clause-view : goal.next_for-requires-clause-view
+next_for-requires-clause-view c =
+    rw c.from.ensures (seen c.args.encounter.now c.args.own ((made_at c.args.tables.now c.args.own).commits + 1) c.args.picture.now c.requires.picture c.loop-target.target (omega arith) _)
+
+pub loop-target-preserved : goal.loop-target-preserved
+loop-target-preserved c =
+    let t = c.loop-target.target in
+    let xs = c.loop-target.list in
+    let v = c.next_for.result in
+    let s : set xs c.from-in-loop-target.result v ≡ set xs t v = ap (λ (n : ℕ). set xs n v) c.from-in-loop-target.ensures in
+    let all = below_more (λ k. get_or (set xs t v) k Clear ≡ next_in (air_of c.args.encounter.now) c.args.tables.now c.args.own k) t
+    (λ k h. get_or-set_other xs t k v Clear (omega arith) ∙ c.loop-target.invariant.done k h)
+    (get_or-set_same xs t v Clear (omega (arith, c.loop-target.invariant.size)) ∙ c.next_for.ensures) in
+    record {
+      size = length-set xs c.from-in-loop-target.result v ∙ c.loop-target.invariant.size;
+      done = λ k h. ap (λ (l : List Cell). get_or l k Clear) s ∙ all k h;
+    }

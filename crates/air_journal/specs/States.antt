@@ -1,0 +1,25 @@
+-- The state of the air.
+use Rattle.std.specs.Prelude.{◌≡◌, ◌*◌, ◌≤◌, List}
+use Rattle.acas_base.specs.Encounter.{IsEncounter, Parts}
+use Rattle.acas_base.specs.declared.TheConstants.{CRAFTS}
+use Rattle.acas_base.specs.declared.entry.Entry.{Entry}
+use Rattle.air_journal.specs.Airs.{air_of}
+use Rattle.air_journal.specs.Kept.{IsKept, Kept}
+use Rattle.air_journal.specs.Written.{Written}
+use Rattle.air_rules.specs.Length.{most_entries}
+use Rattle.air_rules.specs.Rules.{IsLegal}
+use Rattle.flight.specs.Inside.{IsInside}
+
+-- An encounter and a journal of it, the newest entry first.
+pub record State : Type 0 where
+  pub encounter : Parts
+  pub journal : List Entry
+
+-- An encounter inside the box and a legal journal, what is kept beside it, and memory for the whole run.
+pub record IsWhole (e : Parts) (journal : Written) (tables : Kept) : Type 0 where
+  pub valid : IsEncounter e
+  pub inside : IsInside e
+  pub legal : IsLegal (air_of e) journal.entries
+  pub kept : IsKept (air_of e) journal.entries tables
+  pub room : most_entries (air_of e) ≤ journal.room
+  pub places : journal.places ≡ e.cycles * CRAFTS

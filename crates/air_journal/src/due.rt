@@ -1,0 +1,121 @@
+// The copies that are due, by the queues.
+ghost use Rattle.std.specs.Prelude.{◌≡◌, ℕ, ◌<◌, ◌≤◌, MatchOption, MatchBool, length};
+ghost use Rattle.acas_base.specs.declared.TheConstants.{CRAFTS};
+ghost use Rattle.air_journal.specs.Found.{IsDueIn, IsDueInOne, IsLeast, NoneOf, NotDueIn, NotDueInAny, earlier};
+ghost use Rattle.air_journal.specs.Kept.{queue_at};
+ghost use Rattle.air_journal.specs.Queues.{AreOrdered, IsFirstDueAt, NoneDue};
+
+use crate::kept::Waiting;
+use crate::tables::Tables;
+
+/// A due copy and its place in its queue.
+#[derive(Clone, Copy)]
+pub(crate) struct Due {
+    pub place: usize,
+    pub waiting: Waiting,
+}
+
+/// A due copy, its sender, and its place in the queue.
+#[derive(Clone, Copy)]
+pub(crate) struct Found {
+    pub sender: u8,
+    pub place: usize,
+    pub waiting: Waiting,
+}
+
+// The first due copy of a queue, to a receiver that has made so many commits.
+fn first_due(queue: &[Waiting], made: u16) -> Option<Due>
+    ensures { MatchOption result (NoneDue queue.now made) (λ due. IsFirstDueAt queue.now made due.place due.waiting) }
+{
+    for place in 0..queue.len() {
+        let waiting = queue[place];
+        if waiting.due <= made {
+            return Some(Due { place, waiting });
+        }
+    }
+    None
+}
+
+// Of two due copies the one of the earlier send.
+fn earlier(best: Option<Found>, sender: u8, next: Option<Due>) -> Option<Found>
+    ensures { result ≡ earlier best sender next }
+{
+    match (best, next) {
+        (None, None) => None,
+        (Some(best), None) => Some(best),
+        (None, Some(next)) => Some(Found {
+            sender,
+            place: next.place,
+            waiting: next.waiting,
+        }),
+        (Some(best), Some(next)) => if best.waiting.send <= next.waiting.send {
+            Some(best)
+        } else {
+            Some(Found {
+                sender,
+                place: next.place,
+                waiting: next.waiting,
+            })
+        },
+    }
+}
+
+/// The first copy that is due to an aircraft that has made so many commits, from the first so many senders.
+pub(crate) fn first_due_to(tables: &Tables, own: u8, made: u16, count: u8) -> Option<Found>
+    requires own { own < CRAFTS }
+    requires count { count ≤ CRAFTS }
+    requires ordered { (sender : ℕ) → sender < count → AreOrdered (queue_at tables.now sender own) }
+    ensures { MatchOption result (NoneOf tables.now own made count) (IsLeast tables.now own made count) }
+{
+    let mut best = None;
+    for sender in 0..count {
+        let queue = tables.queue(sender, own);
+        best = earlier(best, sender, first_due(queue, made));
+    }
+    best
+}
+
+// Whether what waits is this copy, and due.
+fn is_this(waiting: Waiting, made: u16, send: u32, copy: u8) -> bool
+    ensures { MatchBool result ((waiting.send ≡ send) × (waiting.copy ≡ copy) × (waiting.due ≤ made)) (waiting.send ≡ send → waiting.copy ≡ copy → made < waiting.due) }
+{
+    waiting.send == send && waiting.copy == copy && waiting.due <= made
+}
+
+// Where this copy stands in a queue, if it is due.
+fn find_in(queue: &[Waiting], made: u16, send: u32, copy: u8) -> Option<Due>
+    ensures { MatchOption result (NotDueIn queue.now made send copy) (IsDueIn queue.now made send copy) }
+{
+    for place in 0..queue.len() {
+        let waiting = queue[place];
+        if is_this(waiting, made, send, copy) {
+            return Some(Due { place, waiting });
+        }
+    }
+    None
+}
+
+/// Where this copy stands, if it is due.
+pub(crate) fn find_copy(
+    tables: &Tables,
+    own: u8,
+    made: u16,
+    send: u32,
+    copy: u8,
+    count: u8,
+) -> Option<Found>
+    requires own { own < CRAFTS }
+    requires count { count ≤ CRAFTS }
+    ensures { MatchOption result (NotDueInAny tables.now own made send copy count) (IsDueInOne tables.now own made send copy count) }
+{
+    for sender in 0..count {
+        if let Some(due) = find_in(tables.queue(sender, own), made, send, copy) {
+            return Some(Found {
+                sender,
+                place: due.place,
+                waiting: due.waiting,
+            });
+        }
+    }
+    None
+}

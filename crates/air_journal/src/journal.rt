@@ -1,0 +1,175 @@
+// The journal as it is kept: what was done, in order, and the cells of the commits by cycle and aircraft.
+ghost use Rattle.std.specs.Prelude.{◌≡◌, ◌+◌, ◌*◌, ◌<◌, ◌≤◌, [], ◌∷◌, length, replicate, reverse, slice_get, slice_index_or, option_map, IfOk, Some, None, IsSome};
+ghost use Rattle.acas_base.specs.declared.TheConstants.{CRAFTS};
+ghost use Rattle.acas_base.specs.declared.entry.Entry.{Entry};
+ghost use Rattle.acas_base.specs.declared.entry.Entry.TheVariants as kinds;
+ghost use Rattle.air_journal.specs.Cells.{clear_cells, commit_cells, place_of};
+ghost use Rattle.air_journal.specs.Rooms.{page_room};
+ghost use Rattle.air_journal.specs.Written.{IsNote, Written, told};
+
+use crate::log::{Log, Note};
+use acas_base::{CRAFTS, Cell, Cells, Entry};
+use std::alloc::{AllocError, Global};
+use std::marker::Model;
+
+/// The entries of a journal. The cells of a commit are kept once, by cycle and aircraft, so that they are
+/// found at once and an entry takes little room.
+#[derive(Drop)]
+pub(crate) struct Journal {
+    log: Log,
+    cells: Vec<Cells>,
+}
+
+impl Model for Journal {
+    ghost use Rattle.std.specs.Prelude.{length};
+    ghost use Rattle.air_journal.specs.Written.{AreNotes, Written, entries_in};
+
+    ghost Value = { Written };
+
+    ghost view = { λ j. record { entries = entries_in j.cells.items j.log.notes; room = j.log.room; places = length j.cells.items } };
+
+    ghost invariant = { λ j. AreNotes (length j.cells.items) j.log.notes };
+}
+
+// Where the cells of a commit stand.
+fn place_of(own: u8, cycle: u16) -> usize
+    requires { 1 ≤ cycle }
+    ensures { result ≡ place_of own cycle }
+{
+    usize::from(cycle - 1) * CRAFTS + usize::from(own)
+}
+
+fn new_cells(alloc: Global, cycles: usize) -> Result<Vec<Cells>, AllocError>
+    requires { cycles ≤ 600 }
+    ensures { IfOk result (λ cells. length cells.items ≡ cycles * CRAFTS) }
+{
+    let clear = Cells {
+        list: [Cell::Clear; CRAFTS],
+    };
+    let mut cells = Vec::with_capacity(alloc, cycles * CRAFTS)?;
+    for _place in 0..cycles * CRAFTS {
+        cells.push(clear)?;
+    }
+    Ok(cells)
+}
+
+// The entry of a note.
+fn entry_of(note: &Note, cells: &[Cells]) -> Entry
+    requires { IsNote (length cells.now) note.now }
+    ensures { result ≡ told cells.now note.now }
+{
+    match *note {
+        Note::Commit { own, cycle } => Entry::Commit {
+            own,
+            cycle,
+            cells: cells[place_of(own, cycle)],
+        },
+        Note::Send {
+            own,
+            target,
+            number,
+            word,
+        } => Entry::Send {
+            own,
+            target,
+            number,
+            word,
+        },
+        Note::Take {
+            own,
+            send,
+            copy,
+            good,
+        } => Entry::Take {
+            own,
+            send,
+            copy,
+            good,
+        },
+    }
+}
+
+impl Journal {
+    /// An empty journal with room for the commits of so many cycles and for so many pages of entries.
+    pub(crate) fn new(alloc: Global, cycles: usize, pages: usize) -> Result<Self, AllocError>
+        requires cycles { cycles ≤ 600 }
+        requires pages { pages ≤ 1000000 }
+        ensures entries { IfOk result (λ journal. journal.entries ≡ []) }
+        ensures room { IfOk result (λ journal. journal.room ≡ pages * page_room) }
+        ensures places { IfOk result (λ journal. journal.places ≡ cycles * CRAFTS) }
+    {
+        let log = Log::new(alloc, pages)?;
+        let cells = new_cells(alloc, cycles)?;
+        Ok(Journal { log, cells })
+    }
+
+    /// How many entries there are.
+    pub(crate) fn len(&self) -> usize
+        ensures { result ≡ length self.now.entries }
+    {
+        self.log.len()
+    }
+
+    /// Adds a commit of a cycle that the aircraft hasn't committed yet.
+    pub(crate) fn push_commit(&mut self, own: u8, cycle: u16, cells: &Cells)
+        requires own { own < CRAFTS }
+        requires first { 1 ≤ cycle }
+        requires last { cycle * CRAFTS ≤ self.old.places }
+        requires new { commit_cells self.old.entries own cycle ≡ None }
+        requires room { length self.old.entries < self.old.room }
+        ensures entries { self.new.entries ≡ kinds.Commit own cycle cells.now ∷ self.old.entries }
+        ensures room { self.new.room ≡ self.old.room }
+        ensures places { self.new.places ≡ self.old.places }
+    {
+        self.log.push(Note::Commit { own, cycle });
+        self.cells[place_of(own, cycle)] = *cells;
+    }
+
+    /// Adds a send.
+    pub(crate) fn push_send(&mut self, own: u8, target: u8, number: u16, word: u64)
+        requires { length self.old.entries < self.old.room }
+        ensures entries { self.new.entries ≡ kinds.Send own target number word ∷ self.old.entries }
+        ensures room { self.new.room ≡ self.old.room }
+        ensures places { self.new.places ≡ self.old.places }
+    {
+        self.log.push(Note::Send {
+            own,
+            target,
+            number,
+            word,
+        });
+    }
+
+    /// Adds a take.
+    pub(crate) fn push_take(&mut self, own: u8, send: u32, copy: u8, good: bool)
+        requires { length self.old.entries < self.old.room }
+        ensures entries { self.new.entries ≡ kinds.Take own send copy good ∷ self.old.entries }
+        ensures room { self.new.room ≡ self.old.room }
+        ensures places { self.new.places ≡ self.old.places }
+    {
+        self.log.push(Note::Take {
+            own,
+            send,
+            copy,
+            good,
+        });
+    }
+
+    /// The entry at a position, from 0.
+    pub(crate) fn entry(&self, at: usize) -> Option<Entry>
+        ensures { result ≡ slice_get (reverse self.now.entries) at }
+    {
+        match self.log.get(at) {
+            Some(note) => Some(entry_of(note, &self.cells)),
+            None => None,
+        }
+    }
+
+    /// The cells of a commit that is there.
+    pub(crate) fn cells(&self, own: u8, cycle: u16) -> &Cells
+        requires { IsSome (commit_cells self.now.entries own cycle) }
+        ensures { commit_cells self.now.entries own cycle ≡ Some result.now }
+    {
+        &self.cells[place_of(own, cycle)]
+    }
+}
