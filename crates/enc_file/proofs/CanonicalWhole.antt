@@ -1,5 +1,5 @@
 -- The canonical records of an encounter are read as that encounter.
-use Rattle.std.proofs.Common.{◌≡◌, ℕ, ◌||◌, not, Bool, true, false, if◌then◌else◌, ◌*◌, is_none, List, [], ◌∷◌, ◌++◌, length, map, Option, Some, None, Ok, IsTrue, refl, ap, ◌∙◌}
+use Rattle.std.proofs.Common.{◌≡◌, ℕ, ◌||◌, not, Bool, true, false, if◌then◌else◌, ◌*◌, is_none, List, [], ◌∷◌, ◌++◌, map, Option, Some, None, Ok, IsTrue, refl, ap, ◌∙◌}
 use Rattle.std.specs.List.{flat_map, list_any}
 use Rattle.acas_base.specs.Encounter.{IsEncounter, Parts, encounter_of, is_active}
 use Rattle.acas_base.specs.declared.TheConstants.{CRAFTS}
@@ -10,7 +10,8 @@ use Rattle.acas_base.specs.declared.link.Fate.{Fate}
 use Rattle.acas_base.specs.declared.link.LinkPlan.{LinkPlan}
 use Rattle.enc_file.specs.Canonical.{canonical_records, canonical_text}
 use Rattle.enc_file.specs.Earlier.{all_gains, by_group, crafts_of, encounter_by, fate_group, gains_of, leg_group, legs_of, miss_group, plan_group, run_of, version_of, whole_run}
-use Rattle.enc_file.specs.Faults.{fault_of, stays_inside}
+use Rattle.flight.specs.Inside.{stays_inside}
+use Rattle.enc_file.specs.Faults.{fault_of}
 use Rattle.enc_file.specs.Reading.{Says, next_record, read_from}
 use Rattle.enc_file.specs.Spelling.{climb_records, craft_record, end_record, fate_record, gains_record, header_record, leg_record, miss_record, plan_record, run_record}
 use Rattle.enc_file.specs.declared.record.Record.{Record}
@@ -19,10 +20,9 @@ use Rattle.enc_file.specs.declared.record.Run.{Run}
 use Rattle.enc_file.specs.declared.record.TrackGains.{TrackGains}
 use Rattle.enc_file.specs.declared.refusal.Code.{Code}
 use Rattle.enc_file.specs.declared.refusal.Code.TheVariants as code
-use Rattle.enc_file.proofs.CanonicalLists.{few-crafts, goes-fates, goes-legs, goes-misses, goes-plans}
+use Rattle.enc_file.proofs.CanonicalLists.{fates-own, goes-fates, goes-legs, goes-misses, goes-plans, legs-own, misses-own, plans-own}
 use Rattle.enc_file.proofs.CanonicalRead.{records-of-canonical}
 use Rattle.enc_file.proofs.CanonicalSaid.{begun, goes-climbs, goes-crafts, goes-gains, goes-run, with_crafts, with_lists, with_run}
-use Rattle.enc_file.proofs.OwnOrder.{fates-in-order, legs-in-order, misses-in-order, plans-in-order}
 use Rattle.enc_file.proofs.ReadBack.{Gives, Goes, Known, gives-known, goes-join, goes-next, goes-none, step-on}
 use Rattle.enc_file.proofs.SaidByLines.{end-said, header-said}
 
@@ -62,14 +62,12 @@ gains-are earlier gains h = rw h refl
 
 encounter-is : (e : Parts) → IsEncounter e → (earlier : List Record) → Gives earlier (whole e) → encounter_by earlier ≡ e
 encounter-is e h earlier g =
-    let few = few-crafts e h in
-    let n = length e.crafts in
     parts-are e (version_of earlier) (whole_run earlier) (all_gains earlier) (crafts_of earlier) (by_group leg_group CRAFTS (legs_of earlier)) _ _ _
     g.version (run-is earlier _ g.run) (gains-are earlier _ g.gains) g.crafts
-    (ap (by_group leg_group CRAFTS) g.legs ∙ (legs-in-order n e.legs few h.records.legs).own)
-    (ap (by_group miss_group (CRAFTS * CRAFTS)) g.misses ∙ (misses-in-order n e.misses few h.records.misses).own)
-    (ap (by_group plan_group (CRAFTS * CRAFTS)) g.plans ∙ (plans-in-order n e.plans few h.records.plans).own)
-    (ap (by_group fate_group (CRAFTS * CRAFTS)) g.fates ∙ (fates-in-order n e.fates few h.records.fates).own)
+    (ap (by_group leg_group CRAFTS) g.legs ∙ (legs-own e h).own)
+    (ap (by_group miss_group (CRAFTS * CRAFTS)) g.misses ∙ (misses-own e h).own)
+    (ap (by_group plan_group (CRAFTS * CRAFTS)) g.plans ∙ (plans-own e h).own)
+    (ap (by_group fate_group (CRAFTS * CRAFTS)) g.fates ∙ (fates-own e h).own)
 
 -- The end.
 

@@ -37,6 +37,12 @@ position-none test xs none k d h =
 pub most-few : (version : ℕ) → most_crafts version ≤ CRAFTS
 most-few version = grind (arith, nat_tests)
 
+-- The addresses stay different with one that is new.
+pub apart-push : (crafts : List CraftSpec) (craft : CraftSpec) → AllPairs AreApart crafts → is_some (index_of crafts craft.address) ≡ false → AllPairs AreApart (crafts ++ craft ∷ [])
+apart-push crafts craft before new =
+    all_pairs_push AreApart crafts craft before
+    (λ k d h. eqb-false (get_or crafts k d).address craft.address (position-none (λ (other : CraftSpec). other.address == craft.address) crafts new k d h))
+
 craft-add : (version : ℕ) (crafts : List CraftSpec) (craft : CraftSpec) → AreCraftsRead version crafts → IsCraft craft → is_some (index_of crafts craft.address) ≡ false
     → nat_le (most_crafts version) (length crafts) ≡ false → AreCraftsRead version (crafts ++ craft ∷ [])
 craft-add version crafts craft before fits new counted =
@@ -44,9 +50,7 @@ craft-add version crafts craft before fits new counted =
     record {
       few = omega (arith, room, length-append crafts (craft ∷ []));
       ranges = All-push IsCraft crafts craft before.ranges fits;
-      apart =
-          all_pairs_push AreApart crafts craft before.apart
-          (λ k d h. eqb-false (get_or crafts k d).address craft.address (position-none (λ (other : CraftSpec). other.address == craft.address) crafts new k d h));
+      apart = apart-push crafts craft before.apart new;
     }
 
 ceiling-fits : (b : Bool) (limit : ℤ) (craft : CraftSpec) → IsCraft craft → IsAltitude limit → IsCraft (if b then record craft { ceiling = Some limit } else craft)
@@ -64,16 +68,20 @@ pairs-map R f (x ∷ xs) pairs =
     AllPairs-cons R (f x) (map f xs) (All-map (R (f x)) f xs (λ k d h. pairs 0 (suc k) d (omega arith) (omega arith)))
     (pairs-map R f xs (λ i j d order within. pairs (suc i) (suc j) d (omega arith) (omega arith)))
 
+-- And with a ceiling.
+pub apart-climb : (crafts : List CraftSpec) (address : ℕ) (limit : ℤ) → AllPairs AreApart crafts → AllPairs AreApart (map (with_ceiling address limit) crafts)
+apart-climb crafts address limit before =
+    pairs-map AreApart (with_ceiling address limit) crafts
+    (λ i j d order within same. before i j d order within
+    (sym (ceiling-same ((get_or crafts i d).address == address) limit (get_or crafts i d)) ∙ same ∙ ceiling-same ((get_or crafts j d).address == address) limit (get_or crafts j d)))
+
 craft-climb : (version : ℕ) (crafts : List CraftSpec) (address : ℕ) (limit : ℤ) → AreCraftsRead version crafts → IsAltitude limit → AreCraftsRead version (map (with_ceiling address limit) crafts)
 craft-climb version crafts address limit before high = record {
   few = omega (arith, before.few, length-map crafts (with_ceiling address limit));
   ranges =
       All-map IsCraft (with_ceiling address limit) crafts
       (λ k d h. ceiling-fits ((get_or crafts k d).address == address) limit (get_or crafts k d) (before.ranges k d h) high);
-  apart =
-      pairs-map AreApart (with_ceiling address limit) crafts
-      (λ i j d order within same. before.apart i j d order within
-      (sym (ceiling-same ((get_or crafts i d).address == address) limit (get_or crafts i d)) ∙ same ∙ ceiling-same ((get_or crafts j d).address == address) limit (get_or crafts j d)));
+  apart = apart-climb crafts address limit before.apart;
 }
 
 crafts-next : (earlier : List Record) (now : Record) → AreCraftsRead (version_of earlier) (crafts_of earlier) → IsNext earlier now → AreCraftsRead (version_of (now ∷ earlier)) (crafts_of (now ∷ earlier))

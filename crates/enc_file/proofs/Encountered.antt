@@ -1,19 +1,18 @@
 -- The records of a text that ends well say an encounter.
-use Rattle.std.proofs.Common.{◌≡◌, ℕ, ◌+◌, ◌*◌, ◌<◌, ◌≤◌, Bool, true, false, not, List, [], ◌∷◌, length, Option, Some, None, refl, arith}
+use Rattle.std.proofs.Common.{◌≡◌, ℕ, ◌*◌, ◌≤◌, Bool, true, false, not, List, [], ◌∷◌, length, Option, Some, None, refl, arith, inl, inr}
 use Rattle.std.specs.Prelude.{IsTrue, IfSome, is_none, unwrap_or}
 use Rattle.std.specs.List.{list_any}
-use Rattle.std.proofs.lemmas.Bool.{false≢true, not-false, or_parts, true≢false}
-use Rattle.std.proofs.lemmas.Bool.Decides.{nat_tests}
+use Rattle.std.proofs.lemmas.Bool.{cases_lt, false≢true, not-false, or_parts, true≢false}
 use Rattle.std.proofs.lemmas.List.Elements.{All-nil, All-push}
-use Rattle.acas_base.specs.Encounter.{AreCrafts, AreListed, AreRecords, IsEncounter, IsFate, IsLeg, IsMiss, IsPair, IsPlain, IsPlan, IsVersion, is_active}
-use Rattle.acas_base.specs.Order.{fate_below, is_below, leg_below, miss_below, plan_below}
+use Rattle.acas_base.specs.Encounter.{AreCrafts, AreListed, AreRecords, IsEncounter, IsFate, IsLeg, IsMiss, IsPlain, IsPlan, IsVersion, is_active}
+use Rattle.acas_base.specs.Order.{fate_below, leg_below, miss_below, plan_below}
 use Rattle.acas_base.specs.declared.TheConstants.{CRAFTS}
 use Rattle.acas_base.specs.declared.craft.CraftSpec.{CraftSpec}
 use Rattle.acas_base.specs.declared.craft.Leg.{Leg}
 use Rattle.acas_base.specs.declared.craft.Miss.{Miss}
 use Rattle.acas_base.specs.declared.link.Fate.{Fate}
 use Rattle.acas_base.specs.declared.link.LinkPlan.{LinkPlan}
-use Rattle.enc_file.specs.Earlier.{by_group, crafts_of, encounter_by, fate_group, fates_of, gains_of, leg_group, legs_of, miss_group, misses_of, pair_number, plan_group, plans_of, run_of, usual_gains, version_of}
+use Rattle.enc_file.specs.Earlier.{by_group, crafts_of, encounter_by, fate_group, fates_of, gains_of, leg_group, legs_of, miss_group, misses_of, plan_group, plans_of, run_of, usual_gains, version_of}
 use Rattle.enc_file.specs.Faults.{miscounts}
 use Rattle.enc_file.specs.WellRead.{AreGainsSaid, AreRead, IsNext, IsRunSaid}
 use Rattle.enc_file.specs.declared.record.Record.{Record}
@@ -23,7 +22,8 @@ use Rattle.enc_file.specs.declared.record.TrackGains.{TrackGains}
 use Rattle.enc_file.proofs.Crafted.{AreCraftsRead, crafts-read, most-few}
 use Rattle.enc_file.proofs.Faultless.{by-read}
 use Rattle.enc_file.proofs.Grouped.{all-by-group, by-group-rising, no-group}
-use Rattle.enc_file.proofs.Listed.{AreInOrder, AreListsRead, FateBefore, LegBefore, MissBefore, PlanBefore, lists-read}
+use Rattle.enc_file.proofs.Listed.{AreInOrder, AreListsRead, lists-read}
+use Rattle.enc_file.proofs.Orders.{IsOrder, fate-order, leg-order, miss-order, plan-order}
 
 -- The version is that of the header.
 version-read : (last : Record) (earlier : List Record) → AreRead (last ∷ earlier) → IsVersion (version_of (last ∷ earlier))
@@ -77,36 +77,25 @@ some-active (craft ∷ crafts) is = omega arith
 are-crafts : (version : ℕ) (crafts : List CraftSpec) → AreCraftsRead version crafts → list_any is_active crafts ≡ true → AreCrafts version crafts
 are-crafts version crafts read active = record { some = some-active crafts active; few = read.few; ranges = read.ranges; addresses = read.apart; active = active }
 
--- The number of a pair and a third number are ordered as the three numbers are.
-key-below : (a b c d e f : ℕ) → b < 16 → e < 16 → 16 * a + b ≤ 16 * d + e → (16 * a + b ≡ 16 * d + e → c < f) → is_below (a, b, c) (d, e, f) ≡ true
-key-below a b c d e f low high order same = grind (arith, nat_tests)
-
 -- A list that was read is, group by group, a list of an encounter.
-group-listed : {X : Type 0} (Fits : ℕ → X → Type 0) (group : X → ℕ) (Before : X → X → Type 0) (below : X → X → Bool) (count n : ℕ) (xs : List X) → AreInOrder (Fits count) group Before xs
-    → ((a b : X) → Fits count a → Fits count b → group a ≤ group b → (group a ≡ group b → Before a b) → IsTrue (below a b))
-    → AreListed Fits below count (by_group group n xs)
-group-listed Fits group Before below count n xs read rule = (all-by-group (Fits count) group n xs read.0, by-group-rising group below (Fits count) Before n xs read.0 read.1 rule)
+group-listed : {X : Type 0} (Fits : ℕ → X → Type 0) (group : X → ℕ) (groups : ℕ) (below : X → X → Bool) (count : ℕ) (xs : List X) → IsOrder (Fits count) group groups below
+    → AreInOrder (Fits count) group below xs → AreListed Fits below count (by_group group groups xs)
+group-listed {X} Fits group groups below count xs order read =
+    (all-by-group (Fits count) group groups xs read.0, by-group-rising group below (Fits count) (λ a b. below a b ≡ true) groups xs read.0 read.1 rule) where
+      rule : (a b : X) → Fits count a → Fits count b → group a ≤ group b → (group a ≡ group b → below a b ≡ true) → IsTrue (below a b)
+      rule a b one two low same = elim (cases_lt (group a) (group b)) [
+        | inl less ↦ order.between a b one two less
+        | inr more ↦ same (omega (arith, low, more))
+      ]
 
 are-records : (count : ℕ) (xs : List Leg) (ys : List Miss) (zs : List LinkPlan) (ws : List Fate) → count ≤ CRAFTS → AreListsRead count xs ys zs ws
     → AreRecords count (by_group leg_group CRAFTS xs) (by_group miss_group (CRAFTS * CRAFTS) ys) (by_group plan_group (CRAFTS * CRAFTS) zs) (by_group fate_group (CRAFTS * CRAFTS) ws)
 are-records count xs ys zs ws few read = record {
-  legs =
-      group-listed IsLeg leg_group LegBefore leg_below count CRAFTS xs read.legs
-      (λ a b one two order same. key-below a.craft 0 a.from b.craft 0 b.from (omega arith) (omega arith) (omega (arith, order)) (λ e. same (omega (arith, e))));
-  misses =
-      group-listed IsMiss miss_group MissBefore miss_below count (CRAFTS * CRAFTS) ys read.misses
-      (λ a b one two order same. key-below a.own a.target a.to b.own b.target b.from (omega (arith, one.pair.second, few)) (omega (arith, two.pair.second, few)) order same);
-  plans =
-      group-listed IsPlan plan_group PlanBefore plan_below count (CRAFTS * CRAFTS) zs read.plans
-      (λ a b one two order same. key-below a.sender a.receiver 0 b.sender b.receiver 0 (omega (arith, one.pair.second, few)) (omega (arith, two.pair.second, few)) order (λ e. absurd (same e)));
-  fates =
-      group-listed IsFate fate_group FateBefore fate_below count (CRAFTS * CRAFTS) ws read.fates
-      (λ a b one two order same. key-below a.sender a.receiver a.number b.sender b.receiver b.number (omega (arith, one.pair.second, few)) (omega (arith, two.pair.second, few)) order same);
+  legs = group-listed IsLeg leg_group CRAFTS leg_below count xs (leg-order count few) read.legs;
+  misses = group-listed IsMiss miss_group (CRAFTS * CRAFTS) miss_below count ys (miss-order count few) read.misses;
+  plans = group-listed IsPlan plan_group (CRAFTS * CRAFTS) plan_below count zs (plan-order count few) read.plans;
+  fates = group-listed IsFate fate_group (CRAFTS * CRAFTS) fate_below count ws (fate-order count few) read.fates;
 }
-
--- The number of a pair is below that of all pairs.
-pub pair-within : (count a b : ℕ) → count ≤ CRAFTS → IsPair count a b → pair_number a b < CRAFTS * CRAFTS
-pair-within count a b few two = omega (arith, few, two.first, two.second)
 
 -- What was read up to a good end is an encounter.
 pub encounter-said : (earlier : List Record) → AreRead earlier → miscounts earlier said.End ≡ false → IsEncounter (encounter_by earlier)

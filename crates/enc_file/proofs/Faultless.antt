@@ -8,7 +8,7 @@ use Rattle.enc_file.specs.declared.record.Record.TheVariants as said
 use Rattle.enc_file.specs.declared.refusal.Code.{Code}
 
 -- Of a chain of tests that ends in nothing none passes.
-chain-none : (a b c d e : Bool) (u v w x y : Code) → cond a (Some u) (cond b (Some v) (cond c (Some w) (cond d (Some x) (cond e (Some y) None)))) ≡ None
+pub chain-none : (a b c d e : Bool) (u v w x y : Code) → cond a (Some u) (cond b (Some v) (cond c (Some w) (cond d (Some x) (cond e (Some y) None)))) ≡ None
     → (a ≡ false) × (b ≡ false) × (c ≡ false) × (d ≡ false) × (e ≡ false)
 chain-none true b c d e u v w x y is = absurd (none-some u (sym is))
 chain-none false true c d e u v w x y is = absurd (none-some v (sym is))

@@ -1,15 +1,15 @@
 -- Whether a group has a late element, told by its last one.
 use Rattle.std.proofs.Common.{◌≡◌, ℕ, suc, ◌-◌, ◌<◌, Bool, true, false, ◌&&◌, ◌||◌, not, List, [], ◌∷◌, length, get_or, refl, sym, ◌∙◌, ap, arith, cond}
-use Rattle.std.specs.Prelude.{AllPairs, ◌==◌, nat_le, is_some, slice_get}
+use Rattle.std.specs.Prelude.{All, AllPairs, ◌==◌, slice_get}
 use Rattle.std.specs.List.{filter, list_any}
 use Rattle.std.specs.Option.{option_map_or}
 use Rattle.std.proofs.Math.Bool.{or-false}
-use Rattle.std.proofs.lemmas.Bool.{eqb-true}
-use Rattle.std.proofs.lemmas.Bool.Decides.{nat_tests}
-use Rattle.std.proofs.lemmas.List.Elements.{filter_passes}
+use Rattle.std.proofs.lemmas.Bool.{eqb-true, false≢true}
+use Rattle.std.proofs.lemmas.List.Elements.{All-filter, filter_passes}
 use Rattle.std.proofs.lemmas.List.Kept.{AllPairs-filter}
-use Rattle.enc_file.specs.Groups.{last_of}
 use Rattle.enc_file.specs.Earlier.{in_group}
+use Rattle.enc_file.specs.Faults.{comes_late}
+use Rattle.enc_file.specs.Groups.{is_late, last_of}
 
 -- The last element.
 last-more : {X : Type 0} (x y : X) (ys : List X) → last_of (x ∷ y ∷ ys) ≡ last_of (y ∷ ys)
@@ -39,38 +39,21 @@ any-by-last test (x ∷ y ∷ ys) later =
     ∙ any-by-last test (y ∷ ys) (λ i j d order within. later (suc i) (suc j) d (omega arith) (omega arith))
     ∙ ap (λ o. option_map_or test o false) (sym (last-more x y ys))
 
-later-passes : (m a b : ℕ) → a < b → nat_le m a ≡ true → nat_le m b ≡ true
-later-passes m a b order e = grind (arith, nat_tests)
+later-passes : (a b : Bool) → (b ≡ true → a ≡ true) → not a ≡ true → not b ≡ true
+later-passes a true h late = absurd (false≢true (sym (ap not (h refl)) ∙ late))
+later-passes a false h late = refl
 
--- In a group with rising keys the last key tells whether any reaches a bound.
-pub late-by-last : {X : Type 0} (group key : X → ℕ) (xs : List X) (m k : ℕ) → AllPairs (λ a b. group a ≡ group b → key a < key b) xs
-    → list_any (λ x. group x == k && nat_le m (key x)) xs ≡ option_map_or (λ x. nat_le m (key x)) (slice_get (in_group group xs k) (length (in_group group xs k) - 1)) false
-late-by-last group key xs m k pairs =
-    let kept = AllPairs-filter (λ a b. group a ≡ group b → key a < key b) (λ x. group x == k) xs pairs in
-    let of : (i : ℕ) (d : _) → i < length (in_group group xs k) → group (get_or (in_group group xs k) i d) ≡ k = λ i d h. eqb-true (group (get_or (in_group group xs k) i d)) k (filter_passes (λ x. group x == k) xs i d h) in
-    any-kept (λ x. group x == k) (λ x. nat_le m (key x)) xs
-    ∙ any-by-last (λ x. nat_le m (key x)) (in_group group xs k)
-    (λ i j d order within. later-passes m (key (get_or (in_group group xs k) i d)) (key (get_or (in_group group xs k) j d))
-    (kept i j d order within (of i d (omega arith) ∙ sym (of j d within))))
-
-any-cons : {X : Type 0} (b : Bool) (x : X) (xs : List X) → (b || not (length xs == 0)) ≡ not (length (cond b (x ∷ xs) xs) == 0)
-any-cons true x xs = grind (arith, nat_tests)
-any-cons false x xs = refl
-
--- A group has an element if it isn't empty, and then it has a last one.
-any-by-length : {X : Type 0} (test : X → Bool) (xs : List X) → list_any test xs ≡ not (length (filter test xs) == 0)
-any-by-length test [] = refl
-any-by-length test (x ∷ xs) = ap (λ b. test x || b) (any-by-length test xs) ∙ any-cons (test x) x (filter test xs)
-
-last-is-some : {X : Type 0} (xs : List X) → not (length xs == 0) ≡ is_some (last_of xs)
-last-is-some [] = refl
-last-is-some (x ∷ []) = refl
-last-is-some (x ∷ y ∷ ys) =
-    let one : not (length (x ∷ y ∷ ys) == 0) ≡ not (length (y ∷ ys) == 0) = grind (arith, nat_tests) in
-    one ∙ last-is-some (y ∷ ys) ∙ ap is_some (sym (last-more x y ys))
-
-pub some-by-length : {X : Type 0} (group : X → ℕ) (xs : List X) (k : ℕ) → list_any (λ x. group x == k) xs ≡ not (length (in_group group xs k) == 0)
-some-by-length group xs k = any-by-length (λ x. group x == k) xs
-
-pub some-by-last : {X : Type 0} (group : X → ℕ) (xs : List X) (k : ℕ) → list_any (λ x. group x == k) xs ≡ is_some (slice_get (in_group group xs k) (length (in_group group xs k) - 1))
-some-by-last group xs k = some-by-length group xs k ∙ last-is-some (in_group group xs k)
+-- In a group that is in order the last record tells whether any comes too late.
+pub late-by-last : {X : Type 0} (Fits : X → Type 0) (group : X → ℕ) (below : X → X → Bool) (xs : List X) (x : X)
+    → ((a b c : X) → Fits b → below a b ≡ true → below b c ≡ true → below a c ≡ true) → All Fits xs → AllPairs (λ a b. group a ≡ group b → below a b ≡ true) xs
+    → comes_late group below xs x ≡ is_late below (last_of (in_group group xs (group x))) x
+late-by-last {X} Fits group below xs x trans fits pairs =
+    let k = group x in
+    let own = in_group group xs k in
+    let kept = AllPairs-filter (λ a b. group a ≡ group b → below a b ≡ true) (λ y. group y == k) xs pairs in
+    let fit : All Fits own = All-filter (λ y. group y == k) Fits xs fits in
+    let of : (i : ℕ) (d : X) → i < length own → group (get_or own i d) ≡ k = λ i d h. eqb-true (group (get_or own i d)) k (filter_passes (λ y. group y == k) xs i d h) in
+    any-kept (λ y. group y == k) (λ y. not (below y x)) xs
+    ∙ any-by-last (λ y. not (below y x)) own
+    (λ i j d order within. later-passes (below (get_or own i d) x) (below (get_or own j d) x)
+    (trans (get_or own i d) (get_or own j d) x (fit j d within) (kept i j d order within (of i d (omega arith) ∙ sym (of j d within)))))

@@ -1,6 +1,4 @@
 pub mod Reached
-pub mod Adding
-pub mod Digits
 pub mod Written
 pub mod Parts
 pub mod LinesRead
@@ -9,13 +7,13 @@ pub mod CanonicalRead
 pub mod Spelled
 pub mod Joining
 pub mod Grouped
+pub mod Orders
 pub mod Lasting
 pub mod Faultless
 pub mod Crafted
 pub mod Named
 pub mod Listed
 pub mod Encountered
-pub mod Boxed
 pub mod Repeated
 pub mod Climbing
 pub mod Refused
@@ -31,4 +29,8 @@ pub mod CanonicalSaid
 pub mod CanonicalLists
 pub mod CanonicalWhole
 pub mod Taken
+pub mod LowestCode
+pub mod Stated
+pub mod StatedKinds
+pub mod StatedText
 pub mod WholeText

@@ -8,7 +8,7 @@ use Rattle.csv.specs.declared.parser.Action.{Action}
 use Rattle.csv.specs.declared.parser.State.{State}
 use Rattle.csv.specs.declared.parser.State.TheVariants as st
 use Rattle.csv.proofs.ReadFacts.{run-copies}
-use Rattle.enc_file.specs.Lines.{joined}
+use Rattle.acas_lines.specs.Lines.{joined}
 use Rattle.enc_file.specs.Records.{unquoted}
 use Rattle.enc_file.specs.Spelling.{line_of}
 use Rattle.enc_file.proofs.Reached.{reached-all}

@@ -1,8 +1,10 @@
 -- When a record stands well after what earlier ones give, and what is known then.
-use Rattle.std.proofs.Common.{◌≡◌, ℕ, ◌<◌, ◌≤◌, Bool, false, ℤ, List, [], ◌∷◌, ◌++◌, length, map, Some, None, count_ones, nat_le, refl, arith}
-use Rattle.std.specs.List.{AllByRecursion, list_any}
+use Rattle.std.proofs.Common.{◌≡◌, ℕ, ◌<◌, ◌≤◌, ◌==◌, ◌&&◌, not, Bool, true, false, ℤ, List, [], ◌∷◌, ◌++◌, length, map, Some, None, count_ones, nat_le, refl, arith}
+use Rattle.std.specs.List.{AllByRecursion}
+use Rattle.std.proofs.Math.Bool.{and-false}
 use Rattle.std.proofs.lemmas.Bool.Decides.{nat_tests}
 use Rattle.acas_base.specs.Encounter.{AreCopies, most_crafts}
+use Rattle.acas_base.specs.Order.{fate_below, leg_below, miss_below, plan_below}
 use Rattle.acas_base.specs.declared.craft.CraftSpec.{CraftSpec}
 use Rattle.acas_base.specs.declared.craft.Leg.{Leg}
 use Rattle.acas_base.specs.declared.craft.Miss.{Miss}
@@ -10,14 +12,13 @@ use Rattle.acas_base.specs.declared.link.CopyPlan.{CopyPlan}
 use Rattle.acas_base.specs.declared.link.Fate.{Fate}
 use Rattle.acas_base.specs.declared.link.LinkPlan.{LinkPlan}
 use Rattle.std.specs.Option.{option_to_list}
-use Rattle.enc_file.specs.Earlier.{fate_by, for_index, for_pair, index_of, leg_by, miss_by, plan_by, with_ceiling}
-use Rattle.enc_file.specs.Faults.{are_masks_bad, has_ceiling, is_mask_bad}
+use Rattle.enc_file.specs.Earlier.{fate_by, fate_group, for_index, for_pair, index_of, leg_by, leg_group, miss_by, miss_group, plan_by, plan_group, with_ceiling}
+use Rattle.enc_file.specs.Faults.{are_masks_bad, comes_late, has_ceiling, is_mask_bad}
 use Rattle.enc_file.specs.declared.record.Addresses.{Addresses}
 use Rattle.enc_file.specs.declared.record.Record.TheVariants as said
 use Rattle.enc_file.specs.declared.record.Run.{Run}
 use Rattle.enc_file.specs.declared.record.TrackGains.{TrackGains}
 use Rattle.enc_file.proofs.AircraftFound.{ArePair, IsOther, index-none}
-use Rattle.enc_file.proofs.OwnOrder.{repeats_fate, repeats_leg, repeats_miss, repeats_plan}
 use Rattle.enc_file.proofs.Pairwise.{any-fails}
 use Rattle.enc_file.proofs.ReadBack.{Follows, Known}
 use Rattle.enc_file.proofs.SaidByLines.{course_of, fate_copies, plan_copies}
@@ -64,14 +65,19 @@ climb-follows known n limit i found none = record {
   gives = refl;
 }
 
-no-repeat : {X : Type 0} (repeats : X → X → Bool) (x : X) (xs : List X) → AllByRecursion (λ other. repeats x other ≡ false) xs → list_any (repeats x) xs ≡ false
-no-repeat repeats x xs h = any-fails (repeats x) (λ other. repeats x other ≡ false) (λ other k. k) xs h
+in-time : (same below : Bool) → below ≡ true → (same && not below) ≡ false
+in-time same below h = rw h (and-false same)
+
+-- What stands after all of a list comes late after none.
+not-late : {X : Type 0} (group : X → ℕ) (below : X → X → Bool) (x : X) (xs : List X) → AllByRecursion (λ other. below other x ≡ true) xs → comes_late group below xs x ≡ false
+not-late group below x xs h =
+    any-fails (λ other. group other == group x && not (below other x)) (λ other. below other x ≡ true) (λ other k. in-time (group other == group x) (below other x) k) xs h
 
 -- A leg that begins after those of its aircraft.
-pub leg-follows : (known : Known) (n : ℕ) (leg : Leg) → index_of known.crafts n ≡ Some leg.craft → AllByRecursion (λ other. repeats_leg leg other ≡ false) known.legs
+pub leg-follows : (known : Known) (n : ℕ) (leg : Leg) → index_of known.crafts n ≡ Some leg.craft → AllByRecursion (λ other. leg_below other leg ≡ true) known.legs
     → Follows (said.Leg n (course_of leg)) known (record known { legs = known.legs ++ leg ∷ [] })
 leg-follows known n leg found later = record {
-  sound = λ earlier g. rw (g.crafts, g.legs, found, no-repeat repeats_leg leg known.legs later) refl;
+  sound = λ earlier g. rw (g.crafts, g.legs, found, not-late leg_group leg_below leg known.legs later) refl;
   adds = λ k. record k { legs = k.legs ++ option_to_list (for_index k.crafts n (leg_by (course_of leg))) };
   is = λ earlier. refl;
   unended = λ earlier. refl;
@@ -79,10 +85,10 @@ leg-follows known n leg found later = record {
 }
 
 -- A miss that begins after those of its pair have ended.
-pub miss-follows : (known : Known) (pair : Addresses) (miss : Miss) → ArePair known.crafts pair miss.own miss.target → AllByRecursion (λ other. repeats_miss miss other ≡ false) known.misses
+pub miss-follows : (known : Known) (pair : Addresses) (miss : Miss) → ArePair known.crafts pair miss.own miss.target → AllByRecursion (λ other. miss_below other miss ≡ true) known.misses
     → Follows (said.Miss pair miss.from miss.to) known (record known { misses = known.misses ++ miss ∷ [] })
 miss-follows known pair miss found later = record {
-  sound = λ earlier g. rw (g.crafts, g.misses, found.apart, found.first, found.second, no-repeat repeats_miss miss known.misses later) refl;
+  sound = λ earlier g. rw (g.crafts, g.misses, found.apart, found.first, found.second, not-late miss_group miss_below miss known.misses later) refl;
   adds = λ k. record k { misses = k.misses ++ option_to_list (for_pair k.crafts pair (miss_by miss.from miss.to)) };
   is = λ earlier. refl;
   unended = λ earlier. refl;
@@ -92,16 +98,16 @@ miss-follows known pair miss found later = record {
 mask-good : (copy : CopyPlan) → count_ones copy.mask ≤ 3 → is_mask_bad copy ≡ false
 mask-good copy h = grind (arith, nat_tests, h)
 
-masks-good : (count : ℕ) (one two three : CopyPlan) → AreCopies count one two three → are_masks_bad (record { count = count; first = one; second = two; third = three }) ≡ false
+masks-good : (count : ℕ) (one two three : CopyPlan) → AreCopies count one two three → are_masks_bad one two three ≡ false
 masks-good count one two three h = rw (mask-good one h.first.mask, mask-good two h.second.mask, mask-good three h.third.mask) refl
 
 -- A plan of a pair that has none.
-pub plan-follows : (known : Known) (pair : Addresses) (plan : LinkPlan) → ArePair known.crafts pair plan.sender plan.receiver → AllByRecursion (λ other. repeats_plan plan other ≡ false) known.plans
+pub plan-follows : (known : Known) (pair : Addresses) (plan : LinkPlan) → ArePair known.crafts pair plan.sender plan.receiver → AllByRecursion (λ other. plan_below other plan ≡ true) known.plans
     → AreCopies plan.copies plan.first plan.second plan.third → Follows (said.Plan pair (plan_copies plan)) known (record known { plans = known.plans ++ plan ∷ [] })
 plan-follows known pair plan found later copies =
     let masks = masks-good plan.copies plan.first plan.second plan.third copies in
     record {
-      sound = λ earlier g. rw (g.crafts, g.plans, found.apart, found.first, found.second, no-repeat repeats_plan plan known.plans later, masks) refl;
+      sound = λ earlier g. rw (g.crafts, g.plans, found.apart, found.first, found.second, not-late plan_group plan_below plan known.plans later, masks) refl;
       adds = λ k. record k { plans = k.plans ++ option_to_list (for_pair k.crafts pair (plan_by (plan_copies plan))) };
       is = λ earlier. refl;
       unended = λ earlier. refl;
@@ -109,12 +115,12 @@ plan-follows known pair plan found later copies =
     }
 
 -- A fate of a greater number than those of its pair.
-pub fate-follows : (known : Known) (pair : Addresses) (fate : Fate) → ArePair known.crafts pair fate.sender fate.receiver → AllByRecursion (λ other. repeats_fate fate other ≡ false) known.fates
+pub fate-follows : (known : Known) (pair : Addresses) (fate : Fate) → ArePair known.crafts pair fate.sender fate.receiver → AllByRecursion (λ other. fate_below other fate ≡ true) known.fates
     → AreCopies fate.copies fate.first fate.second fate.third → Follows (said.Fate pair fate.number (fate_copies fate)) known (record known { fates = known.fates ++ fate ∷ [] })
 fate-follows known pair fate found later copies =
     let masks = masks-good fate.copies fate.first fate.second fate.third copies in
     record {
-      sound = λ earlier g. rw (g.crafts, g.fates, found.apart, found.first, found.second, no-repeat repeats_fate fate known.fates later, masks) refl;
+      sound = λ earlier g. rw (g.crafts, g.fates, found.apart, found.first, found.second, not-late fate_group fate_below fate known.fates later, masks) refl;
       adds = λ k. record k { fates = k.fates ++ option_to_list (for_pair k.crafts pair (fate_by fate.number (fate_copies fate))) };
       is = λ earlier. refl;
       unended = λ earlier. refl;

@@ -1,11 +1,13 @@
 -- What the tables hold after one more record.
-use Rattle.std.proofs.Common.{◌≡◌, ℕ, ◌+◌, ◌*◌, ◌<◌, ◌≤◌, true, false, ℤ, pos, neg_ℤ, w32, List, [], ◌∷◌, ◌++◌, length, map, set, get_or, Option, Some, None, Vec, Global, refl, sym, ap, ◌∙◌, arith}
-use Rattle.std.specs.Prelude.{FitsSigned, is_none, option_map, unwrap_or}
+use Rattle.std.proofs.Common.{◌≡◌, ℕ, ◌+◌, ◌*◌, ◌<◌, ◌≤◌, Bool, true, false, ℤ, pos, neg_ℤ, w32, List, [], ◌∷◌, ◌++◌, length, map, set, get_or, Option, Some, None, Vec, Global, refl, sym, ap, ◌∙◌, arith, subst}
+use Rattle.std.specs.Prelude.{FitsSigned, Result, Ok, Err, if◌then◌else◌, is_none, option_map, unwrap_or}
 use Rattle.std.specs.List.{flat_map, list_any}
 use Rattle.std.specs.Option.{option_to_list}
 use Rattle.std.proofs.lemmas.Bool.{false≢true}
+use Rattle.std.proofs.lemmas.Option.{none-some}
 use Rattle.std.proofs.lemmas.List.FromFn.{length-map-range_with_len}
 use Rattle.acas_base.specs.Encounter.{Parts, encounter_of, is_active}
+use Rattle.acas_base.specs.Order.{fate_below, leg_below, miss_below, plan_below}
 use Rattle.acas_base.specs.declared.TheConstants.{CRAFTS}
 use Rattle.acas_base.specs.declared.craft.CraftSpec.{CraftSpec}
 use Rattle.acas_base.specs.declared.craft.Leg.{Leg}
@@ -13,9 +15,10 @@ use Rattle.acas_base.specs.declared.craft.Miss.{Miss}
 use Rattle.acas_base.specs.declared.link.Fate.{Fate}
 use Rattle.acas_base.specs.declared.link.LinkPlan.{LinkPlan}
 use Rattle.enc_file.specs.Earlier.{all_gains, by_group, crafts_of, encounter_by, fate_by, fate_group, fates_of, for_index, for_pair, has_ended, in_group, index_of, leg_by, leg_group, legs_of, miss_by, miss_group, misses_of, pair_number, plan_by, plan_group, plans_of, run_of, usual_gains, version_of, whole_run, with_ceiling}
-use Rattle.enc_file.specs.Faults.{fault_of, miscounts}
-use Rattle.enc_file.specs.Groups.{group_at, last_of}
-use Rattle.enc_file.specs.Tables.{AreGoing, Holds, IsMade, grouped}
+use Rattle.enc_file.specs.Faults.{comes_late, fault_of, miscounts}
+use Rattle.enc_file.specs.Groups.{Lists, fate_masked, group_at, is_late, last_of, leg_masked, listed_fault, miss_masked, plan_masked}
+use Rattle.enc_file.specs.Reading.{refusal_after}
+use Rattle.enc_file.specs.Tables.{Adds, AreGoing, Holds, IsMade, Settles, grouped}
 use Rattle.enc_file.specs.WellRead.{AreRead, IsNext, IsOfFormat, IsSaid}
 use Rattle.enc_file.specs.declared.record.Addresses.{Addresses}
 use Rattle.enc_file.specs.declared.record.Copies.{Copies}
@@ -24,10 +27,17 @@ use Rattle.enc_file.specs.declared.record.Record.{Record}
 use Rattle.enc_file.specs.declared.record.Record.TheVariants as said
 use Rattle.enc_file.specs.declared.record.Run.{Run}
 use Rattle.enc_file.specs.declared.record.TrackGains.{TrackGains}
+use Rattle.enc_file.specs.declared.refusal.Code.{Code}
+use Rattle.enc_file.specs.declared.refusal.Code.TheVariants as code
+use Rattle.enc_file.specs.declared.refusal.ReadError.{ReadError}
+use Rattle.enc_file.specs.declared.refusal.ReadError.TheVariants.{Refused}
 use Rattle.enc_file.specs.declared.tables.Tables.{Tables}
 use Rattle.enc_file.proofs.Crafted.{crafts-few}
-use Rattle.enc_file.proofs.Encountered.{encounter-said, pair-within}
+use Rattle.enc_file.proofs.Encountered.{encounter-said}
 use Rattle.enc_file.proofs.Grouped.{groups-add, groups-at, groups-joined}
+use Rattle.enc_file.proofs.Orders.{pair-within}
+use Rattle.enc_file.proofs.Refused.{fate-fault, leg-fault, miss-fault, plan-fault, refuses}
+use Rattle.enc_file.proofs.Repeated.{fate-late, leg-late, miss-late, plan-late}
 use Rattle.enc_file.proofs.Spelled.{fits-between}
 use Rattle.enc_file.proofs.Named.{for-pair-some, index-within, pair-known, pair_of}
 
@@ -54,8 +64,13 @@ still-none earlier now made is going unended = rw (none-made earlier made is goi
 pub groups-length : {X : Type 0} (group : X → ℕ) (xs : List X) (lists : List (List X)) (n : ℕ) → lists ≡ grouped group n xs → length lists ≡ n
 groups-length group xs lists n is = ap length is ∙ length-map-range_with_len (in_group group xs) 0 n
 
-pub last-in : {X : Type 0} (group : X → ℕ) (xs : List X) (lists : List (List X)) (n k : ℕ) → lists ≡ grouped group n xs → k < n → last_of (group_at lists k) ≡ last_of (in_group group xs k)
-last-in group xs lists n k is within = ap last_of (ap (λ all. get_or all k []) is ∙ groups-at group xs n k within)
+-- What is wrong with a record, told by the last one of the group that is kept.
+kept-fault : {X : Type 0} (group : X → ℕ) (below : X → X → Bool) (masked : X → Bool) (xs : List X) (lists : List (List X)) (n : ℕ) (x : X) → lists ≡ grouped group n xs → group x < n
+    → comes_late group below xs x ≡ is_late below (last_of (in_group group xs (group x))) x
+    → listed_fault below masked (last_of (group_at lists (group x))) x ≡ (if comes_late group below xs x then Some code.Repeat else if masked x then Some code.Mask else None)
+kept-fault group below masked xs lists n x is within late =
+    ap (λ list. listed_fault below masked (last_of list) x) (ap (λ all. get_or all (group x) []) is ∙ groups-at group xs n (group x) within)
+    ∙ ap (λ b. if b then Some code.Repeat else if masked x then Some code.Mask else None) (sym late)
 
 -- An aircraft's index is that of a group.
 pub craft-within : (earlier : List Record) (address craft : ℕ) → AreRead earlier → index_of (crafts_of earlier) address ≡ Some craft → craft < CRAFTS
@@ -68,6 +83,46 @@ pair-in earlier pair p read at =
 
 pub number-within : (earlier : List Record) (pair : Addresses) (p : ℕ × ℕ) → AreRead earlier → pair_of (crafts_of earlier) pair ≡ Some p → pair_number p.0 p.1 < CRAFTS * CRAFTS
 number-within earlier pair p read at = pair-within (length (crafts_of earlier)) p.0 p.1 (crafts-few earlier read) (pair-known (crafts_of earlier) pair p at)
+
+-- What was settled is an answer on the record, if the fault is its fault, and without one the tables hold it.
+pub settled : {T : Type 0} (earlier : List Record) (now : Record) (tables kept new : Tables) (fault : Option Code) (result : Result T ReadError) → Holds earlier tables → kept.count ≡ tables.count
+    → fault ≡ fault_of earlier now → (fault ≡ None → Holds (now ∷ earlier) (record kept { count = kept.count + 1 })) → Settles kept fault new result → Adds earlier now new result
+settled earlier now tables kept new None (Ok t) h count is holds settles = subst (Holds (now ∷ earlier)) (sym settles.1) (holds refl)
+settled earlier now tables kept new None (Err e) h count is holds settles = absurd (cc (settles.0))
+settled earlier now tables kept new (Some why) (Ok t) h count is holds settles = absurd (settles.0)
+settled earlier now tables kept new (Some why) (Err e) h count is holds settles =
+    refuses earlier tables (λ w. fault_of earlier now ≡ Some w) why e h (sym is) (settles.0 ∙ ap (λ n. Refused (refusal_after n why)) count)
+
+-- What an added list is.
+pub listed : {X : Type 0} (group : X → ℕ) (below : X → X → Bool) (masked : X → Bool) (old new : List (List X)) (x : X) (fault : Option Code)
+    → Lists group below masked old x new fault → fault ≡ None → new ≡ set old (group x) (group_at old (group x) ++ x ∷ [])
+listed group below masked old new x None h is = h.1
+listed group below masked old new x (Some why) h is = absurd (none-some why (sym is))
+
+-- The faults of each list's records.
+pub leg-kept : (earlier : List Record) (tables : Tables) (address : ℕ) (course : Course) (craft : ℕ) → Holds earlier tables → index_of (crafts_of earlier) address ≡ Some craft
+    → listed_fault leg_below leg_masked (last_of (group_at tables.legs craft)) (leg_by course craft) ≡ fault_of earlier (said.Leg address course)
+leg-kept earlier tables address course craft h at =
+    let x = leg_by course craft in
+    kept-fault leg_group leg_below leg_masked (legs_of earlier) tables.legs CRAFTS x h.legs (craft-within earlier address craft h.read at) (leg-late earlier h.read x) ∙ sym (leg-fault earlier address course craft at)
+
+pub miss-kept : (earlier : List Record) (tables : Tables) (pair : Addresses) (from to : ℕ) (p : ℕ × ℕ) → Holds earlier tables → pair_of (crafts_of earlier) pair ≡ Some p
+    → listed_fault miss_below miss_masked (last_of (group_at tables.misses (pair_number p.0 p.1))) (miss_by from to p.0 p.1) ≡ fault_of earlier (said.Miss pair from to)
+miss-kept earlier tables pair from to p h at =
+    let x = miss_by from to p.0 p.1 in
+    kept-fault miss_group miss_below miss_masked (misses_of earlier) tables.misses (CRAFTS * CRAFTS) x h.misses (number-within earlier pair p h.read at) (miss-late earlier h.read x) ∙ sym (miss-fault earlier pair from to p at)
+
+pub plan-kept : (earlier : List Record) (tables : Tables) (pair : Addresses) (copies : Copies) (p : ℕ × ℕ) → Holds earlier tables → pair_of (crafts_of earlier) pair ≡ Some p
+    → listed_fault plan_below plan_masked (last_of (group_at tables.plans (pair_number p.0 p.1))) (plan_by copies p.0 p.1) ≡ fault_of earlier (said.Plan pair copies)
+plan-kept earlier tables pair copies p h at =
+    let x = plan_by copies p.0 p.1 in
+    kept-fault plan_group plan_below plan_masked (plans_of earlier) tables.plans (CRAFTS * CRAFTS) x h.plans (number-within earlier pair p h.read at) (plan-late earlier h.read x) ∙ sym (plan-fault earlier pair copies p at)
+
+pub fate-kept : (earlier : List Record) (tables : Tables) (pair : Addresses) (number : ℕ) (copies : Copies) (p : ℕ × ℕ) → Holds earlier tables → pair_of (crafts_of earlier) pair ≡ Some p
+    → listed_fault fate_below fate_masked (last_of (group_at tables.fates (pair_number p.0 p.1))) (fate_by number copies p.0 p.1) ≡ fault_of earlier (said.Fate pair number copies)
+fate-kept earlier tables pair number copies p h at =
+    let x = fate_by number copies p.0 p.1 in
+    kept-fault fate_group fate_below fate_masked (fates_of earlier) tables.fates (CRAFTS * CRAFTS) x h.fates (number-within earlier pair p h.read at) (fate-late earlier h.read x) ∙ sym (fate-fault earlier pair number copies p at)
 
 -- One more in its group.
 one-more : {X : Type 0} (group : X → ℕ) (xs : List X) (lists lists2 : List (List X)) (n k : ℕ) (o : Option X) (x : X)

@@ -8,9 +8,8 @@ use Rattle.csv.specs.Reading.{Reached, is_bom, strip_bom}
 use Rattle.csv.specs.declared.parser.State.{State}
 use Rattle.csv.specs.declared.parser.State.TheVariants as st
 use Rattle.acas_base.specs.Encounter.{Parts}
-use Rattle.flight.specs.Inside.{IsInside}
+use Rattle.flight.specs.Inside.{IsInside, stays_inside}
 use Rattle.enc_file.specs.Earlier.{encounter_by, has_ended}
-use Rattle.enc_file.specs.Faults.{stays_inside}
 use Rattle.enc_file.specs.Reading.{Explains, IsReading, goes_on, missing_after, next_record, read_from, reading_of, refusal_after}
 use Rattle.enc_file.specs.Records.{records_of, unquoted}
 use Rattle.enc_file.specs.Tables.{Refuses}
@@ -21,7 +20,7 @@ use Rattle.enc_file.specs.declared.refusal.Code.{Code}
 use Rattle.enc_file.specs.declared.refusal.ReadError.{ReadError}
 use Rattle.enc_file.specs.declared.refusal.ReadError.TheVariants.{OutOfMemory, Refused}
 use Rattle.enc_file.specs.declared.refusal.Refusal.{Refusal}
-use Rattle.enc_file.proofs.Boxed.{stays-inside}
+use Rattle.flight.proofs.Boxed.{stays-inside}
 use Rattle.enc_file.proofs.Faultless.{faultless}
 use Rattle.enc_file.proofs.Reached.{reached-front, reached-short}
 

@@ -2,7 +2,7 @@
 use Rattle.std.specs.Prelude.{ℕ, List, [], ◌∷◌, ◌++◌, map}
 use Rattle.std.specs.List.{flat_map}
 use Rattle.acas_base.specs.Encounter.{Parts}
-use Rattle.enc_file.specs.Lines.{joined}
+use Rattle.acas_lines.specs.Lines.{joined}
 use Rattle.enc_file.specs.Spelling.{header_record, run_record, gains_record, craft_record, climb_records, leg_record, miss_record, plan_record, fate_record, end_record, line_of}
 
 -- All records of an encounter: the version, the run and the gains; the aircraft, and the ceilings of those that have one;

@@ -1,5 +1,3 @@
-pub mod Lines
-pub mod Batches
 pub mod Records
 pub mod Spelling
 pub mod Canonical
@@ -9,6 +7,7 @@ pub mod Saying
 pub mod Earlier
 pub mod Faults
 pub mod Reading
+pub mod Conditions
 pub mod WellRead
 pub mod Groups
 pub mod Tables

@@ -23,12 +23,12 @@ checked earlier (Ok now) = unless_faulty now (fault_of earlier now)
 
 -- A record after the header and before the end.
 abbrev pub later_record : List Record → List (List ℕ) → Result Record Code
-later_record earlier row = if has_ended earlier then Err code.After else checked earlier (record_of (version_of earlier) row)
+later_record earlier fields = if has_ended earlier then Err code.After else checked earlier (record_of (version_of earlier) fields)
 
 -- What the next record says: the first is the header, and none may follow the end.
 abbrev pub next_record : List Record → List (List ℕ) → Result Record Code
-next_record [] row = header_of row
-next_record (last ∷ earlier) row = later_record (last ∷ earlier) row
+next_record [] fields = header_of fields
+next_record (last ∷ earlier) fields = later_record (last ∷ earlier) fields
 
 -- The refusal of the record after so many.
 abbrev pub refusal_after : ℕ → Code → Refusal
@@ -46,7 +46,7 @@ goes_on count (Ok now) next = next now
 -- What the records after the earlier ones make of them: the first with a fault is refused.
 unfoldable pub read_from : List Record → List (List (List ℕ)) → Result Parts Refusal
 read_from earlier [] = if has_ended earlier then Ok (encounter_by earlier) else Err (refusal_after (length earlier) (missing_after (length earlier)))
-read_from earlier (row ∷ rest) = goes_on (length earlier) (next_record earlier row) (λ now. read_from (now ∷ earlier) rest)
+read_from earlier (fields ∷ rest) = goes_on (length earlier) (next_record earlier fields) (λ now. read_from (now ∷ earlier) rest)
 
 -- What a text says.
 abbrev pub reading_of : List ℕ → Result Parts Refusal

@@ -16,111 +16,111 @@ needs (Some x) why next = next x
 
 -- A number that has to be there.
 abbrev pub needs_number : {Y : Type 0} → List (List ℕ) → ℕ → ℕ → ℕ → (ℤ → Result Y Code) → Result Y Code
-needs_number row place low high next = needs (number_in (neg_ℤ (pos low)) (pos high) (field row place)) code.Number next
+needs_number fields place low high next = needs (number_in (neg_ℤ (pos low)) (pos high) (field fields place)) code.Number next
 
 abbrev pub needs_count : {Y : Type 0} → List (List ℕ) → ℕ → ℕ → ℕ → (ℕ → Result Y Code) → Result Y Code
-needs_count row place low high next = needs (count_in low high (field row place)) code.Number next
+needs_count fields place low high next = needs (count_in low high (field fields place)) code.Number next
 
 abbrev pub needs_address : {Y : Type 0} → List (List ℕ) → ℕ → (ℕ → Result Y Code) → Result Y Code
-needs_address row place next = needs (address_in (field row place)) code.Address next
+needs_address fields place next = needs (address_in (field fields place)) code.Address next
 
 -- A record of so many fields.
 abbrev pub with_fields : List (List ℕ) → ℕ → Result Record Code → Result Record Code
-with_fields row count what = if length row == count then what else Err code.Fields
+with_fields fields count what = if length fields == count then what else Err code.Fields
 
 -- The version of the format, of a header.
 unfoldable pub version_in : List (List ℕ) → Option ℕ
-version_in row = if length row == 2 && bytes_eq (field row 0) (codes "encounter") then count_in 1 2 (field row 1) else None
+version_in fields = if length fields == 2 && bytes_eq (field fields 0) (codes "encounter") then count_in 1 2 (field fields 1) else None
 
 -- The first record.
 abbrev pub header_of : List (List ℕ) → Result Record Code
-header_of row = needs (version_in row) code.Header (λ version. Ok (said.Header version))
+header_of fields = needs (version_in fields) code.Header (λ version. Ok (said.Header version))
 
 unfoldable pub run_of : List (List ℕ) → Result Record Code
-run_of row =
-    with_fields row 3 (
-    needs_count row 1 1 600 (λ cycles.
-    needs_number row 2 1000 15000 (λ elevation.
+run_of fields =
+    with_fields fields 3 (
+    needs_count fields 1 1 600 (λ cycles.
+    needs_number fields 2 1000 15000 (λ elevation.
     Ok (said.Run (record { cycles = cycles; elevation = elevation })))))
 
 unfoldable pub gains_of : List (List ℕ) → Result Record Code
-gains_of row =
-    with_fields row 5 (
-    needs_count row 1 0 1024 (λ range_alpha.
-    needs_count row 2 0 1024 (λ range_beta.
-    needs_count row 3 0 1024 (λ altitude_alpha.
-    needs_count row 4 0 1024 (λ altitude_beta.
+gains_of fields =
+    with_fields fields 5 (
+    needs_count fields 1 0 1024 (λ range_alpha.
+    needs_count fields 2 0 1024 (λ range_beta.
+    needs_count fields 3 0 1024 (λ altitude_alpha.
+    needs_count fields 4 0 1024 (λ altitude_beta.
     Ok (said.Gains (record { range = record { alpha = range_alpha; beta = range_beta }; altitude = record { alpha = altitude_alpha; beta = altitude_beta } })))))))
 
 unfoldable pub craft_of : List (List ℕ) → Result Record Code
-craft_of row =
-    with_fields row 6 (
-    needs (kind_in (field row 2)) code.Number (λ kind.
-    needs_number row 3 1000000 1000000 (λ x.
-    needs_number row 4 1000000 1000000 (λ y.
-    needs_number row 5 1000 60000 (λ alt.
-    needs_address row 1 (λ address.
+craft_of fields =
+    with_fields fields 6 (
+    needs (kind_in (field fields 2)) code.Number (λ kind.
+    needs_number fields 3 1000000 1000000 (λ x.
+    needs_number fields 4 1000000 1000000 (λ y.
+    needs_number fields 5 1000 60000 (λ alt.
+    needs_address fields 1 (λ address.
     Ok (said.Craft (record { address = address; kind = kind; x = x; y = y; alt = alt; ceiling = None }))))))))
 
 unfoldable pub climb_of : List (List ℕ) → Result Record Code
-climb_of row =
-    with_fields row 3 (
-    needs_number row 2 1000 60000 (λ limit.
-    needs_address row 1 (λ address.
+climb_of fields =
+    with_fields fields 3 (
+    needs_number fields 2 1000 60000 (λ limit.
+    needs_address fields 1 (λ address.
     Ok (said.Climb address limit))))
 
 unfoldable pub leg_of : List (List ℕ) → Result Record Code
-leg_of row =
-    with_fields row 6 (
-    needs_count row 2 1 600 (λ from.
-    needs_number row 3 2000 2000 (λ vx.
-    needs_number row 4 2000 2000 (λ vy.
-    needs_number row 5 10000 10000 (λ vz.
-    needs_address row 1 (λ address.
+leg_of fields =
+    with_fields fields 6 (
+    needs_count fields 2 1 600 (λ from.
+    needs_number fields 3 2000 2000 (λ vx.
+    needs_number fields 4 2000 2000 (λ vy.
+    needs_number fields 5 10000 10000 (λ vz.
+    needs_address fields 1 (λ address.
     Ok (said.Leg address (record { from = from; vx = vx; vy = vy; vz = vz }))))))))
 
 -- The two addresses after the kind.
 abbrev pub needs_pair : List (List ℕ) → (Addresses → Result Record Code) → Result Record Code
-needs_pair row next = needs_address row 1 (λ first. needs_address row 2 (λ second. next (record { first = first; second = second })))
+needs_pair fields next = needs_address fields 1 (λ first. needs_address fields 2 (λ second. next (record { first = first; second = second })))
 
 unfoldable pub miss_of : List (List ℕ) → Result Record Code
-miss_of row =
-    with_fields row 5 (
-    needs_count row 3 1 600 (λ from.
-    needs_count row 4 1 600 (λ to.
-    if nat_lt to from then Err code.Number else needs_pair row (λ pair. Ok (said.Miss pair from to)))))
+miss_of fields =
+    with_fields fields 5 (
+    needs_count fields 3 1 600 (λ from.
+    needs_count fields 4 1 600 (λ to.
+    if nat_lt to from then Err code.Number else needs_pair fields (λ pair. Ok (said.Miss pair from to)))))
 
 unfoldable pub plan_of : List (List ℕ) → Result Record Code
-plan_of row =
-    needs (copies_count 3 (length row)) code.Fields (λ count.
-    needs (copies_from row 3 count) code.Number (λ copies.
-    needs_pair row (λ pair.
+plan_of fields =
+    needs (copies_count 3 (length fields)) code.Fields (λ count.
+    needs (copies_from fields 3 count) code.Number (λ copies.
+    needs_pair fields (λ pair.
     Ok (said.Plan pair copies))))
 
 unfoldable pub fate_of : List (List ℕ) → Result Record Code
-fate_of row =
-    needs (copies_count 4 (length row)) code.Fields (λ count.
-    needs_count row 3 1 600 (λ number.
-    needs (copies_from row 4 count) code.Number (λ copies.
-    needs_pair row (λ pair.
+fate_of fields =
+    needs (copies_count 4 (length fields)) code.Fields (λ count.
+    needs_count fields 3 1 600 (λ number.
+    needs (copies_from fields 4 count) code.Number (λ copies.
+    needs_pair fields (λ pair.
     Ok (said.Fate pair number copies)))))
 
 unfoldable pub end_of : List (List ℕ) → Result Record Code
-end_of row = with_fields row 1 (Ok said.End)
+end_of fields = with_fields fields 1 (Ok said.End)
 
 -- The kinds of format 2 alone.
 abbrev pub of_format_2 : ℕ → List (List ℕ) → Result Record Code
-of_format_2 version row =
-    if version == 2 && bytes_eq (field row 0) (codes "climb") then climb_of row else
-    if version == 2 && bytes_eq (field row 0) (codes "plan") then plan_of row else Err code.Kind
+of_format_2 version fields =
+    if version == 2 && bytes_eq (field fields 0) (codes "climb") then climb_of fields else
+    if version == 2 && bytes_eq (field fields 0) (codes "plan") then plan_of fields else Err code.Kind
 
 -- A later record, by its kind.
 unfoldable pub record_of : ℕ → List (List ℕ) → Result Record Code
-record_of version row =
-    if bytes_eq (field row 0) (codes "fate") then fate_of row else
-    if bytes_eq (field row 0) (codes "leg") then leg_of row else
-    if bytes_eq (field row 0) (codes "miss") then miss_of row else
-    if bytes_eq (field row 0) (codes "craft") then craft_of row else
-    if bytes_eq (field row 0) (codes "run") then run_of row else
-    if bytes_eq (field row 0) (codes "gains") then gains_of row else
-    if bytes_eq (field row 0) (codes "end") then end_of row else of_format_2 version row
+record_of version fields =
+    if bytes_eq (field fields 0) (codes "fate") then fate_of fields else
+    if bytes_eq (field fields 0) (codes "leg") then leg_of fields else
+    if bytes_eq (field fields 0) (codes "miss") then miss_of fields else
+    if bytes_eq (field fields 0) (codes "craft") then craft_of fields else
+    if bytes_eq (field fields 0) (codes "run") then run_of fields else
+    if bytes_eq (field fields 0) (codes "gains") then gains_of fields else
+    if bytes_eq (field fields 0) (codes "end") then end_of fields else of_format_2 version fields

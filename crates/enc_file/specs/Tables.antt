@@ -1,6 +1,7 @@
 -- What the reader keeps of the records so far.
-use Rattle.std.specs.Prelude.{◌≡◌, ◌≤◌, ℕ, ◌*◌, true, false, List, ◌∷◌, length, map, Option, Some, Result, Ok, Err, MatchOption, MatchResult}
+use Rattle.std.specs.Prelude.{◌≡◌, ◌≤◌, ℕ, ◌+◌, ◌*◌, true, false, List, ◌∷◌, length, map, Option, Some, Result, Ok, Err, IsOk, MatchOption, MatchResult}
 use Rattle.std.specs.List.{range_with_len}
+use Rattle.std.specs.Result.{IsErrAnd}
 use Rattle.acas_base.specs.Encounter.{Parts}
 use Rattle.acas_base.specs.declared.TheConstants.{CRAFTS}
 use Rattle.enc_file.specs.Earlier.{crafts_of, encounter_by, fate_group, fates_of, gains_of, has_ended, in_group, leg_group, legs_of, miss_group, misses_of, plan_group, plans_of, run_of, version_of}
@@ -56,5 +57,10 @@ Adds earlier now tables result = MatchResult result (λ _. Holds (now ∷ earlie
 
 -- The record that these fields say was added, or is refused.
 abbrev pub Takes : {T : Type 0} → List Record → List (List ℕ) → Tables → Result T ReadError → Type 0
-Takes earlier row tables result =
-    MatchResult result (λ _. (now : Record) × (next_record earlier row ≡ Ok now) × Holds (now ∷ earlier) tables) (Refuses (length earlier) (λ why. next_record earlier row ≡ Err why))
+Takes earlier fields tables result =
+    MatchResult result (λ _. (now : Record) × (next_record earlier fields ≡ Ok now) × Holds (now ∷ earlier) tables) (Refuses (length earlier) (λ why. next_record earlier fields ≡ Err why))
+
+-- The next record was counted, or is refused for this.
+abbrev pub Settles : {T : Type 0} → Tables → Option Code → Tables → Result T ReadError → Type 0
+Settles old fault new result =
+    MatchOption fault (IsOk result × (new ≡ record old { count = old.count + 1 })) (λ why. IsErrAnd result (λ e. e ≡ Refused (refusal_after old.count why)) × (new ≡ old))

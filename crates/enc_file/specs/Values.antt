@@ -13,7 +13,7 @@ use Rattle.enc_file.specs.declared.record.Copies.{Copies}
 
 -- The field at a place, from 0; an empty one past the last.
 abbrev pub field : List (List ℕ) → ℕ → List ℕ
-field row i = slice_index_or row i []
+field fields i = slice_index_or fields i []
 
 -- What passes a test.
 abbrev pub passing : {X : Type 0} → (X → Bool) → Option X → Option X
@@ -51,15 +51,15 @@ copy_in held masked = option_and_then (λ hold. option_map (λ mask. record { ho
 
 -- The copy with a number, from 0, of so many copies that stand from a place on; zero where there is no such copy.
 abbrev pub copy_from : List (List ℕ) → ℕ → ℕ → ℕ → Option CopyPlan
-copy_from row start count n =
-    if nat_le count n then Some no_copy else copy_in (field row (start + (n + n))) (field row (start + (n + n + 1)))
+copy_from fields start count n =
+    if nat_le count n then Some no_copy else copy_in (field fields (start + (n + n))) (field fields (start + (n + n + 1)))
 
 abbrev pub copies_from : List (List ℕ) → ℕ → ℕ → Option Copies
-copies_from row start count =
+copies_from fields start count =
     option_and_then (λ first.
     option_and_then (λ second.
     option_map (λ third. record { count = count; first = first; second = second; third = third })
-    (copy_from row start count 2)) (copy_from row start count 1)) (copy_from row start count 0)
+    (copy_from fields start count 2)) (copy_from fields start count 1)) (copy_from fields start count 0)
 
 -- How many copies a record of so many fields has, from a place on: none to three, of two fields each.
 abbrev pub copies_count : ℕ → ℕ → Option ℕ

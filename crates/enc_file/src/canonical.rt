@@ -1,17 +1,18 @@
-// The canonical text of an encounter, line by line.
-ghost use Rattle.std.specs.Prelude.{◌≡◌, ◌∷◌, ◌++◌, [], List, ℕ, map};
+// The canonical text of an encounter.
+ghost use Rattle.std.specs.Prelude.{◌≡◌, List, ℕ, map};
 ghost use Rattle.std.specs.List.{flat_map};
 ghost use Rattle.acas_base.specs.declared.craft.CraftSpec.{CraftSpec};
 ghost use Rattle.acas_io.specs.Stream.{Puts};
-ghost use Rattle.enc_file.specs.Canonical.{canonical_lines, canonical_text};
+ghost use Rattle.enc_file.specs.Canonical.{canonical_text};
+ghost use Rattle.enc_file.specs.Spelling.{climb_records, line_of};
 
 use crate::spelling::{
     climb_line, craft_line, end_line, fate_line, gains_line, header_line, leg_line, miss_line,
     plan_line, run_line,
 };
-use crate::{Lines, One, Then, write_lines};
 use acas_base::{CraftSpec, Encounter, Fate, Leg, LinkPlan, Miss};
 use acas_io::{Failed, Sink};
+use acas_lines::{LineSink, Text, write_text};
 use acas_text::Line;
 
 // What has a line of its own, among the aircraft of an encounter.
@@ -72,101 +73,57 @@ impl Spelled for Fate {
     }
 }
 
-// A line for each of some records.
-#[derive(Drop)]
-struct Each<'a, T: Spelled> {
-    crafts: &'a [CraftSpec],
-    records: &'a [T],
-}
-
-impl<'a, T: Spelled> Each<'a, T> {
-    fn of(crafts: &'a [CraftSpec], records: &'a [T]) -> Each<'a, T>
-        ensures { (result.crafts.now ≡ crafts.now) × (result.records.now ≡ records.now) }
-    {
-        Each { crafts, records }
+// Puts a line for each of some records.
+fn put_each<T: Spelled, S: LineSink>(crafts: &[CraftSpec], records: &[T], sink: &mut S)
+    ensures { S.took sink.old sink.new (map (T.spelling crafts.now) records.now) }
+{
+    for item in records {
+        sink.line(&item.line(crafts));
     }
 }
 
-impl<T: Spelled> Lines for Each<'_, T> {
-    ghost left = { λ e. map (T.spelling e.crafts.now) e.records.now };
-
-    fn next(&mut self) -> Option<Line> {
-        let (record, rest) = self.records.split_first()?;
-        self.records = rest;
-        Some(record.line(self.crafts))
-    }
-}
-
-// A line for each aircraft that has a ceiling.
-#[derive(Drop)]
-struct Climbs<'a> {
-    crafts: &'a [CraftSpec],
-}
-
-impl Lines for Climbs<'_> {
-    ghost use Rattle.enc_file.specs.Spelling.{climb_records, line_of};
-
-    ghost left = { λ c. map line_of (flat_map climb_records c.crafts.now) };
-
-    fn next(&mut self) -> Option<Line> {
-        while let Some((craft, rest)) = self.crafts.split_first() {
-            self.crafts = rest;
-            if let Some(limit) = craft.ceiling {
-                return Some(climb_line(craft, limit));
-            }
+// Puts a line for each aircraft that has a ceiling.
+fn put_climbs<S: LineSink>(crafts: &[CraftSpec], sink: &mut S)
+    ensures { S.took sink.old sink.new (map line_of (flat_map climb_records crafts.now)) }
+{
+    for craft in crafts {
+        if let Some(limit) = craft.ceiling {
+            sink.line(&climb_line(craft, limit));
         }
-        None
     }
 }
 
-// The text up to its aircraft, up to its misses, and whole.
-type ToCrafts<'a> = Then<Then<Then<One, One>, One>, Each<'a, CraftSpec>>;
-
-type ToMisses<'a> = Then<Then<Then<ToCrafts<'a>, Climbs<'a>>, Each<'a, Leg>>, Each<'a, Miss>>;
-
-type Whole<'a> = Then<Then<Then<ToMisses<'a>, Each<'a, LinkPlan>>, Each<'a, Fate>>, One>;
-
-/// The lines of an encounter's canonical text that are still to come, made one at a time.
+/// The canonical text of an encounter: each record on a line of its own, in the order of the encounter's lists, the
+/// ceilings after the aircraft.
 #[derive(Drop)]
-pub struct CanonicalLines<'a> {
-    lines: Whole<'a>,
-}
+pub struct CanonicalText<'a>(pub &'a Encounter);
 
-impl<'a> Lines for CanonicalLines<'a> {
-    ghost left = { λ c. ⟦<Whole<'a> as Lines>⟧.left c.lines };
+impl Text for CanonicalText<'_> {
+    ghost use Rattle.enc_file.specs.Canonical.{canonical_lines};
 
-    fn next(&mut self) -> Option<Line> {
-        self.lines.next()
-    }
-}
+    ghost lines = { λ t. canonical_lines t.0.now };
 
-impl<'a> CanonicalLines<'a> {
-    /// All lines of the canonical text.
-    pub fn of(encounter: &'a Encounter) -> CanonicalLines<'a>
-        ensures { ⟦<CanonicalLines<'a> as Lines>⟧.left result ≡ canonical_lines encounter.now }
-    {
+    fn put<S: LineSink>(&self, sink: &mut S) {
+        let encounter = self.0;
         let crafts = encounter.crafts();
-        let version = One::new(header_line(encounter.version()));
-        let run = One::new(run_line(encounter));
-        let gains = One::new(gains_line(encounter.range_gains(), encounter.altitude_gains()));
-        let numbers = Then::new(Then::new(version, run), gains);
-        let to_crafts = Then::new(numbers, Each::of(crafts, crafts));
-        let to_climbs = Then::new(to_crafts, Climbs { crafts });
-        let to_legs = Then::new(to_climbs, Each::of(crafts, encounter.legs()));
-        let to_misses = Then::new(to_legs, Each::of(crafts, encounter.misses()));
-        let to_plans = Then::new(to_misses, Each::of(crafts, encounter.plans()));
-        let to_fates = Then::new(to_plans, Each::of(crafts, encounter.fates()));
-        let lines = Then::new(to_fates, One::new(end_line()));
-        CanonicalLines { lines }
+        sink.line(&header_line(encounter.version()));
+        sink.line(&run_line(encounter));
+        sink.line(&gains_line(encounter.range_gains(), encounter.altitude_gains()));
+        put_each(crafts, crafts, sink);
+        put_climbs(crafts, sink);
+        put_each(crafts, encounter.legs(), sink);
+        put_each(crafts, encounter.misses(), sink);
+        put_each(crafts, encounter.plans(), sink);
+        put_each(crafts, encounter.fates(), sink);
+        sink.line(&end_line());
     }
 }
 
-/// Writes the canonical text of an encounter: each record on a line of its own, in the order of the encounter's lists,
-/// the ceilings after the aircraft. It takes no memory.
+/// Writes the canonical text of an encounter. It takes no memory.
 ///
 /// `Failed` comes only where the sink's count of faults rose; what was written then is a front of the text.
 pub fn write<K: Sink>(encounter: &Encounter, sink: &mut K) -> Result<(), Failed>
     ensures { Puts (K.written sink.old) (K.written sink.new) (K.faults sink.old) (K.faults sink.new) (canonical_text encounter.now) result }
 {
-    write_lines(&mut CanonicalLines::of(encounter), sink)
+    write_text(&CanonicalText(encounter), sink)
 }

@@ -1,9 +1,11 @@
 // What holds of the texts of encounters, whatever the program does with them.
-ghost use Rattle.std.specs.Prelude.{◌≡◌};
+ghost use Rattle.std.specs.Prelude.{◌≡◌, ◌↔◌, ℕ, List, Err};
 ghost use Rattle.acas_base.specs.Encounter.{IsEncounter, Parts};
 ghost use Rattle.enc_file.specs.Canonical.{canonical_records, canonical_text};
-ghost use Rattle.enc_file.specs.Reading.{Says};
+ghost use Rattle.enc_file.specs.Conditions.{IsRefused};
+ghost use Rattle.enc_file.specs.Reading.{Says, reading_of};
 ghost use Rattle.enc_file.specs.Records.{records_of};
+ghost use Rattle.enc_file.specs.declared.refusal.Refusal.{Refusal};
 ghost use Rattle.flight.specs.Inside.{IsInside};
 
 /// The records that CSV finds in the canonical text of an encounter are its canonical records: each on its line, with
@@ -15,4 +17,11 @@ pub fn canonical_records_law()
 /// The canonical text of an encounter inside the box says that encounter, and no other.
 pub fn canonical_text_law()
     ensures { (e : Parts) → IsEncounter e → IsInside e → Says (canonical_text e) e }
+{}
+
+/// A text is refused with the number of a record and a code exactly where no record before it has a fault, this code is
+/// a fault of it (or of there being no such record), and no lower code is. The faults are the conditions of the rules,
+/// one for each code, whatever else is wrong.
+pub fn refusal_law()
+    ensures { (text : List ℕ) (refusal : Refusal) → (reading_of text ≡ Err refusal) ↔ IsRefused (records_of text) refusal }
 {}

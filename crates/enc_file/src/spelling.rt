@@ -6,37 +6,35 @@ ghost use Rattle.acas_text.specs.Hex.{hex};
 ghost use Rattle.enc_file.specs.Spelling.{address, address_of, copies_fields, copy_fields, craft_record, climb_record, end_record, fate_record, gains_record, header_record, kind_text, leg_record, line_of, miss_record, number, plan_record, run_record};
 
 use acas_base::{CopyPlan, CraftSpec, Encounter, Fate, Gains, Kind, Leg, LinkPlan, Miss};
-use acas_text::{LINE_BYTES, Line};
+use acas_text::{ADDRESS_BYTES, I32_BYTES, LINE_BYTES, Line, U16_BYTES};
 
-// Adds a number of at most eleven bytes, after a comma.
+// Adds a number after a comma.
 fn add_number(line: &mut Line, value: i32)
-    requires { length line.old + 12 ≤ LINE_BYTES }
+    requires { length line.old + 1 + I32_BYTES ≤ LINE_BYTES }
     ensures added { line.new ≡ line.old ++ 44 ∷ signed_decimal value }
-    ensures short { length line.new ≤ length line.old + 12 }
+    ensures short { length line.new ≤ length line.old + 1 + I32_BYTES }
 {
     line.text(",");
-    line.number(i64::from(value));
+    line.i32(value);
 }
 
-// Adds a number of at most five digits, after a comma.
 fn add_count(line: &mut Line, value: u16)
-    requires { length line.old + 6 ≤ LINE_BYTES }
+    requires { length line.old + 1 + U16_BYTES ≤ LINE_BYTES }
     ensures added { line.new ≡ line.old ++ 44 ∷ number value }
-    ensures short { length line.new ≤ length line.old + 6 }
+    ensures short { length line.new ≤ length line.old + 1 + U16_BYTES }
 {
     line.text(",");
-    line.number(i64::from(value));
+    line.u16(value);
 }
 
-// Adds an address, by its number, after a comma.
 fn add_address(line: &mut Line, value: u32)
-    requires small { value < 16 ^ 6 }
-    requires room { length line.old + 7 ≤ LINE_BYTES }
+    requires fits { value < 2 ^ 24 }
+    requires room { length line.old + 1 + ADDRESS_BYTES ≤ LINE_BYTES }
     ensures added { line.new ≡ line.old ++ 44 ∷ address value }
-    ensures short { length line.new ≤ length line.old + 7 }
+    ensures short { length line.new ≤ length line.old + 1 + ADDRESS_BYTES }
 {
     line.text(",");
-    line.hex(u64::from(value), 6);
+    line.address(value);
 }
 
 // Adds a mask of two digits, after a comma.
@@ -52,7 +50,7 @@ fn add_mask(line: &mut Line, mask: u8)
 // The number of an aircraft's address. In an encounter every index is that of an aircraft.
 fn address_in(crafts: &[CraftSpec], index: u8) -> u32
     ensures value { result ≡ address_of crafts.now index }
-    ensures small { result < 16 ^ 6 }
+    ensures fits { result < 2 ^ 24 }
 {
     match crafts.get(usize::from(index)) {
         Some(craft) => craft.address.value(),

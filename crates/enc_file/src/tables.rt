@@ -6,19 +6,20 @@ ghost use Rattle.acas_base.specs.declared.TheConstants.{CRAFTS};
 ghost use Rattle.csv.specs.Records.{fields_of};
 ghost use Rattle.enc_file.specs.Earlier.{encounter_by, for_pair, index_of, version_of};
 ghost use Rattle.enc_file.specs.Reading.{IsReading, read_from, refusal_after};
-ghost use Rattle.enc_file.specs.Tables.{Adds, AreGoing, Holds, IsHeld, Takes};
+ghost use Rattle.enc_file.specs.Tables.{Adds, AreGoing, Holds, IsHeld, Settles, Takes};
 ghost use Rattle.enc_file.specs.WellRead.{IsOfFormat, IsSaid};
 ghost use Rattle.enc_file.specs.declared.record.Record.{Record};
 
 use crate::conditions::{
-    are_masks_bad, fate_by, has_ceiling, is_late_fate, is_late_leg, is_late_miss, leg_by,
-    missing_after, most_crafts, pair_number, plan_by, some_active,
+    fate_by, has_ceiling, leg_by, miss_by, missing_after, plan_by, some_active,
 };
 use crate::groups::Groups;
 use crate::record::{Addresses, Copies, Course, Record, Run, TrackGains};
 use crate::refusal::{Code, ReadError, Refusal};
 use crate::saying::{record_of, version_in};
-use acas_base::{Address, CRAFTS, CraftSpec, Encounter, Fate, Gains, Leg, LinkPlan, Miss};
+use acas_base::{
+    Address, CRAFTS, CraftSpec, Encounter, Fate, Gains, Leg, LinkPlan, Miss, most_crafts,
+};
 use csv::ByteRecord;
 use flight::inside;
 use std::alloc::{AllocError, Global};
@@ -79,6 +80,20 @@ impl Tables {
             at: self.count + 1,
             code,
         })
+    }
+
+    // The next record was added, or is refused for this.
+    fn settle(&mut self, fault: Option<Code>) -> Result<(), ReadError>
+        requires { self.old.count < 2 ^ 32 - 1 }
+        ensures { Settles self.old fault self.new result }
+    {
+        match fault {
+            Some(code) => Err(self.refused(code)),
+            None => {
+                self.count += 1;
+                Ok(())
+            }
+        }
     }
 
     // The index of the aircraft with an address.
@@ -182,12 +197,8 @@ impl Tables {
         let Some(craft) = self.index_of(address) else {
             return Err(self.refused(Code::Unknown));
         };
-        if is_late_leg(course.from, self.legs.last(craft)) {
-            return Err(self.refused(Code::Repeat));
-        }
-        self.legs.add(craft, leg_by(course, craft as u8))?;
-        self.count += 1;
-        Ok(())
+        let fault = self.legs.add_listed(leg_by(course, craft as u8))?;
+        self.settle(fault)
     }
 
     fn add_miss(&mut self, pair: Addresses, from: u16, to: u16) -> Result<(), ReadError>
@@ -199,19 +210,9 @@ impl Tables {
         let Some((own, target)) = self.pair_of(pair) else {
             return Err(self.refused(Code::Unknown));
         };
-        let group = pair_number(own, target);
-        if is_late_miss(from, self.misses.last(group)) {
-            return Err(self.refused(Code::Repeat));
-        }
-        let miss = Miss {
-            own: own as u8,
-            target: target as u8,
-            from,
-            to,
-        };
-        self.misses.add(group, miss)?;
-        self.count += 1;
-        Ok(())
+        let miss = miss_by(from, to, own as u8, target as u8);
+        let fault = self.misses.add_listed(miss)?;
+        self.settle(fault)
     }
 
     fn add_plan(&mut self, pair: Addresses, copies: Copies) -> Result<(), ReadError>
@@ -223,17 +224,9 @@ impl Tables {
         let Some((sender, receiver)) = self.pair_of(pair) else {
             return Err(self.refused(Code::Unknown));
         };
-        let group = pair_number(sender, receiver);
-        if self.plans.last(group).is_some() {
-            return Err(self.refused(Code::Repeat));
-        }
-        if are_masks_bad(copies) {
-            return Err(self.refused(Code::Mask));
-        }
         let plan = plan_by(copies, sender as u8, receiver as u8);
-        self.plans.add(group, plan)?;
-        self.count += 1;
-        Ok(())
+        let fault = self.plans.add_listed(plan)?;
+        self.settle(fault)
     }
 
     fn add_fate(&mut self, pair: Addresses, number: u16, copies: Copies) -> Result<(), ReadError>
@@ -245,17 +238,9 @@ impl Tables {
         let Some((sender, receiver)) = self.pair_of(pair) else {
             return Err(self.refused(Code::Unknown));
         };
-        let group = pair_number(sender, receiver);
-        if is_late_fate(number, self.fates.last(group)) {
-            return Err(self.refused(Code::Repeat));
-        }
-        if are_masks_bad(copies) {
-            return Err(self.refused(Code::Mask));
-        }
         let fate = fate_by(number, copies, sender as u8, receiver as u8);
-        self.fates.add(group, fate)?;
-        self.count += 1;
-        Ok(())
+        let fault = self.fates.add_listed(fate)?;
+        self.settle(fault)
     }
 
     // The encounter that the records so far say.

@@ -5,10 +5,9 @@ ghost use Rattle.csv.specs.Records.{fields_of};
 ghost use Rattle.enc_file.specs.Values.{address_in, copies_count, copies_from, copy_from, copy_in, count_in, field, kind_in, mask_in, number_in};
 ghost use Rattle.enc_file.specs.WellRead.{AreCopiesSaid, IsCopySaid};
 
-use crate::hex::parse_hex;
 use crate::record::Copies;
 use acas_base::{Address, CopyPlan, Kind};
-use acas_text::parse;
+use acas_text::{parse, parse_hex};
 use csv::ByteRecord;
 
 /// The field at a place, from 0; an empty one past the last.

@@ -1,4 +1,4 @@
-use Rattle.enc_file.proofs.Boxed.{stays-inside}
+use Rattle.flight.proofs.Boxed.{stays-inside}
 use Rattle.enc_file.proofs.CanonicalWhole.{canonical-says}
 use Rattle.enc_file.proofs.laws.canonical_text_law.Goals as goal
 

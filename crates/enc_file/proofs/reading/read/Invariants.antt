@@ -8,7 +8,7 @@ use Rattle.enc_file.specs.Tables.{Holds}
 use Rattle.enc_file.specs.declared.record.Record.{Record}
 use Rattle.enc_file.proofs.reading.read.Given as goal
 
--- the reader stands where the records so far end, and the tables hold what these say
+-- The reader stands where the records so far end, and the tables hold what these say.
 abbrev pub invariant-loop-tables : goal.invariant-loop-tables
 invariant-loop-tables l = record {
   trim : l.reader.trim ≡ trim.None;
@@ -24,6 +24,6 @@ invariant-loop-tables l = record {
   same : (more : List (List (List ℕ))) → read_from [] (rows ++ more) ≡ read_from earlier more;
 }
 
--- each record takes a byte
+-- Each record takes a byte.
 abbrev pub decreases-loop-tables : goal.decreases-loop-tables
 decreases-loop-tables l = length l.fn.bytes + 1 - l.tables.count

@@ -1,45 +1,21 @@
-use Rattle.std.proofs.Common.{◌≡◌, ◌∙◌, ◌∷◌, ◌++◌, [], set, sym, ap, arith, Some, None, true, false, ◌*◌}
+use Rattle.std.proofs.Common.{◌≡◌, ◌∙◌, sym, ap, arith, refl, subst, Some, None, ◌*◌}
+use Rattle.acas_base.specs.Order.{fate_below}
 use Rattle.acas_base.specs.declared.TheConstants.{CRAFTS}
-use Rattle.enc_file.specs.Earlier.{crafts_of, fate_group, fates_of, pair_number}
+use Rattle.acas_base.specs.declared.link.Fate.{Fate}
+use Rattle.enc_file.specs.Earlier.{crafts_of, fate_by, fate_group, fates_of}
 use Rattle.enc_file.specs.Faults.{fault_of}
-use Rattle.enc_file.specs.Groups.{group_at, is_late_fate, last_of}
+use Rattle.enc_file.specs.Groups.{Lists, fate_masked}
 use Rattle.enc_file.specs.declared.record.Record.TheVariants as said
 use Rattle.enc_file.specs.declared.refusal.Code.TheVariants as code
 use Rattle.enc_file.proofs.Named.{pair_of}
-use Rattle.enc_file.proofs.Refused.{last_fate, fate-fine, fate-masked, fate-repeated, fate-unknown, refuses, wanting}
-use Rattle.enc_file.proofs.Tabled.{groups-length, held-fate, last-in, number-within, pair-in}
+use Rattle.enc_file.proofs.Refused.{fate-unknown, refuses, wanting}
+use Rattle.enc_file.proofs.Tabled.{fate-kept, groups-length, held-fate, listed, number-within, pair-in, settled}
 use Rattle.enc_file.proofs.tables.Tables.add_fate.Goals as goal
 
 pub returns-in_default : goal.returns-in_default
 returns-in_default c = λ earlier going h.
     let at : pair_of (crafts_of earlier) c.args.pair ≡ None = ap (λ crafts. pair_of crafts c.args.pair) (sym h.crafts) ∙ sym c.pair_of.ensures ∙ c.in_default.is in
     refuses earlier c.args.self.now (λ why. fault_of earlier (said.Fate c.args.pair c.args.number c.args.copies) ≡ Some why) code.Unknown c.refused.result h (fate-unknown earlier c.args.pair c.args.number c.args.copies at) c.refused.ensures
-
-pub pair_number-group-requires-clause-first : goal.pair_number-group-requires-clause-first
-pair_number-group-requires-clause-first c =
-    let h = c.requires.held.holds in
-    let earlier = c.requires.held.earlier in
-    let at : pair_of (crafts_of earlier) c.args.pair ≡ Some (c.in-Some.sender, c.in-Some.receiver) = ap (λ crafts. pair_of crafts c.args.pair) (sym h.crafts) ∙ sym c.pair_of.ensures ∙ c.in-Some.is in
-    (pair-in earlier c.args.pair (c.in-Some.sender, c.in-Some.receiver) h.read at).0
-
-pub pair_number-group-requires-clause-second : goal.pair_number-group-requires-clause-second
-pair_number-group-requires-clause-second c =
-    let h = c.requires.held.holds in
-    let earlier = c.requires.held.earlier in
-    let at : pair_of (crafts_of earlier) c.args.pair ≡ Some (c.in-Some.sender, c.in-Some.receiver) = ap (λ crafts. pair_of crafts c.args.pair) (sym h.crafts) ∙ sym c.pair_of.ensures ∙ c.in-Some.is in
-    (pair-in earlier c.args.pair (c.in-Some.sender, c.in-Some.receiver) h.read at).1
-
-pub last-requires : goal.last-requires
-last-requires c =
-    let h = c.requires.held.holds in
-    let earlier = c.requires.held.earlier in
-    omega (arith, c.pair_number-group.ensures.bound, groups-length fate_group (fates_of earlier) c.args.self.now.fates (CRAFTS * CRAFTS) h.fates)
-
-pub add-requires : goal.add-requires
-add-requires c =
-    let h = c.requires.held.holds in
-    let earlier = c.requires.held.earlier in
-    omega (arith, c.pair_number-group.ensures.bound, groups-length fate_group (fates_of earlier) c.args.self.now.fates (CRAFTS * CRAFTS) h.fates)
 
 pub overflow_cast-sender : goal.overflow_cast-sender
 overflow_cast-sender c =
@@ -55,32 +31,22 @@ overflow_cast-receiver c =
     let at : pair_of (crafts_of earlier) c.args.pair ≡ Some (c.in-Some.sender, c.in-Some.receiver) = ap (λ crafts. pair_of crafts c.args.pair) (sym h.crafts) ∙ sym c.pair_of.ensures ∙ c.in-Some.is in
     omega (arith, (pair-in earlier c.args.pair (c.in-Some.sender, c.in-Some.receiver) h.read at).1)
 
-pub returns-then-is_late_fate : goal.returns-then-is_late_fate
-returns-then-is_late_fate c = λ earlier going h.
+pub add_listed-requires : goal.add_listed-requires
+add_listed-requires c =
+    let h = c.requires.held.holds in
+    let earlier = c.requires.held.earlier in
     let at : pair_of (crafts_of earlier) c.args.pair ≡ Some (c.in-Some.sender, c.in-Some.receiver) = ap (λ crafts. pair_of crafts c.args.pair) (sym h.crafts) ∙ sym c.pair_of.ensures ∙ c.in-Some.is in
-    let last : c.last.result ≡ last_fate earlier (c.in-Some.sender, c.in-Some.receiver) =
-    c.last.ensures ∙ ap (λ n. last_of (group_at c.args.self.now.fates n)) c.pair_number-group.ensures.value ∙ last-in fate_group (fates_of earlier) c.args.self.now.fates (CRAFTS * CRAFTS) (pair_number c.in-Some.sender c.in-Some.receiver) h.fates (number-within earlier c.args.pair (c.in-Some.sender, c.in-Some.receiver) h.read at) in
-    let late : is_late_fate c.args.number (last_fate earlier (c.in-Some.sender, c.in-Some.receiver)) ≡ true = ap (is_late_fate c.args.number) (sym last) ∙ sym c.is_late_fate.ensures ∙ c.if-is_late_fate.true in
-    refuses earlier c.args.self.now (λ why. fault_of earlier (said.Fate c.args.pair c.args.number c.args.copies) ≡ Some why) code.Repeat c.refused-then-is_late_fate.result h (fate-repeated earlier c.args.pair c.args.number c.args.copies (c.in-Some.sender, c.in-Some.receiver) h.read at late) c.refused-then-is_late_fate.ensures
+    rw (c.fate_by-fate.ensures) (omega (arith, number-within earlier c.args.pair (c.in-Some.sender, c.in-Some.receiver) h.read at, groups-length fate_group (fates_of earlier) c.args.self.now.fates (CRAFTS * CRAFTS) h.fates))
 
-pub returns-then-are_masks_bad : goal.returns-then-are_masks_bad
-returns-then-are_masks_bad c = λ earlier going h.
-    let at : pair_of (crafts_of earlier) c.args.pair ≡ Some (c.in-Some.sender, c.in-Some.receiver) = ap (λ crafts. pair_of crafts c.args.pair) (sym h.crafts) ∙ sym c.pair_of.ensures ∙ c.in-Some.is in
-    let last : c.last.result ≡ last_fate earlier (c.in-Some.sender, c.in-Some.receiver) =
-    c.last.ensures ∙ ap (λ n. last_of (group_at c.args.self.now.fates n)) c.pair_number-group.ensures.value ∙ last-in fate_group (fates_of earlier) c.args.self.now.fates (CRAFTS * CRAFTS) (pair_number c.in-Some.sender c.in-Some.receiver) h.fates (number-within earlier c.args.pair (c.in-Some.sender, c.in-Some.receiver) h.read at) in
-    let late : is_late_fate c.args.number (last_fate earlier (c.in-Some.sender, c.in-Some.receiver)) ≡ false = ap (is_late_fate c.args.number) (sym last) ∙ sym c.is_late_fate.ensures ∙ c.if-is_late_fate.false in
-    let bad = sym c.are_masks_bad.ensures ∙ c.if-are_masks_bad.true in
-    refuses earlier c.args.self.now (λ why. fault_of earlier (said.Fate c.args.pair c.args.number c.args.copies) ≡ Some why) code.Mask c.refused-then-are_masks_bad.result h (fate-masked earlier c.args.pair c.args.number c.args.copies (c.in-Some.sender, c.in-Some.receiver) h.read at late bad) c.refused-then-are_masks_bad.ensures
-
-pub returns-in_err-add : goal.returns-in_err-add
-returns-in_err-add c = λ earlier going h. wanting _ _ _ c.from_residual.result c.from_residual.ensures.1
+pub returns-in_err-fault : goal.returns-in_err-fault
+returns-in_err-fault c = λ earlier going h. wanting _ _ _ c.from_residual.result c.from_residual.ensures.1
 
 pub returns : goal.returns
 returns c = λ earlier going h.
     let at : pair_of (crafts_of earlier) c.args.pair ≡ Some (c.in-Some.sender, c.in-Some.receiver) = ap (λ crafts. pair_of crafts c.args.pair) (sym h.crafts) ∙ sym c.pair_of.ensures ∙ c.in-Some.is in
-    let last : c.last.result ≡ last_fate earlier (c.in-Some.sender, c.in-Some.receiver) =
-    c.last.ensures ∙ ap (λ n. last_of (group_at c.args.self.now.fates n)) c.pair_number-group.ensures.value ∙ last-in fate_group (fates_of earlier) c.args.self.now.fates (CRAFTS * CRAFTS) (pair_number c.in-Some.sender c.in-Some.receiver) h.fates (number-within earlier c.args.pair (c.in-Some.sender, c.in-Some.receiver) h.read at) in
-    let late : is_late_fate c.args.number (last_fate earlier (c.in-Some.sender, c.in-Some.receiver)) ≡ false = ap (is_late_fate c.args.number) (sym last) ∙ sym c.is_late_fate.ensures ∙ c.if-is_late_fate.false in
-    let fine = fate-fine earlier c.args.pair c.args.number c.args.copies (c.in-Some.sender, c.in-Some.receiver) h.read at late (sym c.are_masks_bad.ensures ∙ c.if-are_masks_bad.false) in
-    held-fate earlier c.args.self.now c.args.pair c.args.number c.args.copies (c.in-Some.sender, c.in-Some.receiver) c.add.new.self h going (c.requires.said, tt, fine) at
-    (c.in_ok-add.ensures ∙ ap (λ n. set c.args.self.now.fates n (group_at c.args.self.now.fates n ++ c.fate_by-fate.result ∷ [])) c.pair_number-group.ensures.value ∙ ap (λ x. set c.args.self.now.fates (pair_number c.in-Some.sender c.in-Some.receiver) (group_at c.args.self.now.fates (pair_number c.in-Some.sender c.in-Some.receiver) ++ x ∷ [])) c.fate_by-fate.ensures)
+    let lists : Lists fate_group fate_below fate_masked c.args.self.now.fates (fate_by c.args.number c.args.copies c.in-Some.sender c.in-Some.receiver) c.add_listed.new.self c.in_ok-fault.fault =
+    subst (λ (x : Fate). Lists fate_group fate_below fate_masked c.args.self.now.fates x c.add_listed.new.self c.in_ok-fault.fault) c.fate_by-fate.ensures c.in_ok-fault.ensures in
+    let fault = lists.0 ∙ fate-kept earlier c.args.self.now c.args.pair c.args.number c.args.copies (c.in-Some.sender, c.in-Some.receiver) h at in
+    settled earlier (said.Fate c.args.pair c.args.number c.args.copies) c.args.self.now (record c.args.self.now { fates = c.add_listed.new.self }) c.settle.new.self c.in_ok-fault.fault c.settle.result h refl fault
+    (λ none. held-fate earlier c.args.self.now c.args.pair c.args.number c.args.copies (c.in-Some.sender, c.in-Some.receiver) c.add_listed.new.self h going (c.requires.said, tt, sym fault ∙ none) at
+    (listed fate_group fate_below fate_masked c.args.self.now.fates c.add_listed.new.self (fate_by c.args.number c.args.copies c.in-Some.sender c.in-Some.receiver) c.in_ok-fault.fault lists none)) c.settle.ensures
