@@ -1,4 +1,5 @@
-pub mod Outcomes
+pub mod Endings
+pub mod OneStatus
 pub mod WithoutAdvisories
 pub mod Rounds
 pub mod TrafficAir

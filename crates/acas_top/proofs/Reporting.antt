@@ -1,29 +1,31 @@
 -- The report of a journal of rounds, from one commit to the next.
-use Rattle.std.proofs.Common.{◌≡◌, ◌≢◌, ◌⊎◌, ℕ, zero, suc, ◌+◌, ◌-◌, ◌<◌, ◌≤◌, Bool, true, false, eqb, ◌&&◌, List, [], ◌∷◌, ◌++◌, length, map, replicate, get_or, drop, Option, None, Some, sym, refl, ap, ap₂, ◌∙◌, subst, arith, inl, inr, eq-eqb, ne_eqb, append_assoc}
-use Rattle.std.specs.Prelude.{◌/◌, ◌*◌, codes, filter, option_map, slice_get}
+use Rattle.std.proofs.Common.{◌≡◌, ◌≢◌, ◌⊎◌, ℕ, zero, suc, ◌+◌, ◌-◌, ◌<◌, ◌≤◌, Bool, true, false, eqb, ◌&&◌, List, [], ◌∷◌, ◌++◌, length, map, replicate, get_or, drop, Option, None, Some, sym, refl, ap, ap₂, ◌∙◌, subst, arith, min, ◌^◌, inl, inr, eq-eqb, ne_eqb, append_assoc, length-append}
+use Rattle.std.specs.Prelude.{◌/◌, ◌*◌, ◌==◌, if◌then◌else◌, codes, filter, option_map, slice_get, option_to_list}
 use Rattle.std.specs.List.{flat_map, list_all, range_with_len}
 use Rattle.std.specs.Option.{option_map_or}
 use Rattle.std.proofs.lemmas.Bool.{cases_Bool, cases_eq, cases_lt, cond-false, cond-true}
-use Rattle.std.proofs.lemmas.List.{append-nil, map-append}
+use Rattle.std.proofs.lemmas.List.{append-nil, length-map, map-append}
 use Rattle.std.proofs.lemmas.Nat.{div-mul-add}
 use Rattle.std.proofs.Math.Nat.{mul_comm}
-use Rattle.acas_base.specs.Encounter.{is_active_kind, Parts}
+use Rattle.acas_base.specs.Encounter.{is_active_kind, IsEncounter, most_crafts, Parts}
+use Rattle.acas_base.specs.declared.TheConstants.{CRAFTS}
 use Rattle.acas_base.specs.declared.advisory.Cells.{Cells}
 use Rattle.acas_base.specs.declared.craft.CraftSpec.{CraftSpec}
 use Rattle.acas_base.specs.declared.entry.Entry.{Entry}
 use Rattle.acas_top.proofs.Rounds.{length-traffic}
 use Rattle.acas_top.specs.Changes.{changes, craft_change, entry_change, shown_before, shown_by}
+use Rattle.acas_top.specs.Counting.{counted}
 use Rattle.acas_top.specs.Entries.{AreWhole, entry_line, is_whole}
-use Rattle.acas_top.specs.Recording.{count_line, later_lines}
+use Rattle.acas_top.specs.Recording.{count_line, recording_lines}
 use Rattle.acas_top.specs.Report.{cells_in, commit_report, report_in, report_lines, report_of, shown}
 use Rattle.acas_top.specs.Traffic.{active_crafts, commit_in, seen_cells, traffic_entries}
 use Rattle.advisory_report.specs.Composite.{clear, composite_of}
 use Rattle.advisory_report.specs.Report.{report_line}
 use Rattle.advisory_report.specs.declared.composite.Composite.{Composite}
-use Rattle.air_journal.specs.Airs.{address_of, air_of}
+use Rattle.air_journal.specs.Airs.{air_of}
+use Rattle.craft_view.specs.Sight.{address_of}
 use Rattle.air_rules.specs.Air.{Air, is_active}
 use Rattle.enc_file.specs.Canonical.{canonical_lines}
-use Rattle.enc_file.specs.Lines.{single}
 
 -- ---- the cells of a commit
 
@@ -109,7 +111,7 @@ shown_after air (suc k) own = composite_of (seen_cells air own (k + 1))
 
 -- Its line for the cycle after so many, where its composite changes.
 abbrev change_after : Parts → ℕ → ℕ → List (List ℕ)
-change_after e k own = single (entry_change e.crafts (shown_after (air_of e) k own) (commit_in (air_of e) (k + 1) own))
+change_after e k own = option_to_list (entry_change e.crafts (shown_after (air_of e) k own) (commit_in (air_of e) (k + 1) own))
 
 -- The lines of the first rounds.
 abbrev rounds : Parts → ℕ → List (List ℕ)
@@ -133,7 +135,7 @@ flat_more f zero low last is = let same : low ≡ last = omega arith in append-n
 flat_more f (suc n) low last is = ap (λ t. f low ++ t) (flat_more f n (low + 1) last (omega arith)) ∙ sym (append_assoc (f low) (flat_map f (range_with_len (low + 1) n)) (f last))
 
 by_craft : (o : Option CraftSpec) (cycle : ℕ) (before after : Composite) → option_map_or is_active_kind (option_map (λ (craft : CraftSpec). craft.kind) o) false ≡ true
-    → single (report_line cycle (option_map_or (λ (craft : CraftSpec). craft.address) o 0) before after) ≡ single (craft_change o cycle before after)
+    → option_to_list (report_line cycle (option_map_or (λ (craft : CraftSpec). craft.address) o 0) before after) ≡ option_to_list (craft_change o cycle before after)
 by_craft None cycle before after active = absurd (cc)
 by_craft (Some craft) cycle before after active = refl
 
@@ -226,7 +228,7 @@ pub length-changes : (crafts : List CraftSpec) (shown : List Composite) (entries
 length-changes crafts shown [] = omega arith
 length-changes crafts shown (entry ∷ rest) = more (entry_change crafts (get_or shown 0 clear) entry) (changes crafts (drop 1 shown) rest) (length-changes crafts (drop 1 shown) rest)
   where
-    more : (o : Option (List ℕ)) (lines : List (List ℕ)) → length lines ≤ length rest → length (single o ++ lines) ≤ suc (length rest)
+    more : (o : Option (List ℕ)) (lines : List (List ℕ)) → length lines ≤ length rest → length (option_to_list o ++ lines) ≤ suc (length rest)
     more None lines few = omega arith
     more (Some line) lines few = omega arith
 
@@ -247,6 +249,30 @@ pub whole : (air : Air) (n : ℕ) → AreWhole (traffic_entries air n)
 whole air zero = refl
 whole air (suc n) = whole_both (traffic_entries air n) (map (commit_in air (n + 1)) (active_crafts air)) (whole air n) (whole_round air (n + 1) (active_crafts air))
 
+-- ---- how many entries there are at most
+
+few_pass : (test : ℕ → Bool) (n low : ℕ) → length (filter test (range_with_len low n)) ≤ n
+few_pass test zero low = omega arith
+few_pass test (suc n) low = elim (cases_Bool (test low)) [
+  | inl taken ↦ omega (arith, few_pass test n (low + 1), ap length (cond-true (test low) (low ∷ filter test (range_with_len (low + 1) n)) (filter test (range_with_len (low + 1) n)) taken))
+  | inr skipped ↦ omega (arith, few_pass test n (low + 1), ap length (cond-false (test low) (low ∷ filter test (range_with_len (low + 1) n)) (filter test (range_with_len (low + 1) n)) skipped))
+]
+
+few_rounds : (air : Air) (n : ℕ) → length (active_crafts air) ≤ 16 → length (traffic_entries air n) ≤ n * 16
+few_rounds air zero few = omega arith
+few_rounds air (suc n) few =
+    let round = map (commit_in air (n + 1)) (active_crafts air) in
+    omega (arith, few, few_rounds air n few, length-append (traffic_entries air n) round, length-map (active_crafts air) (commit_in air (n + 1)))
+
+few_crafts : (version n : ℕ) → n ≤ most_crafts version → n ≤ 16
+few_crafts version n = elim (version == 1) as (λ (first : Bool). n ≤ (if first then 8 else CRAFTS) → n ≤ 16) [ true ↦ λ few. omega (arith, few) | false ↦ λ few. omega (arith, few) ]
+
+pub few_entries : (e : Parts) → IsEncounter e → length (traffic_entries (air_of e) e.cycles) < 2 ^ 32
+few_entries e is =
+    let air = air_of e in
+    let few : length (active_crafts air) ≤ 16 = omega (arith, few_pass (is_active air) air.count 0, few_crafts e.version (length e.crafts) is.crafts.few) in
+    omega (arith, few_rounds air e.cycles few, is.run.length.1)
+
 -- ---- the lines of a recording
 
 -- How many aircraft are active, from how many entries there are.
@@ -256,8 +282,27 @@ active_count air n some = ap (λ (m : ℕ). m / n) (length-traffic air n ∙ mul
     plus-0 : length (active_crafts air) * n ≡ length (active_crafts air) * n + 0
     plus-0 = omega arith
 
--- What comes after the encounter, from its parts.
-pub later-from : (e : Parts) (journal : List Entry) (count many close : Option (List ℕ)) (commits lines : List (List ℕ)) → count ≡ Some (count_line (codes "journal,") (length journal))
-    → commits ≡ map (entry_line (length e.crafts)) journal → many ≡ Some (count_line (codes "report,") (length lines)) → lines ≡ report_lines e journal → close ≡ Some (codes "close\n")
-    → (single count ++ commits) ++ (single many ++ (lines ++ single close)) ≡ later_lines e journal
-later-from e journal count many close commits lines count_is commits_are many_is lines_are close_is = rw (count_is, commits_are, many_is, lines_are, close_is) refl
+-- All of a recording, from its parts.
+pub recording-from : (e : Parts) (journal : List Entry) (first count many close : List ℕ) (canonical commits lines : List (List ℕ)) → first ≡ codes "recording,1\n" → canonical ≡ canonical_lines e
+    → count ≡ count_line (codes "journal,") (length journal) → commits ≡ map (entry_line (length e.crafts)) journal → many ≡ count_line (codes "report,") (length lines) → lines ≡ report_lines e journal → close ≡ codes "close\n"
+    → (first ∷ []) ++ (canonical ++ ((count ∷ []) ++ (commits ++ ((many ∷ []) ++ (lines ++ close ∷ []))))) ≡ recording_lines e journal
+recording-from e journal first count many close canonical commits lines first_is canonical_is count_is commits_are many_is lines_are close_is =
+    rw (first_is, canonical_is, count_is, commits_are, many_is, lines_are, close_is) refl
+
+-- The line of an entry was put: those put and those of the entries left are all.
+pub changes-line : (crafts : List CraftSpec) (befores after : List Composite) (left rest : List Entry) (entry : Entry) (before : Composite) (line : List ℕ) (lines all : List (List ℕ)) → left ≡ entry ∷ rest
+    → before ≡ get_or befores 0 clear → after ≡ drop 1 befores → Some line ≡ entry_change crafts before entry → lines ++ changes crafts befores left ≡ all → (lines ++ line ∷ []) ++ changes crafts after rest ≡ all
+changes-line crafts befores after left rest entry before line lines all left_is before_is after_is change is =
+    append_assoc lines (line ∷ []) (changes crafts after rest) ∙ ap (λ t. lines ++ t) next ∙ is
+  where
+    next : line ∷ changes crafts after rest ≡ changes crafts befores left
+    next =
+        ap₂ (λ (o : Option (List ℕ)) (B : List Composite). option_to_list o ++ changes crafts B rest) (change ∙ ap (λ (b : Composite). entry_change crafts b entry) before_is) after_is
+        ∙ sym (ap (changes crafts befores) left_is)
+
+-- As long as 32 bits hold the count, it is how many lines there are.
+pub counted-few : (count : ℕ) (lines : List (List ℕ)) → count + length lines < 2 ^ 32 → counted count lines ≡ count + length lines
+counted-few count [] few = omega arith
+counted-few count (line ∷ rest) few =
+    let next : min (count + 1) (2 ^ 32 - 1) ≡ count + 1 = omega arith in
+    ap (λ (n : ℕ). counted n rest) next ∙ counted-few (count + 1) rest (omega arith) ∙ (omega arith)

@@ -1,12 +1,11 @@
 -- The report of commits in rounds, from one commit to the next. In rounds the commit before is so many places earlier.
-use Rattle.std.specs.Prelude.{ℕ, List, [], ◌∷◌, ◌++◌, map, replicate, get_or, drop, slice_get, Option, Some, None}
+use Rattle.std.specs.Prelude.{ℕ, List, [], ◌∷◌, ◌++◌, map, replicate, get_or, drop, slice_get, Option, Some, None, option_to_list}
 use Rattle.acas_base.specs.declared.craft.CraftSpec.{CraftSpec}
 use Rattle.acas_base.specs.declared.entry.Entry.{Entry}
 use Rattle.acas_base.specs.declared.entry.Entry.TheVariants.{Commit, Send, Take}
 use Rattle.advisory_report.specs.Composite.{clear, composite_of}
 use Rattle.advisory_report.specs.Report.{report_line}
 use Rattle.advisory_report.specs.declared.composite.Composite.{Composite}
-use Rattle.enc_file.specs.Lines.{single}
 
 -- What an aircraft shows after an entry.
 abbrev pub shown_by : Entry → Composite
@@ -31,4 +30,4 @@ shown_before first entries = replicate first clear ++ map shown_by entries
 -- The lines for entries, by what is shown before each.
 abbrev pub changes : List CraftSpec → List Composite → List Entry → List (List ℕ)
 changes crafts befores [] = []
-changes crafts befores (entry ∷ rest) = single (entry_change crafts (get_or befores 0 clear) entry) ++ changes crafts (drop 1 befores) rest
+changes crafts befores (entry ∷ rest) = option_to_list (entry_change crafts (get_or befores 0 clear) entry) ++ changes crafts (drop 1 befores) rest

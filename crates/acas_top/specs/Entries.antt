@@ -11,7 +11,7 @@ use Rattle.acas_base.specs.declared.advisory.Strength.TheVariants.{Limit2000, Li
 use Rattle.acas_base.specs.declared.entry.Entry.{Entry}
 use Rattle.acas_base.specs.declared.entry.Entry.TheVariants.{Commit, Send, Take}
 use Rattle.acas_text.specs.Hex.{hex}
-use Rattle.enc_file.specs.Spelling.{number}
+use Rattle.std.specs.Fmt.{decimal}
 
 abbrev pub sense_letter : Sense → List ℕ
 sense_letter Up = codes "U"
@@ -32,7 +32,7 @@ flag holds letter = if holds then letter else []
 
 -- A resolution advisory: its sense, its strength, a dot, its age, and its flags.
 abbrev pub advisory_text : Intent → List ℕ
-advisory_text it = sense_letter it.sense ++ strength_digit it.strength ++ codes "." ++ number it.age ++ flag it.corrective (codes "c") ++ flag it.crossing (codes "x") ++ flag it.turned (codes "r")
+advisory_text it = sense_letter it.sense ++ strength_digit it.strength ++ codes "." ++ decimal it.age ++ flag it.corrective (codes "c") ++ flag it.crossing (codes "x") ++ flag it.turned (codes "r")
 
 abbrev pub cell_text : Cell → List ℕ
 cell_text Clear = codes "-"
@@ -49,9 +49,9 @@ outcome good = if good then codes "g" else codes "b"
 
 -- The line of an entry, in an encounter of so many aircraft.
 abbrev pub entry_line : ℕ → Entry → List ℕ
-entry_line count (Commit own cycle cells) = codes "c," ++ number own ++ codes "," ++ number cycle ++ flat_map cell_field (take count cells.list) ++ codes "\n"
-entry_line count (Send own target n word) = codes "s," ++ number own ++ codes "," ++ number target ++ codes "," ++ number n ++ codes "," ++ hex 14 word ++ codes "\n"
-entry_line count (Take own send copy good) = codes "t," ++ number own ++ codes "," ++ number send ++ codes "," ++ number copy ++ codes "," ++ outcome good ++ codes "\n"
+entry_line count (Commit own cycle cells) = codes "c," ++ decimal own ++ codes "," ++ decimal cycle ++ flat_map cell_field (take count cells.list) ++ codes "\n"
+entry_line count (Send own target n word) = codes "s," ++ decimal own ++ codes "," ++ decimal target ++ codes "," ++ decimal n ++ codes "," ++ hex 14 word ++ codes "\n"
+entry_line count (Take own send copy good) = codes "t," ++ decimal own ++ codes "," ++ decimal send ++ codes "," ++ decimal copy ++ codes "," ++ outcome good ++ codes "\n"
 
 -- The words of messages have 56 bits, so their lines tell them whole.
 abbrev pub is_whole : Entry → Bool

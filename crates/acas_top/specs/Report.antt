@@ -1,5 +1,5 @@
 -- The report of a journal: what the crews hear and see, from commit to commit. The entries are in order.
-use Rattle.std.specs.Prelude.{ℕ, ◌-◌, ◌&&◌, ◌==◌, if◌then◌else◌, List, [], ◌∷◌, length, Option, Some, None}
+use Rattle.std.specs.Prelude.{ℕ, ◌-◌, ◌&&◌, ◌==◌, if◌then◌else◌, List, [], ◌∷◌, length, Option, Some, None, option_to_list}
 use Rattle.std.specs.List.{flat_map, range_with_len}
 use Rattle.acas_base.specs.Encounter.{Parts}
 use Rattle.acas_base.specs.declared.advisory.Cells.{Cells}
@@ -8,8 +8,7 @@ use Rattle.acas_base.specs.declared.entry.Entry.TheVariants.{Commit, Send, Take}
 use Rattle.advisory_report.specs.Composite.{clear, composite_of}
 use Rattle.advisory_report.specs.Report.{report_line}
 use Rattle.advisory_report.specs.declared.composite.Composite.{Composite}
-use Rattle.air_journal.specs.Airs.{address_of}
-use Rattle.enc_file.specs.Lines.{single}
+use Rattle.craft_view.specs.Sight.{address_of}
 
 -- The cells of an aircraft's commit of a cycle.
 abbrev pub cells_in : List Entry → ℕ → ℕ → Option Cells
@@ -26,7 +25,7 @@ shown (Some cells) = composite_of cells
 -- The line for a commit with these cells, where the report has one.
 abbrev pub commit_report : ℕ → ℕ → Composite → Option Cells → List (List ℕ)
 commit_report cycle address before None = []
-commit_report cycle address before (Some cells) = single (report_line cycle address before (composite_of cells))
+commit_report cycle address before (Some cells) = option_to_list (report_line cycle address before (composite_of cells))
 
 -- The line for an aircraft's commit of a cycle, by what it showed after the cycle before.
 abbrev pub report_of : Parts → List Entry → ℕ → ℕ → List (List ℕ)

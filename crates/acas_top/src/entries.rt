@@ -4,14 +4,16 @@ ghost use Rattle.std.specs.List.{flat_map};
 ghost use Rattle.acas_base.specs.declared.TheConstants.{CRAFTS};
 ghost use Rattle.acas_base.specs.declared.entry.Entry.{Entry};
 ghost use Rattle.acas_text.specs.Hex.{hex};
-ghost use Rattle.acas_text.specs.declared.line.TheConstants.{LINE_BYTES};
-ghost use Rattle.enc_file.specs.Spelling.{number};
+ghost use Rattle.acas_text.specs.declared.line.TheConstants.{LINE_BYTES, U16_BYTES};
+ghost use Rattle.std.specs.Fmt.{decimal};
 ghost use Rattle.acas_top.specs.Entries.{AreWhole, cell_field, entry_line, flag, is_whole, outcome, sense_letter, strength_digit};
 
-use crate::numbers::{add_cycles, add_number};
 use acas_base::{Cell, Cells, Entry, Intent, Sense, Strength};
-use acas_text::Line;
-use enc_file::Lines;
+use acas_lines::LineSink;
+use acas_text::{Line, U16_BYTES};
+
+// The most bytes that a cell adds: a comma, a sense, a strength, a dot, an age and three flags.
+const CELL_BYTES: usize = 7 + U16_BYTES;
 
 fn add_flag(line: &mut Line, holds: bool, letter: &str)
     requires letter { length letter.now ≡ 1 }
@@ -55,17 +57,17 @@ fn strength_digit(strength: Strength) -> &'static str
     }
 }
 
-// Adds a resolution advisory after a comma, in at most 13 bytes.
+// Adds a resolution advisory after a comma.
 fn add_advisory(line: &mut Line, advisory: &Intent)
-    requires { length line.old + 13 ≤ LINE_BYTES }
+    requires { length line.old + CELL_BYTES ≤ LINE_BYTES }
     ensures added { line.new ≡ line.old ++ cell_field (Cell.Ra advisory.now) }
-    ensures short { length line.new ≤ length line.old + 13 }
+    ensures short { length line.new ≤ length line.old + CELL_BYTES }
 {
     line.text(",");
     line.text(sense_letter(advisory.sense));
     line.text(strength_digit(advisory.strength));
     line.text(".");
-    add_cycles(line, advisory.age);
+    line.u16(advisory.age);
     add_flag(line, advisory.corrective, "c");
     add_flag(line, advisory.crossing, "x");
     add_flag(line, advisory.turned, "r");
@@ -73,9 +75,9 @@ fn add_advisory(line: &mut Line, advisory: &Intent)
 
 // Adds a cell after a comma.
 fn add_cell(line: &mut Line, cell: &Cell)
-    requires { length line.old + 13 ≤ LINE_BYTES }
+    requires { length line.old + CELL_BYTES ≤ LINE_BYTES }
     ensures added { line.new ≡ line.old ++ cell_field cell.now }
-    ensures short { length line.new ≤ length line.old + 13 }
+    ensures short { length line.new ≤ length line.old + CELL_BYTES }
 {
     match cell {
         Cell::Clear => line.text(",-"),
@@ -87,9 +89,9 @@ fn add_cell(line: &mut Line, cell: &Cell)
 // Adds the cells for so many aircraft.
 fn add_cells(line: &mut Line, cells: &Cells, count: u8)
     requires count { count ≤ CRAFTS }
-    requires room { length line.old + 208 ≤ LINE_BYTES }
+    requires room { length line.old + CELL_BYTES * CRAFTS ≤ LINE_BYTES }
     ensures added { line.new ≡ line.old ++ flat_map cell_field (take count cells.now.list) }
-    ensures short { length line.new ≤ length line.old + 208 }
+    ensures short { length line.new ≤ length line.old + CELL_BYTES * CRAFTS }
 {
     for place in 0..usize::from(count) {
         add_cell(line, &cells.list[place]);
@@ -102,9 +104,9 @@ fn commit_line(own: u8, cycle: u16, cells: &Cells, count: u8) -> Line
 {
     let mut line = Line::new();
     line.text("c,");
-    add_number(&mut line, u32::from(own));
+    line.u16(u16::from(own));
     line.text(",");
-    add_cycles(&mut line, cycle);
+    line.u16(cycle);
     add_cells(&mut line, cells, count);
     line.text("\n");
     line
@@ -116,11 +118,11 @@ fn send_line(own: u8, target: u8, number: u16, word: u64, count: u8) -> Line
 {
     let mut line = Line::new();
     line.text("s,");
-    add_number(&mut line, u32::from(own));
+    line.u16(u16::from(own));
     line.text(",");
-    add_number(&mut line, u32::from(target));
+    line.u16(u16::from(target));
     line.text(",");
-    add_number(&mut line, u32::from(number));
+    line.u16(number);
     line.text(",");
     line.hex(word, 14);
     line.text("\n");
@@ -132,11 +134,11 @@ fn take_line(own: u8, send: u32, copy: u8, good: bool, count: u8) -> Line
 {
     let mut line = Line::new();
     line.text("t,");
-    add_number(&mut line, u32::from(own));
+    line.u16(u16::from(own));
     line.text(",");
-    add_number(&mut line, send);
+    line.u32(send);
     line.text(",");
-    add_number(&mut line, u32::from(copy));
+    line.u16(u16::from(copy));
     line.text(",");
     line.text(outcome_letter(good));
     line.text("\n");
@@ -166,31 +168,13 @@ fn entry_line(entry: &Entry, count: u8) -> Line
     }
 }
 
-/// The lines of the entries that are still to come, in an encounter of so many aircraft.
-#[derive(Drop)]
-pub(crate) struct EntryLines<'a> {
-    entries: &'a [Entry],
-    count: u8,
-    ghost few: { count ≤ CRAFTS },
-    ghost whole: { AreWhole entries.now },
-}
-
-impl<'a> EntryLines<'a> {
-    pub(crate) fn of(entries: &'a [Entry], count: u8) -> EntryLines<'a>
-        requires few { count ≤ CRAFTS }
-        requires whole { AreWhole entries.now }
-        ensures { (result.entries.now ≡ entries.now) × (result.count ≡ count) }
-    {
-        EntryLines { entries, count }
-    }
-}
-
-impl Lines for EntryLines<'_> {
-    ghost left = { λ l. map (entry_line l.count) l.entries.now };
-
-    fn next(&mut self) -> Option<Line> {
-        let (entry, rest) = self.entries.split_first()?;
-        self.entries = rest;
-        Some(entry_line(entry, self.count))
+/// Puts the line of each entry, in an encounter of so many aircraft.
+pub(crate) fn put_entries<S: LineSink>(entries: &[Entry], count: u8, sink: &mut S)
+    requires few { count ≤ CRAFTS }
+    requires whole { AreWhole entries.now }
+    ensures { S.took sink.old sink.new (map (entry_line count) entries.now) }
+{
+    for entry in entries {
+        sink.line(&entry_line(entry, count));
     }
 }

@@ -2,21 +2,19 @@
 //! go out, and one status.
 #![tactic(auto)]
 
-mod commands;
+mod answers;
 mod entries;
-mod numbers;
 mod recording;
 mod refusal;
 mod report;
 mod serial;
 mod status;
+mod top;
+mod words;
 
-pub use commands::acas;
 pub use status::Status;
+pub use top::{acas, one_status_law};
+pub use words::Command;
 
-#[cfg(test)]
-mod choices;
 #[cfg(test)]
 mod tests;
-#[cfg(test)]
-mod traffic;

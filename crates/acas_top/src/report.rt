@@ -1,12 +1,12 @@
 // The lines of the report on commits in rounds.
-ghost use Rattle.std.specs.Prelude.{◌≡◌, ◌<◌, ◌^◌, ◌++◌, get_or, drop, length, slice_get};
+ghost use Rattle.std.specs.Prelude.{◌≡◌, ◌<◌, ◌^◌, get_or, drop, length, slice_get};
 ghost use Rattle.advisory_report.specs.Composite.{clear};
 ghost use Rattle.acas_top.specs.Changes.{changes, craft_change, entry_change, shown_before, shown_by};
 
 use acas_base::{CraftSpec, Entry};
+use acas_lines::LineSink;
 use acas_text::Line;
 use advisory_report::{Composite, composite_of, line};
-use enc_file::Lines;
 use std::marker::Model;
 
 // What an aircraft shows after an entry.
@@ -85,56 +85,54 @@ impl<'a> Before<'a> {
     }
 }
 
-/// The lines of the report that are still to come.
+/// Puts the lines of the report, where the commit before an entry of an aircraft is so many places earlier.
+pub(crate) fn put_report<S: LineSink>(
+    crafts: &[CraftSpec],
+    active: usize,
+    entries: &[Entry],
+    sink: &mut S,
+)
+    ensures { S.took sink.old sink.new (changes crafts.now (shown_before active entries.now) entries.now) }
+{
+    let mut before = Before::of(active, entries);
+    let mut left = entries;
+    while let Some((entry, rest)) = left.split_first() {
+        left = rest;
+        let shown = before.next();
+        if let Some(line) = entry_change(crafts, &shown, entry) {
+            sink.line(&line);
+        }
+    }
+}
+
+// How many lines were put, as far as 32 bits count them.
 #[derive(Drop)]
-pub(crate) struct ReportLines<'a> {
-    crafts: &'a [CraftSpec],
-    before: Before<'a>,
-    entries: &'a [Entry],
+struct LineCount {
+    lines: u32,
 }
 
-impl<'a> ReportLines<'a> {
-    /// All lines, where the commit before an entry of an aircraft is so many places earlier.
-    pub(crate) fn of(
-        crafts: &'a [CraftSpec],
-        active: usize,
-        entries: &'a [Entry],
-    ) -> ReportLines<'a>
-        ensures lines { ⟦<ReportLines<'a> as Lines>⟧.left result ≡ changes crafts.now (shown_before active entries.now) entries.now }
-        ensures entries { result.entries.now ≡ entries.now }
-    {
-        ReportLines {
-            crafts,
-            before: Before::of(active, entries),
-            entries,
-        }
+impl LineSink for LineCount {
+    ghost use Rattle.std.specs.Prelude.{◌≡◌};
+    ghost use Rattle.std.proofs.Common.{◌∙◌, ap, refl};
+    ghost use Rattle.acas_top.specs.Counting.{counted, counted-append};
+
+    ghost took = { λ a b lines. b.lines ≡ counted a.lines lines };
+
+    fn line(&mut self, _: &Line) {
+        self.lines = self.lines.saturating_add(1);
     }
 
-    /// How many lines are still to come. None is left then.
-    pub(crate) fn count(&mut self) -> usize
-        requires { length self.old.entries.now < 2 ^ 63 }
-        ensures value { result ≡ length (⟦<ReportLines<'a> as Lines>⟧.left self.old) }
-        ensures range { result < 2 ^ 63 }
-    {
-        let mut found = 0;
-        while let Some(_) = self.next() {
-            found += 1;
-        }
-        found
-    }
+    ghost nothing = { λ _. refl };
+
+    ghost then = { λ a b c xs ys g h. h ∙ ap (λ n. counted n ys) g ∙ counted-append a.lines xs ys };
 }
 
-impl Lines for ReportLines<'_> {
-    ghost left = { λ r. changes r.crafts.now r.before r.entries.now };
-
-    fn next(&mut self) -> Option<Line> {
-        while let Some((entry, rest)) = self.entries.split_first() {
-            self.entries = rest;
-            let before = self.before.next();
-            if let Some(line) = entry_change(self.crafts, &before, entry) {
-                return Some(line);
-            }
-        }
-        None
-    }
+/// How many lines the report has.
+pub(crate) fn count_report(crafts: &[CraftSpec], active: usize, entries: &[Entry]) -> u32
+    requires { length entries.now < 2 ^ 32 }
+    ensures { result ≡ length (changes crafts.now (shown_before active entries.now) entries.now) }
+{
+    let mut count = LineCount { lines: 0 };
+    put_report(crafts, active, entries, &mut count);
+    count.lines
 }

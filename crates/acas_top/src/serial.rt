@@ -13,7 +13,7 @@ ghost use Rattle.acas_top.specs.Traffic.{HasNoRa, HasRa, active_crafts, commit_i
 use acas_base::{CRAFTS, Cell, Cells, CraftSpec, Encounter, Entry, Kind, Picture, View};
 use air_rules::{safe_law, serial_law};
 use craft_view::{Craft, is_active};
-use flight::places_in;
+use flight::Places;
 use std::alloc::{AllocError, Global};
 use std::array::from_fn;
 
@@ -102,11 +102,10 @@ fn commit_round(
     ensures looked { OnOk result (HaveLooked encounter.now (looks + 1) crafts.new.items) }
     ensures same { OnOk result (indices_of crafts.new.items ≡ indices_of crafts.old.items) }
 {
-    // No run is longer than 600 cycles.
-    let _run = encounter.cycles();
-    let places = places_in(encounter, looks + 1);
+    encounter.valid_law();
+    let places = Places::new(encounter, looks + 1);
     for index in 0..crafts.len() {
-        let picture = crafts[index].look_among(encounter, &places);
+        let picture = crafts[index].look_among(&places);
         entries.push(commit_of(&picture))?;
     }
     Ok(())

@@ -1,7 +1,23 @@
+// Whole runs, the serial run by itself, and what aircraft choose on the views that they have of each other: tests that
+// cross crates.
+ghost use Rattle.std.specs.Prelude.{◌≡◌, ◌<◌, ◌≤◌, IfOk};
+ghost use Rattle.acas_base.specs.Ranges.{IsWithin};
+ghost use Rattle.acas_base.specs.declared.TheConstants.{CRAFTS};
+ghost use Rattle.craft_view.specs.Kept.{Belongs};
+
+use crate::serial::{has_ra, serial_run};
 use crate::{Status, acas};
+use acas_base::{
+    Address, CRAFTS, Cell, Cells, CraftSpec, Encounter, Entry, Gains, Kind, Leg, Sense, Strength,
+    View,
+};
 use acas_io::{MemSink, MemSource};
+use craft_view::{Craft, is_active};
+use flight::inside;
+use sense_pick::pick;
 use std::alloc::{AllocError, Global};
 use std::test::Fail;
+use strength_pick::least;
 
 // Two aircraft with traffic advisories alone, which fly towards each other.
 const TRAFFIC: &[u8] =
@@ -33,7 +49,7 @@ fn run(
         words.push(String::from_str(alloc, *text)?)?;
     }
     let mut source = MemSource::new(input.to_vec(alloc)?, 65_536, failing_reads.to_vec(alloc)?);
-    let room = Vec::with_capacity(alloc, 2000)?;
+    let room = Vec::with_capacity(alloc, 1_000_000)?;
     let mut sink = MemSink::new(room, 16, failing_writes.to_vec(alloc)?);
     let status = acas(alloc, words.as_slice(), &mut source, &mut sink);
     Ok(Outcome { status, sink })
@@ -158,16 +174,200 @@ fn reads_nothing_without_a_command(rt: HostRuntime) -> Result<(), Fail> {
     Ok(())
 }
 
+// Blank lines are no records, so a text with many of them says the same.
 #[test]
-fn takes_input_up_to_the_limit(rt: HostRuntime) -> Result<(), Fail> {
+fn reads_texts_up_to_the_limit(rt: HostRuntime) -> Result<(), Fail> {
     let alloc = rt.alloc();
-    let mut lines = vec![in alloc; b'\n'; 16_777_216]?;
-    let refused = run(alloc, &["serial"], lines.as_slice(), &[], &[])?;
-    assert_eq!(rt; refused.status, Status::Refused);
-    assert_eq!(rt; refused.sink.bytes(), b"refused,1,1\n".as_slice());
-    lines.push(b'\n')?;
-    let too_long = run(alloc, &["serial"], lines.as_slice(), &[], &[])?;
+    let mut text = vec![in alloc; b'\n'; 16_777_216 - ONE_CYCLE.len()]?;
+    text.extend_from_slice(ONE_CYCLE)?;
+    let done = run(alloc, &["serial"], text.as_slice(), &[], &[])?;
+    assert_eq!(rt; done.status, Status::Done);
+    assert_eq!(rt; done.sink.bytes(), ONE_CYCLE_RECORDING);
+    text.push(b'\n')?;
+    let too_long = run(alloc, &["serial"], text.as_slice(), &[], &[])?;
     assert_eq!(rt; too_long.status, Status::TooLong);
     assert_eq!(rt; too_long.sink.bytes(), b"".as_slice());
+    Ok(())
+}
+
+// Sixteen aircraft of format 2, with a leg of each in each of 600 cycles: 9,600 commits.
+#[test]
+fn plays_sixteen_aircraft(rt: HostRuntime) -> Result<(), Fail> {
+    let alloc = rt.alloc();
+    let mut text = b"encounter,2\nrun,600,0\n".to_vec(alloc)?;
+    for craft in 10..26u32 {
+        let line = format!(in alloc; "craft,0000{craft},TA,{craft}00,0,{craft}000\n")?;
+        text.extend_from_slice(line.as_bytes())?;
+    }
+    for craft in 10..26u32 {
+        for cycle in 1..601u32 {
+            let line = format!(in alloc; "leg,0000{craft},{cycle},100,0,0\n")?;
+            text.extend_from_slice(line.as_bytes())?;
+        }
+    }
+    text.extend_from_slice(b"end\n")?;
+    let done = run(alloc, &["serial"], text.as_slice(), &[], &[])?;
+    assert_eq!(rt; done.status, Status::Done);
+    let mut commits = 0u64;
+    for line in done.sink.bytes().split(|byte| *byte == b'\n') {
+        if line.starts_with(b"c,") {
+            commits = commits.saturating_add(1);
+        }
+    }
+    assert_eq!(rt; commits, 9600);
+    Ok(())
+}
+
+// ---- the serial run by itself
+
+fn without_resolution(address: u32, x: i32, alt: i32) -> Result<CraftSpec, Fail> {
+    let mut craft = aircraft(address, x, alt)?;
+    craft.kind = Kind::Ta;
+    Ok(craft)
+}
+
+fn commit(own: u8, cycle: u16, list: [Cell; CRAFTS]) -> Entry {
+    Entry::Commit {
+        own,
+        cycle,
+        cells: Cells { list },
+    }
+}
+
+// At 35,000 and 35,300 ft, 91,200 ft apart. The tests of a traffic advisory first hold in cycle 13.
+#[test]
+fn advises_traffic_from_cycle_13_on(rt: HostRuntime) -> Result<(), Fail> {
+    let low = without_resolution(0x40_0A01, 0, 35_000)?;
+    let high = without_resolution(0x40_0B02, 91_200, 35_300)?;
+    let met = meeting(rt.alloc(), low, high, 760)?;
+    if !inside(&met) {
+        return Err("outside the box".into());
+    }
+    if has_ra(&met) {
+        return Err("an aircraft of kind RA".into());
+    }
+    let entries = serial_run(rt.alloc(), &met)?;
+    assert_eq!(rt; entries.len(), 62);
+    let clear = [Cell::Clear; CRAFTS];
+    for cycle in 0..12u16 {
+        let first = 2 * usize::from(cycle);
+        assert_eq!(rt; entries[first], commit(0, cycle + 1, clear));
+        assert_eq!(rt; entries[first + 1], commit(1, cycle + 1, clear));
+    }
+    let mut by_low = clear;
+    by_low[1] = Cell::Traffic;
+    assert_eq!(rt; entries[24], commit(0, 13, by_low));
+    let mut by_high = clear;
+    by_high[0] = Cell::Traffic;
+    assert_eq!(rt; entries[25], commit(1, 13, by_high));
+    Ok(())
+}
+
+// ---- choices
+
+fn aircraft(address: u32, x: i32, alt: i32) -> Result<CraftSpec, Fail> {
+    Ok(CraftSpec {
+        address: Address::new(address).ok_or("no address")?,
+        kind: Kind::Ra,
+        x,
+        y: 0,
+        alt,
+        ceiling: None,
+    })
+}
+
+fn leg(craft: u8, vx: i32) -> Leg {
+    Leg {
+        craft,
+        from: 1,
+        vx,
+        vy: 0,
+        vz: 0,
+    }
+}
+
+// Two aircraft that fly towards each other.
+fn meeting(alloc: Global, low: CraftSpec, high: CraftSpec, speed: i32) -> Result<Encounter, Fail>
+    requires speed { IsWithin 2000 speed }
+{
+    let made = Encounter::make(
+        1,
+        31,
+        0,
+        Gains {
+            alpha: 683,
+            beta: 256,
+        },
+        Gains {
+            alpha: 512,
+            beta: 128,
+        },
+        [low, high].to_vec(alloc)?,
+        [leg(0, speed), leg(1, -speed)].to_vec(alloc)?,
+        Vec::new(alloc),
+        Vec::new(alloc),
+        Vec::new(alloc),
+    );
+    Ok(made.ok_or("refused")?)
+}
+
+// The aircraft of this index, after so many looks.
+fn craft_after(encounter: &Encounter, own: u8, looks: u16) -> Result<Craft, Fail>
+    requires { looks ≤ encounter.now.cycles }
+    ensures { IfOk result (λ c. Belongs encounter.now c × (c.cycle ≡ looks)) }
+{
+    if !inside(encounter) {
+        return Err("outside the box".into());
+    }
+    if !is_active(encounter, own) {
+        return Err("not active".into());
+    }
+    let mut craft = Craft::new(encounter, own);
+    for _ in 0..looks {
+        let _ = craft.look(encounter);
+    }
+    Ok(craft)
+}
+
+// What an aircraft sees of another one in a cycle.
+fn view_in(encounter: &Encounter, own: u8, target: usize, cycle: u16) -> Result<View, Fail>
+    requires target { target < CRAFTS }
+    requires cycle { 1 ≤ cycle }
+    requires run { cycle ≤ encounter.now.cycles }
+{
+    let mut craft = craft_after(encounter, own, cycle - 1)?;
+    Ok(craft.look(encounter).views[target])
+}
+
+// At 35,000 and 35,300 ft, in the first cycle of a threat: the lower one goes down, the higher one up.
+#[test]
+fn choose_opposite_senses(rt: HostRuntime) -> Result<(), Fail> {
+    let low = aircraft(0x40_0A01, 0, 35_000)?;
+    let high = aircraft(0x40_0B02, 91_200, 35_300)?;
+    let met = meeting(rt.alloc(), low, high, 760)?;
+    assert_eq!(rt; met.cycles(), 31);
+    for (own, target, sense) in [(0, 1, Sense::Down), (1, 0, Sense::Up)] {
+        let view = view_in(&met, own, target, 26)?;
+        assert!(rt; view.threat);
+        assert_eq!(rt; pick(&view), sense);
+        assert_eq!(rt; least(&view, sense, true), Strength::Positive);
+    }
+    Ok(())
+}
+
+// At 1,099 ft each sees the other one a foot higher. To descend is not allowed there, so both climb, across the other's
+// altitude.
+#[test]
+fn choose_to_climb_near_the_ground(rt: HostRuntime) -> Result<(), Fail> {
+    let low = aircraft(0x40_0A01, 0, 1_099)?;
+    let high = aircraft(0x40_0B02, 12_000, 1_099)?;
+    let met = meeting(rt.alloc(), low, high, 200)?;
+    assert_eq!(rt; met.cycles(), 31);
+    for (own, target) in [(0, 1), (1, 0)] {
+        let view = view_in(&met, own, target, 16)?;
+        assert_eq!(rt; view.side, Sense::Down);
+        assert_eq!(rt; pick(&view), Sense::Up);
+        assert_eq!(rt; least(&view, Sense::Up, true), Strength::Positive);
+    }
     Ok(())
 }
