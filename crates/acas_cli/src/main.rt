@@ -12,12 +12,10 @@ use std::{env, io};
 
 // The words after the program's name.
 fn words_of<R: Env + Alloc<A = Global>>(rt: &R) -> io::Result<Vec<String>> {
+    let mut args = env::args(rt)?;
+    let _name = args.next();
     let mut words = Vec::new(rt.alloc());
-    for word in env::args(rt)?.skip(1) {
-        if words.push(word).is_err() {
-            return Err(io::Error::from(ErrorKind::OutOfMemory));
-        }
-    }
+    words.extend(args)?;
     Ok(words)
 }
 
