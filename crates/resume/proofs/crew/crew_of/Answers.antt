@@ -1,0 +1,45 @@
+use Rattle.std.proofs.Common.{rules, ◌≡◌, ℕ, ◌<◌, List, Option, None, get_or, set, length, length-set, get_or-set_same, get_or-set_other, below_more, sym, ap, ◌∙◌, subst, arith, inl, inr}
+use Rattle.std.proofs.lemmas.Bool.{cases_lt}
+use Rattle.air_journal.proofs.Bounds.{below, few_crafts}
+use Rattle.air_rules.specs.Journal.{commits}
+use Rattle.craft_view.specs.Kept.{Kept}
+use Rattle.resume.proofs.Readying.{ready_none}
+use Rattle.resume.proofs.crew.crew_of.Goals as goal
+use Rattle.resume.specs.Crews.{IsReady}
+
+pub loop-own-init : goal.loop-own-init
+loop-own-init c = record {
+  size = c.from_fn-crafts.ensures.items.long;
+  done = λ k h. absurd (omega arith);
+  rest = λ k h within. let call = c.from_fn-crafts.ensures.items.at k None within in search rules;
+}
+
+pub loop-own-preserved : goal.loop-own-preserved
+loop-own-preserved c =
+    let i = c.loop-own.invariant in
+    let xs = c.loop-own.crafts in
+    let v = c.craft_at.result in
+    let n = c.loop-own.own in
+    let few = few_crafts c.args.enc.now c.crafts.ensures.valid in
+    let size : length c.crafts.result.now ≡ length c.args.enc.now.crafts = ap length c.crafts.ensures.value in
+    let here : n < length xs = omega (arith, i.size) in
+    let s : set xs c.from.result v ≡ set xs n v = ap (λ (k : ℕ). set xs k v) c.from.ensures in
+    let all = below_more (λ k. IsReady c.args.enc.now k (commits c.args.state.now.journal k) (get_or (set xs n v) k None)) n
+    (λ k h. subst (IsReady c.args.enc.now k (commits c.args.state.now.journal k)) (sym (get_or-set_other xs n k v None (omega arith))) (i.done k h))
+    (subst (IsReady c.args.enc.now n (commits c.args.state.now.journal n)) (sym (get_or-set_same xs n v None here)) c.craft_at.ensures) in
+    record {
+      size = length-set xs c.from.result v ∙ i.size;
+      done = λ k h. subst (λ (l : List (Option Kept)). IsReady c.args.enc.now k (commits c.args.state.now.journal k) (get_or l k None)) (sym s) (all k h);
+      rest = λ k h w. ap (λ (l : List (Option Kept)). get_or l k None) s ∙ get_or-set_other xs n k v None (omega arith) ∙ i.rest k (omega arith) w;
+    }
+
+pub returns : goal.returns
+returns c = λ own h.
+    let i = c.loop-own.invariant in
+    let e = c.args.enc.now in
+    let size : length c.crafts.result.now ≡ length e.crafts = ap length c.crafts.ensures.value in
+    elim (cases_lt own c.loop-own.own) [
+      | inl lt ↦ i.done own lt
+      | inr ge ↦ subst (IsReady e own (commits c.args.state.now.journal own)) (sym (i.rest own ge h))
+          (ready_none e own (commits c.args.state.now.journal own) (λ a. let b = below e c.crafts.ensures.valid own a in omega arith))
+    ]

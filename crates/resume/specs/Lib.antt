@@ -1,0 +1,4 @@
+pub mod Filling
+pub mod Phases
+pub mod Crews
+pub mod Steps

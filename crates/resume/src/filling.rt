@@ -1,0 +1,78 @@
+// A journal is filled.
+ghost use Rattle.std.specs.Prelude.{◌≡◌, List, []};
+ghost use Rattle.acas_base.specs.declared.entry.Entry.{Entry};
+ghost use Rattle.air_journal.specs.Airs.{air_of};
+ghost use Rattle.air_rules.specs.Air.{Air, IsSound};
+ghost use Rattle.air_rules.specs.Journal.{Begins};
+ghost use Rattle.air_rules.specs.Rules.{IsComplete, IsLegal};
+ghost use Rattle.air_rules.specs.Serial.{IsSerial};
+ghost use Rattle.resume.specs.Crews.{AreReady};
+ghost use Rattle.resume.specs.Filling.{Fills, IsFilled};
+ghost use Rattle.resume.specs.Steps.{IsAtRest};
+
+use crate::crew::{Crew, crew_of};
+use crate::rounds::round;
+use crate::steps::{slowest, step};
+use acas_base::Encounter;
+use air_journal::AirState;
+
+// Goes on until all have equally many commits, nobody owes and nothing is due.
+fn catch_up(state: &mut AirState, enc: &Encounter, crew: &mut Crew)
+    requires same { state.old.encounter ≡ enc.now }
+    requires crew { AreReady enc.now state.old.journal crew.old.crafts }
+    ensures encounter { state.new.encounter ≡ enc.now }
+    ensures fills { Fills (air_of enc.now) state.old.journal state.new.journal }
+    ensures crew { AreReady enc.now state.new.journal crew.new.crafts }
+    ensures rest { IsAtRest (air_of enc.now) state.new.journal }
+{
+    state.legal_law();
+    loop {
+        if !step(state, enc, crew) {
+            return;
+        }
+    }
+}
+
+// Goes on round by round to the end.
+fn finish(state: &mut AirState, enc: &Encounter, crew: &mut Crew)
+    requires same { state.old.encounter ≡ enc.now }
+    requires crew { AreReady enc.now state.old.journal crew.old.crafts }
+    requires rest { IsAtRest (air_of enc.now) state.old.journal }
+    ensures encounter { state.new.encounter ≡ enc.now }
+    ensures filled { IsFilled (air_of enc.now) state.old.journal state.new.journal }
+{
+    state.legal_law();
+    let Some(own) = slowest(state, enc) else {
+        return;
+    };
+    for done in state.commits(own)..enc.cycles() {
+        round(state, enc, crew, done);
+    }
+}
+
+/// Goes on with a journal to its end. The next entry is that of the serial order where it is allowed; else
+/// the first owed message, by sender and receiver; else the first due copy, by receiver, position and
+/// copy. What was there stays, and the journal is legal and complete in the end. The encounter has to be
+/// that of the state.
+pub fn fill(state: &mut AirState, enc: &Encounter)
+    requires { state.old.encounter ≡ enc.now }
+    ensures encounter { state.new.encounter ≡ enc.now }
+    ensures filled { IsFilled (air_of enc.now) state.old.journal state.new.journal }
+    ensures legal { IsLegal (air_of enc.now) state.new.journal }
+    ensures complete { IsComplete (air_of enc.now) state.new.journal }
+    ensures begins { Begins state.old.journal state.new.journal }
+{
+    let mut crew = crew_of(state, enc);
+    catch_up(state, enc, &mut crew);
+    finish(state, enc, &mut crew);
+    state.legal_law();
+}
+
+/// A law: what a legal journal is filled to is legal, complete, and begins with it; and the empty journal
+/// is filled to the serial one.
+pub fn filled_law()
+    ensures legal { (air : Air) (first : List Entry) (journal : List Entry) → IsSound air → IsLegal air first → IsFilled air first journal → IsLegal air journal }
+    ensures complete { (air : Air) (first : List Entry) (journal : List Entry) → IsSound air → IsLegal air first → IsFilled air first journal → IsComplete air journal }
+    ensures begins { (air : Air) (first : List Entry) (journal : List Entry) → IsFilled air first journal → Begins first journal }
+    ensures serial { (air : Air) (journal : List Entry) → IsSound air → IsFilled air [] journal → IsSerial air journal }
+{}
