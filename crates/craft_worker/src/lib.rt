@@ -4,3 +4,6 @@
 mod serial_run;
 
 pub use serial_run::serial;
+
+#[cfg(test)]
+mod tests;
