@@ -3,8 +3,8 @@ use Rattle.std.proofs.Common.{◌↔◌, ℕ, ◌+◌, ◌*◌, ◌<◌, ◌≤�
 use Rattle.std.proofs.lemmas.Grind.{div_ceil_times}
 use Rattle.acas_num.specs.Seconds.{need, IsNeed}
 
-pub need_is : (a b : ℕ) → 0 < b → IsNeed a b (need a b)
-need_is a b h = let e = div_ceil_times a b h in record {
+pub need-is : (a b : ℕ) → 0 < b → IsNeed a b (need a b)
+need-is a b h = let e = div_ceil_times a b h in record {
   enough = e.0;
   least = λ u g.
       let x : need a b * b < (u + 1) * b = omega (arith, g, e.1) in
@@ -12,7 +12,7 @@ need_is a b h = let e = div_ceil_times a b h in record {
       omega arith;
 }
 
-pub need_le : (a b seconds : ℕ) → 0 < b → (need a b ≤ seconds) ↔ (a ≤ seconds * b)
-need_le a b seconds h =
-    let n = need_is a b h in
+pub need-le : (a b seconds : ℕ) → 0 < b → (need a b ≤ seconds) ↔ (a ≤ seconds * b)
+need-le a b seconds h =
+    let n = need-is a b h in
     (λ g. le_trans n.enough (mul-le-mul_right b g), λ g. n.least seconds g)

@@ -12,9 +12,9 @@ low a b = let e = div-add-mod' a b in omega arith
 high : (a b : ℕ) → 0 < b → a < (a / b + 1) * b
 high a b h = let e = div-add-mod' a b in let l : a % b < b = mod-lt a h in omega arith
 
-not_above : (a m : ℕ) → a < m → neg_ℤ (pos m) ≤ℤ negsuc a
-not_above a zero h = omega arith
-not_above a (suc m) h = omega (arith, ints)
+not-above : (a m : ℕ) → a < m → neg_ℤ (pos m) ≤ℤ negsuc a
+not-above a zero h = omega arith
+not-above a (suc m) h = omega (arith, ints)
 
 below : (a m : ℕ) → m ≤ a → negsuc a <ℤ neg_ℤ (pos m)
 below a zero h = omega (arith, ints)
@@ -32,5 +32,5 @@ quotient (pos a) (pos b) h =
     record { within = omega (arith, ints); no_more = omega (arith, ints) }
 quotient (negsuc a) (pos b) h =
     let above : 0 < b = omega (arith, ints) in
-    record { within = not_above a (suc (a / b) * b) (let g = high a b above in omega arith); no_more = next a (a / b) b (low a b) }
+    record { within = not-above a (suc (a / b) * b) (let g = high a b above in omega arith); no_more = next a (a / b) b (low a b) }
 quotient a (negsuc b) h = absurd (omega (arith, ints))

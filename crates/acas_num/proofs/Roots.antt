@@ -3,7 +3,7 @@ use Rattle.std.proofs.Common.{◌≡◌, ℕ, zero, suc, ◌+◌, ◌*◌, ◌�
 use Rattle.std.proofs.lemmas.Bool.{cond_both, cases_order}
 use Rattle.acas_num.specs.Root.{root, IsRoot}
 
--- n lies between the square of r and the next one
+-- n lies between the square of r and the next one.
 record HasRoot (n r : ℕ) : Type 0 where
   at_least : r * r ≤ n
   below : n < (r + 1) * (r + 1)
@@ -30,15 +30,15 @@ greatest n r h s g =
       ]
     ]
 
-pub root_is : (n : ℕ) → IsRoot n (root n)
-root_is n = let h = squares n in record { square = h.at_least; greatest = greatest n (root n) h.below }
+pub root-is : (n : ℕ) → IsRoot n (root n)
+root-is n = let h = squares n in record { square = h.at_least; greatest = greatest n (root n) h.below }
 
-pub only_root : (n r : ℕ) → IsRoot n r → r ≡ root n
-only_root n r h =
-    let g = root_is n in
+pub only-root : (n r : ℕ) → IsRoot n r → r ≡ root n
+only-root n r h =
+    let g = root-is n in
     let a = g.greatest r h.square in
     let b = h.greatest (root n) g.square in
     omega arith
 
-pub root_between : (n r : ℕ) → r * r ≤ n → n < (r + 1) * (r + 1) → r ≡ root n
-root_between n r l h = only_root n r (record { square = l; greatest = greatest n r h })
+pub root-between : (n r : ℕ) → r * r ≤ n → n < (r + 1) * (r + 1) → r ≡ root n
+root-between n r l h = only-root n r (record { square = l; greatest = greatest n r h })

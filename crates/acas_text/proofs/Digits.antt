@@ -54,17 +54,17 @@ length-hex zero n = refl
 length-hex (suc k) n = omega (arith, length-hex k (n / 16), length-append (hex k (n / 16)) (digit_glyph true (n % 16) ∷ []))
 
 -- A digit reads as its value.
-digit_value-glyph : (d : ℕ) → d < 16 → digit_value (digit_glyph true d) ≡ d
-digit_value-glyph d h = grind arith
+digit-value-glyph : (d : ℕ) → d < 16 → digit_value (digit_glyph true d) ≡ d
+digit-value-glyph d h = grind arith
 
 -- The digits of a number that fits them read as the number.
-pub digits_value-hex : (k n : ℕ) → n < 16 ^ k → digits_value 16 (hex k n) ≡ n
+pub digits-value-hex : (k n : ℕ) → n < 16 ^ k → digits_value 16 (hex k n) ≡ n
 unfolding hex
-digits_value-hex zero n h = omega arith
-digits_value-hex (suc k) n h =
+digits-value-hex zero n h = omega arith
+digits-value-hex (suc k) n h =
     let rest : n / 16 < 16 ^ k = omega arith in
-    let read = digits_value-hex k (n / 16) rest in
-    let last = digit_value-glyph (n % 16) (omega arith) in
+    let read = digits-value-hex k (n / 16) rest in
+    let last = digit-value-glyph (n % 16) (omega arith) in
     digits_value_push 16 (hex k (n / 16)) (digit_glyph true (n % 16)) ∙ omega (arith, read, last)
 
 -- No digit.

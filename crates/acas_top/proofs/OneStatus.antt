@@ -7,24 +7,24 @@ use Rattle.acas_top.specs.declared.words.Command.{Command}
 use Rattle.acas_top.specs.declared.words.Command.TheVariants.{Serial}
 
 -- What can be played has no cause to be refused.
-not_both : (bytes text other : List ℕ) → Plays bytes text → Refuses bytes other → ⊥
-not_both bytes text other played refused = by_cause refused.cause refused.is
+not-both : (bytes text other : List ℕ) → Plays bytes text → Refuses bytes other → ⊥
+not-both bytes text other played refused = by_cause refused.cause refused.is
   where
     by_cause : (cause : Cause) → IsCause bytes cause → ⊥
     by_cause (Faulty refusal) is = let says = played.says in cc
     by_cause (Unplayed e) is = let one = played.says in let two = is.0 in let none = played.no_ra in let some = is.1 in cc
 
-done_only : (bytes text other : List ℕ) (also : Status) → Plays bytes text → Answers Serial bytes also other → Done ≡ also
-done_only bytes text other Done played is = refl
-done_only bytes text other Refused played is = absurd (not_both bytes text other played is)
-done_only bytes text other also played is = absurd is
+done-only : (bytes text other : List ℕ) (also : Status) → Plays bytes text → Answers Serial bytes also other → Done ≡ also
+done-only bytes text other Done played is = refl
+done-only bytes text other Refused played is = absurd (not-both bytes text other played is)
+done-only bytes text other also played is = absurd is
 
-refused_only : (bytes text other : List ℕ) (also : Status) → Refuses bytes text → Answers Serial bytes also other → Refused ≡ also
-refused_only bytes text other Done refused is = absurd (not_both bytes other text is refused)
-refused_only bytes text other Refused refused is = refl
-refused_only bytes text other also refused is = absurd is
+refused-only : (bytes text other : List ℕ) (also : Status) → Refuses bytes text → Answers Serial bytes also other → Refused ≡ also
+refused-only bytes text other Done refused is = absurd (not-both bytes other text is refused)
+refused-only bytes text other Refused refused is = refl
+refused-only bytes text other also refused is = absurd is
 
-pub one_status : (command : Command) (bytes text other : List ℕ) (status also : Status) → Answers command bytes status text → Answers command bytes also other → status ≡ also
-one_status Serial bytes text other Done also is other_is = done_only bytes text other also is other_is
-one_status Serial bytes text other Refused also is other_is = refused_only bytes text other also is other_is
-one_status Serial bytes text other status also is other_is = absurd is
+pub one-status : (command : Command) (bytes text other : List ℕ) (status also : Status) → Answers command bytes status text → Answers command bytes also other → status ≡ also
+one-status Serial bytes text other Done also is other_is = done-only bytes text other also is other_is
+one-status Serial bytes text other Refused also is other_is = refused-only bytes text other also is other_is
+one-status Serial bytes text other status also is other_is = absurd is

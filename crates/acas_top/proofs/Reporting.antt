@@ -105,45 +105,45 @@ busy air (suc n) own k some within below J =
 -- ---- the lines of a round
 
 -- What an active aircraft shows after so many cycles.
-abbrev shown_after : Air → ℕ → ℕ → Composite
-shown_after air zero own = clear
-shown_after air (suc k) own = composite_of (seen_cells air own (k + 1))
+abbrev shown-after : Air → ℕ → ℕ → Composite
+shown-after air zero own = clear
+shown-after air (suc k) own = composite_of (seen_cells air own (k + 1))
 
 -- Its line for the cycle after so many, where its composite changes.
 abbrev change_after : Parts → ℕ → ℕ → List (List ℕ)
-change_after e k own = option_to_list (entry_change e.crafts (shown_after (air_of e) k own) (commit_in (air_of e) (k + 1) own))
+change_after e k own = option_to_list (entry_change e.crafts (shown-after (air_of e) k own) (commit_in (air_of e) (k + 1) own))
 
 -- The lines of the first rounds.
 abbrev rounds : Parts → ℕ → List (List ℕ)
 rounds e zero = []
 rounds e (suc n) = rounds e n ++ flat_map (change_after e n) (active_crafts (air_of e))
 
-flat_filter : {X : Type 0} (f g : ℕ → List X) (test : ℕ → Bool) (n low : ℕ) → ((i : ℕ) → test i ≡ true → i < low + n → f i ≡ g i) → ((i : ℕ) → test i ≡ false → f i ≡ [])
+flat-filter : {X : Type 0} (f g : ℕ → List X) (test : ℕ → Bool) (n low : ℕ) → ((i : ℕ) → test i ≡ true → i < low + n → f i ≡ g i) → ((i : ℕ) → test i ≡ false → f i ≡ [])
     → flat_map f (range_with_len low n) ≡ flat_map g (filter test (range_with_len low n))
-flat_filter f g test zero low some none = refl
-flat_filter f g test (suc n) low some none = elim (cases_Bool (test low)) [
+flat-filter f g test zero low some none = refl
+flat-filter f g test (suc n) low some none = elim (cases_Bool (test low)) [
   | inl taken ↦
-      ap₂ (λ xs ys. xs ++ ys) (some low taken (omega arith)) (flat_filter f g test n (low + 1) (λ i t below. some i t (omega arith)) none)
+      ap₂ (λ xs ys. xs ++ ys) (some low taken (omega arith)) (flat-filter f g test n (low + 1) (λ i t below. some i t (omega arith)) none)
       ∙ sym (ap (flat_map g) (cond-true (test low) _ _ taken))
   | inr skipped ↦
-      ap₂ (λ xs ys. xs ++ ys) (none low skipped) (flat_filter f g test n (low + 1) (λ i t below. some i t (omega arith)) none)
+      ap₂ (λ xs ys. xs ++ ys) (none low skipped) (flat-filter f g test n (low + 1) (λ i t below. some i t (omega arith)) none)
       ∙ sym (ap (flat_map g) (cond-false (test low) _ _ skipped))
 ]
 
-flat_more : {X : Type 0} (f : ℕ → List X) (n low last : ℕ) → low + n ≡ last → flat_map f (range_with_len low (suc n)) ≡ flat_map f (range_with_len low n) ++ f last
-flat_more f zero low last is = let same : low ≡ last = omega arith in append-nil (f low) ∙ ap f same
-flat_more f (suc n) low last is = ap (λ t. f low ++ t) (flat_more f n (low + 1) last (omega arith)) ∙ sym (append_assoc (f low) (flat_map f (range_with_len (low + 1) n)) (f last))
+flat-more : {X : Type 0} (f : ℕ → List X) (n low last : ℕ) → low + n ≡ last → flat_map f (range_with_len low (suc n)) ≡ flat_map f (range_with_len low n) ++ f last
+flat-more f zero low last is = let same : low ≡ last = omega arith in append-nil (f low) ∙ ap f same
+flat-more f (suc n) low last is = ap (λ t. f low ++ t) (flat-more f n (low + 1) last (omega arith)) ∙ sym (append_assoc (f low) (flat_map f (range_with_len (low + 1) n)) (f last))
 
-by_craft : (o : Option CraftSpec) (cycle : ℕ) (before after : Composite) → option_map_or is_active_kind (option_map (λ (craft : CraftSpec). craft.kind) o) false ≡ true
+by-craft : (o : Option CraftSpec) (cycle : ℕ) (before after : Composite) → option_map_or is_active_kind (option_map (λ (craft : CraftSpec). craft.kind) o) false ≡ true
     → option_to_list (report_line cycle (option_map_or (λ (craft : CraftSpec). craft.address) o 0) before after) ≡ option_to_list (craft_change o cycle before after)
-by_craft None cycle before after active = absurd (cc)
-by_craft (Some craft) cycle before after active = refl
+by-craft None cycle before after active = absurd (cc)
+by-craft (Some craft) cycle before after active = refl
 
 -- The report of the rounds has the line of an active aircraft where its composite changes.
-active_line : (e : Parts) (n k own : ℕ) → is_active (air_of e) own ≡ true → own < length e.crafts → k < n → report_of e (traffic_entries (air_of e) n) (k + 1) own ≡ change_after e k own
-active_line e n k own active within below =
+active-line : (e : Parts) (n k own : ℕ) → is_active (air_of e) own ≡ true → own < length e.crafts → k < n → report_of e (traffic_entries (air_of e) n) (k + 1) own ≡ change_after e k own
+active-line e n k own active within below =
     ap₂ (commit_report (k + 1) (address_of e own)) (before k below) (now (k + 1) (Some (seen_cells (air_of e) own (k + 1))) (busy (air_of e) n own k active within below []))
-    ∙ by_craft (slice_get e.crafts own) (k + 1) (shown_after (air_of e) k own) (composite_of (seen_cells (air_of e) own (k + 1))) active
+    ∙ by-craft (slice_get e.crafts own) (k + 1) (shown-after (air_of e) k own) (composite_of (seen_cells (air_of e) own (k + 1))) active
   where
     J : List Entry
     J = traffic_entries (air_of e) n
@@ -151,77 +151,77 @@ active_line e n k own active within below =
     now : (cycle : ℕ) (o : Option Cells) → cells_in (traffic_entries (air_of e) n ++ []) own cycle ≡ o → cells_in (traffic_entries (air_of e) n) own cycle ≡ o
     now cycle o at = ap (λ (l : List Entry). cells_in l own cycle) (sym (append-nil J)) ∙ at
 
-    before : (k : ℕ) → k < n → shown (cells_in (traffic_entries (air_of e) n) own (k + 1 - 1)) ≡ shown_after (air_of e) k own
+    before : (k : ℕ) → k < n → shown (cells_in (traffic_entries (air_of e) n) own (k + 1 - 1)) ≡ shown-after (air_of e) k own
     before zero below = ap shown (now 0 None (outside (air_of e) n own 0 (inl refl) []))
     before (suc k) below =
         let same : suc k + 1 - 1 ≡ k + 1 = omega arith in
         ap shown (ap (cells_in J own) same ∙ now (k + 1) (Some (seen_cells (air_of e) own (k + 1))) (busy (air_of e) n own k active within (omega arith) []))
 
-idle_line : (e : Parts) (n cycle own : ℕ) → is_active (air_of e) own ≡ false → report_of e (traffic_entries (air_of e) n) cycle own ≡ []
-idle_line e n cycle own none =
+idle-line : (e : Parts) (n cycle own : ℕ) → is_active (air_of e) own ≡ false → report_of e (traffic_entries (air_of e) n) cycle own ≡ []
+idle-line e n cycle own none =
     ap (commit_report cycle (address_of e own) (shown (cells_in (traffic_entries (air_of e) n) own (cycle - 1))))
     (ap (λ (l : List Entry). cells_in l own cycle) (sym (append-nil (traffic_entries (air_of e) n))) ∙ idle (air_of e) n own cycle none [])
 
-report_rounds : (e : Parts) (n m : ℕ) → m ≤ n → flat_map (report_in e (traffic_entries (air_of e) n)) (range_with_len 1 m) ≡ rounds e m
-report_rounds e n zero within = refl
-report_rounds e n (suc m) within =
+report-rounds : (e : Parts) (n m : ℕ) → m ≤ n → flat_map (report_in e (traffic_entries (air_of e) n)) (range_with_len 1 m) ≡ rounds e m
+report-rounds e n zero within = refl
+report-rounds e n (suc m) within =
     let J = traffic_entries (air_of e) n in
-    flat_more (report_in e J) m 1 (m + 1) (omega arith)
-    ∙ ap₂ (λ xs ys. xs ++ ys) (report_rounds e n m (omega arith))
-    (flat_filter (report_of e J (m + 1)) (change_after e m) (is_active (air_of e)) (length e.crafts) 0 (λ i active below. active_line e n m i active (omega arith) (omega arith)) (λ i none. idle_line e n (m + 1) i none))
+    flat-more (report_in e J) m 1 (m + 1) (omega arith)
+    ∙ ap₂ (λ xs ys. xs ++ ys) (report-rounds e n m (omega arith))
+    (flat-filter (report_of e J (m + 1)) (change_after e m) (is_active (air_of e)) (length e.crafts) 0 (λ i active below. active-line e n m i active (omega arith) (omega arith)) (λ i none. idle-line e n (m + 1) i none))
 
 -- ---- from one commit to the next
 
-round_changes : (e : Parts) (k : ℕ) (owns : List ℕ) (B : List Composite) (Y : List Entry)
-    → changes e.crafts (map (shown_after (air_of e) k) owns ++ B) (map (commit_in (air_of e) (k + 1)) owns ++ Y) ≡ flat_map (change_after e k) owns ++ changes e.crafts B Y
-round_changes e k [] B Y = refl
-round_changes e k (own ∷ owns) B Y = ap (λ t. change_after e k own ++ t) (round_changes e k owns B Y) ∙ sym (append_assoc (change_after e k own) (flat_map (change_after e k) owns) (changes e.crafts B Y))
+round-changes : (e : Parts) (k : ℕ) (owns : List ℕ) (B : List Composite) (Y : List Entry)
+    → changes e.crafts (map (shown-after (air_of e) k) owns ++ B) (map (commit_in (air_of e) (k + 1)) owns ++ Y) ≡ flat_map (change_after e k) owns ++ changes e.crafts B Y
+round-changes e k [] B Y = refl
+round-changes e k (own ∷ owns) B Y = ap (λ t. change_after e k own ++ t) (round-changes e k owns B Y) ∙ sym (append_assoc (change_after e k own) (flat_map (change_after e k) owns) (changes e.crafts B Y))
 
 -- What is shown before the commits of the first rounds.
 abbrev befores : Air → ℕ → List Composite
 befores air zero = []
-befores air (suc n) = befores air n ++ map (shown_after air n) (active_crafts air)
+befores air (suc n) = befores air n ++ map (shown-after air n) (active_crafts air)
 
-all_changes : (e : Parts) (n : ℕ) (B : List Composite) (Y : List Entry) → changes e.crafts (befores (air_of e) n ++ B) (traffic_entries (air_of e) n ++ Y) ≡ rounds e n ++ changes e.crafts B Y
-all_changes e zero B Y = refl
-all_changes e (suc n) B Y =
+all-changes : (e : Parts) (n : ℕ) (B : List Composite) (Y : List Entry) → changes e.crafts (befores (air_of e) n ++ B) (traffic_entries (air_of e) n ++ Y) ≡ rounds e n ++ changes e.crafts B Y
+all-changes e zero B Y = refl
+all-changes e (suc n) B Y =
     let air = air_of e in
     let owns = active_crafts air in
-    let shown = map (shown_after air n) owns in
+    let shown = map (shown-after air n) owns in
     let round = map (commit_in air (n + 1)) owns in
     ap₂ (changes e.crafts) (append_assoc (befores air n) shown B) (append_assoc (traffic_entries air n) round Y)
-    ∙ all_changes e n (shown ++ B) (round ++ Y) ∙ ap (λ t. rounds e n ++ t) (round_changes e n owns B Y)
+    ∙ all-changes e n (shown ++ B) (round ++ Y) ∙ ap (λ t. rounds e n ++ t) (round-changes e n owns B Y)
     ∙ sym (append_assoc (rounds e n) (flat_map (change_after e n) owns) (changes e.crafts B Y))
 
-clear_first : (air : Air) (owns : List ℕ) → replicate (length owns) clear ≡ map (shown_after air 0) owns
-clear_first air [] = refl
-clear_first air (own ∷ owns) = ap (λ t. clear ∷ t) (clear_first air owns)
+clear-first : (air : Air) (owns : List ℕ) → replicate (length owns) clear ≡ map (shown-after air 0) owns
+clear-first air [] = refl
+clear-first air (own ∷ owns) = ap (λ t. clear ∷ t) (clear-first air owns)
 
-shown_round : (air : Air) (n : ℕ) (owns : List ℕ) → map shown_by (map (commit_in air (n + 1)) owns) ≡ map (shown_after air (suc n)) owns
-shown_round air n [] = refl
-shown_round air n (own ∷ owns) = ap (λ t. composite_of (seen_cells air own (n + 1)) ∷ t) (shown_round air n owns)
+shown-round : (air : Air) (n : ℕ) (owns : List ℕ) → map shown_by (map (commit_in air (n + 1)) owns) ≡ map (shown-after air (suc n)) owns
+shown-round air n [] = refl
+shown-round air n (own ∷ owns) = ap (λ t. composite_of (seen_cells air own (n + 1)) ∷ t) (shown-round air n owns)
 
 -- Before the first commit of each nothing is shown, and then what the entries show.
-shown_first : (air : Air) (n : ℕ) → shown_before (length (active_crafts air)) (traffic_entries air n) ≡ befores air (suc n)
-shown_first air zero = append-nil _ ∙ clear_first air (active_crafts air)
-shown_first air (suc n) =
+shown-first : (air : Air) (n : ℕ) → shown_before (length (active_crafts air)) (traffic_entries air n) ≡ befores air (suc n)
+shown-first air zero = append-nil _ ∙ clear-first air (active_crafts air)
+shown-first air (suc n) =
     let owns = active_crafts air in
     let first = replicate (length owns) clear in
     let round = map (commit_in air (n + 1)) owns in
     ap (λ t. first ++ t) (map-append shown_by (traffic_entries air n) round) ∙ sym (append_assoc first (map shown_by (traffic_entries air n)) (map shown_by round))
-    ∙ ap₂ (λ xs ys. xs ++ ys) (shown_first air n) (shown_round air n owns)
+    ∙ ap₂ (λ xs ys. xs ++ ys) (shown-first air n) (shown-round air n owns)
 
-report_is : (e : Parts) → changes e.crafts (shown_before (length (active_crafts (air_of e))) (traffic_entries (air_of e) e.cycles)) (traffic_entries (air_of e) e.cycles) ≡ report_lines e (traffic_entries (air_of e) e.cycles)
+report-is : (e : Parts) → changes e.crafts (shown_before (length (active_crafts (air_of e))) (traffic_entries (air_of e) e.cycles)) (traffic_entries (air_of e) e.cycles) ≡ report_lines e (traffic_entries (air_of e) e.cycles)
 unfolding report_lines
-report_is e =
+report-is e =
     let air = air_of e in
     let J = traffic_entries air e.cycles in
-    ap₂ (changes e.crafts) (shown_first air e.cycles) (sym (append-nil J)) ∙ all_changes e e.cycles (map (shown_after air e.cycles) (active_crafts air)) [] ∙ append-nil (rounds e e.cycles) ∙ sym (report_rounds e e.cycles e.cycles (omega arith))
+    ap₂ (changes e.crafts) (shown-first air e.cycles) (sym (append-nil J)) ∙ all-changes e e.cycles (map (shown-after air e.cycles) (active_crafts air)) [] ∙ append-nil (rounds e e.cycles) ∙ sym (report-rounds e e.cycles e.cycles (omega arith))
 
 -- So it is from one commit to the next, where the one before is as many places earlier as there are active aircraft.
-pub report_from : (e : Parts) (crafts : List CraftSpec) (journal : List Entry) (active : ℕ) → crafts ≡ e.crafts → journal ≡ traffic_entries (air_of e) e.cycles → active ≡ length (active_crafts (air_of e))
+pub report-from : (e : Parts) (crafts : List CraftSpec) (journal : List Entry) (active : ℕ) → crafts ≡ e.crafts → journal ≡ traffic_entries (air_of e) e.cycles → active ≡ length (active_crafts (air_of e))
     → changes crafts (shown_before active journal) journal ≡ report_lines e journal
-report_from e crafts journal active crafts_are journal_is active_is = rw (crafts_are, journal_is, active_is) (report_is e)
+report-from e crafts journal active crafts_are journal_is active_is = rw (crafts_are, journal_is, active_is) (report-is e)
 
 -- The report has at most a line for each entry.
 pub length-changes : (crafts : List CraftSpec) (shown : List Composite) (entries : List Entry) → length (changes crafts shown entries) ≤ length entries
@@ -234,50 +234,50 @@ length-changes crafts shown (entry ∷ rest) = more (entry_change crafts (get_or
 
 -- ---- commits tell all of their lines
 
-whole_round : (air : Air) (cycle : ℕ) (owns : List ℕ) → list_all is_whole (map (commit_in air cycle) owns) ≡ true
-whole_round air cycle [] = refl
-whole_round air cycle (own ∷ owns) = whole_round air cycle owns
+whole-round : (air : Air) (cycle : ℕ) (owns : List ℕ) → list_all is_whole (map (commit_in air cycle) owns) ≡ true
+whole-round air cycle [] = refl
+whole-round air cycle (own ∷ owns) = whole-round air cycle owns
 
-whole_both : (one two : List Entry) → list_all is_whole one ≡ true → list_all is_whole two ≡ true → list_all is_whole (one ++ two) ≡ true
-whole_both [] two first second = second
-whole_both (entry ∷ rest) two first second = elim (cases_Bool (is_whole entry)) [
-  | inl whole ↦ ap₂ (λ (a b : Bool). a && b) whole (whole_both rest two (sym (ap (λ (a : Bool). a && list_all is_whole rest) whole) ∙ first) second)
+whole-both : (one two : List Entry) → list_all is_whole one ≡ true → list_all is_whole two ≡ true → list_all is_whole (one ++ two) ≡ true
+whole-both [] two first second = second
+whole-both (entry ∷ rest) two first second = elim (cases_Bool (is_whole entry)) [
+  | inl whole ↦ ap₂ (λ (a b : Bool). a && b) whole (whole-both rest two (sym (ap (λ (a : Bool). a && list_all is_whole rest) whole) ∙ first) second)
   | inr other ↦ absurd (let none : false ≡ true = sym (ap (λ (a : Bool). a && list_all is_whole rest) other) ∙ first in cc)
 ]
 
 pub whole : (air : Air) (n : ℕ) → AreWhole (traffic_entries air n)
 whole air zero = refl
-whole air (suc n) = whole_both (traffic_entries air n) (map (commit_in air (n + 1)) (active_crafts air)) (whole air n) (whole_round air (n + 1) (active_crafts air))
+whole air (suc n) = whole-both (traffic_entries air n) (map (commit_in air (n + 1)) (active_crafts air)) (whole air n) (whole-round air (n + 1) (active_crafts air))
 
 -- ---- how many entries there are at most
 
-few_pass : (test : ℕ → Bool) (n low : ℕ) → length (filter test (range_with_len low n)) ≤ n
-few_pass test zero low = omega arith
-few_pass test (suc n) low = elim (cases_Bool (test low)) [
-  | inl taken ↦ omega (arith, few_pass test n (low + 1), ap length (cond-true (test low) (low ∷ filter test (range_with_len (low + 1) n)) (filter test (range_with_len (low + 1) n)) taken))
-  | inr skipped ↦ omega (arith, few_pass test n (low + 1), ap length (cond-false (test low) (low ∷ filter test (range_with_len (low + 1) n)) (filter test (range_with_len (low + 1) n)) skipped))
+few-pass : (test : ℕ → Bool) (n low : ℕ) → length (filter test (range_with_len low n)) ≤ n
+few-pass test zero low = omega arith
+few-pass test (suc n) low = elim (cases_Bool (test low)) [
+  | inl taken ↦ omega (arith, few-pass test n (low + 1), ap length (cond-true (test low) (low ∷ filter test (range_with_len (low + 1) n)) (filter test (range_with_len (low + 1) n)) taken))
+  | inr skipped ↦ omega (arith, few-pass test n (low + 1), ap length (cond-false (test low) (low ∷ filter test (range_with_len (low + 1) n)) (filter test (range_with_len (low + 1) n)) skipped))
 ]
 
-few_rounds : (air : Air) (n : ℕ) → length (active_crafts air) ≤ 16 → length (traffic_entries air n) ≤ n * 16
-few_rounds air zero few = omega arith
-few_rounds air (suc n) few =
+few-rounds : (air : Air) (n : ℕ) → length (active_crafts air) ≤ 16 → length (traffic_entries air n) ≤ n * 16
+few-rounds air zero few = omega arith
+few-rounds air (suc n) few =
     let round = map (commit_in air (n + 1)) (active_crafts air) in
-    omega (arith, few, few_rounds air n few, length-append (traffic_entries air n) round, length-map (active_crafts air) (commit_in air (n + 1)))
+    omega (arith, few, few-rounds air n few, length-append (traffic_entries air n) round, length-map (active_crafts air) (commit_in air (n + 1)))
 
-few_crafts : (version n : ℕ) → n ≤ most_crafts version → n ≤ 16
-few_crafts version n = elim (version == 1) as (λ (first : Bool). n ≤ (if first then 8 else CRAFTS) → n ≤ 16) [ true ↦ λ few. omega (arith, few) | false ↦ λ few. omega (arith, few) ]
+few-crafts : (version n : ℕ) → n ≤ most_crafts version → n ≤ 16
+few-crafts version n = elim (version == 1) as (λ (first : Bool). n ≤ (if first then 8 else CRAFTS) → n ≤ 16) [ true ↦ λ few. omega (arith, few) | false ↦ λ few. omega (arith, few) ]
 
-pub few_entries : (e : Parts) → IsEncounter e → length (traffic_entries (air_of e) e.cycles) < 2 ^ 32
-few_entries e is =
+pub few-entries : (e : Parts) → IsEncounter e → length (traffic_entries (air_of e) e.cycles) < 2 ^ 32
+few-entries e is =
     let air = air_of e in
-    let few : length (active_crafts air) ≤ 16 = omega (arith, few_pass (is_active air) air.count 0, few_crafts e.version (length e.crafts) is.crafts.few) in
-    omega (arith, few_rounds air e.cycles few, is.run.length.1)
+    let few : length (active_crafts air) ≤ 16 = omega (arith, few-pass (is_active air) air.count 0, few-crafts e.version (length e.crafts) is.crafts.few) in
+    omega (arith, few-rounds air e.cycles few, is.run.length.1)
 
 -- ---- the lines of a recording
 
 -- How many aircraft are active, from how many entries there are.
-pub active_count : (air : Air) (n : ℕ) → 1 ≤ n → length (traffic_entries air n) / n ≡ length (active_crafts air)
-active_count air n some = ap (λ (m : ℕ). m / n) (length-traffic air n ∙ mul_comm n (length (active_crafts air)) ∙ plus-0) ∙ div-mul-add (length (active_crafts air)) n 0 (omega arith)
+pub active-count : (air : Air) (n : ℕ) → 1 ≤ n → length (traffic_entries air n) / n ≡ length (active_crafts air)
+active-count air n some = ap (λ (m : ℕ). m / n) (length-traffic air n ∙ mul_comm n (length (active_crafts air)) ∙ plus-0) ∙ div-mul-add (length (active_crafts air)) n 0 (omega arith)
   where
     plus-0 : length (active_crafts air) * n ≡ length (active_crafts air) * n + 0
     plus-0 = omega arith

@@ -7,10 +7,10 @@ use Rattle.std.proofs.lemmas.Grind.{reverse_onto}
 use Rattle.std.proofs.lemmas.List.{length-map, reverse-append}
 use Rattle.acas_base.specs.declared.entry.Entry.{Entry}
 use Rattle.acas_base.specs.declared.entry.Entry.TheVariants.{Commit, Send, Take}
-use Rattle.acas_top.proofs.WithoutAdvisories.{AreCommits, IsWithoutAdvisories, cells_seen, is_idle, nobody_is_due, nobody_owes}
+use Rattle.acas_top.proofs.WithoutAdvisories.{AreCommits, IsWithoutAdvisories, cells-seen, is-idle, nobody-is-due, nobody-owes}
 use Rattle.acas_top.specs.Traffic.{active_crafts, commit_in, seen_cells, traffic_entries}
-use Rattle.air_rules.proofs.Pace.{count_no, count_yes}
-use Rattle.air_rules.proofs.Searching.{AllBelow, IsFirst, first_of_all}
+use Rattle.air_rules.proofs.Pace.{count-no, count-yes}
+use Rattle.air_rules.proofs.Searching.{AllBelow, IsFirst, first-of-all}
 use Rattle.air_rules.specs.Air.{Air, is_active}
 use Rattle.air_rules.specs.Journal.{commits, is_commit_of}
 use Rattle.air_rules.specs.Serial.{ComesNext, IsInOrder, IsSerial, IsTimeToCommit, followed, started}
@@ -38,13 +38,13 @@ AreNext air low (own ∷ rest) = IsNext air low own × AreNext air (own + 1) res
 
 -- In the middle of a round the aircraft are uneven, at its start all is idle.
 time : (air : Air) → IsWithoutAdvisories air → (K : List Entry) (cycles low own : ℕ) → HasCome air K cycles low → IsNext air low own → cycles < air.cycles → IsTimeToCommit air K own
-time air is K cycles low own so next left = go (first_of_all (λ i. is_active air i ≡ true) (λ i. is_active air i ≡ false) (λ i. cases_Bool (is_active air i)) low)
+time air is K cycles low own so next left = go (first-of-all (λ i. is_active air i ≡ true) (λ i. is_active air i ≡ false) (λ i. cases_Bool (is_active air i)) low)
   where
     mine : commits K own ≡ cycles
     mine = so.ahead own next.active next.from
 
     start : IsTimeToCommit air K own
-    start = inr (is_idle air is K so.commits_alone, omega (arith, mine, left))
+    start = inr (is-idle air is K so.commits_alone, omega (arith, mine, left))
 
     go : ((i : ℕ) × IsFirst (λ i. is_active air i ≡ true) (λ i. is_active air i ≡ false) i) ⊎ AllBelow (λ i. is_active air i ≡ false) low → IsTimeToCommit air K own
     go (inr none) = start
@@ -55,14 +55,14 @@ time air is K cycles low own so next left = go (first_of_all (λ i. is_active ai
       | inr above ↦ start
     ]
 
-commit_next : (air : Air) → IsWithoutAdvisories air → (K : List Entry) (cycles low own : ℕ) → HasCome air K cycles low → IsNext air low own → cycles < air.cycles → ComesNext air K (commit_in air (cycles + 1) own)
-commit_next air is K cycles low own so next left =
+commit-next : (air : Air) → IsWithoutAdvisories air → (K : List Entry) (cycles low own : ℕ) → HasCome air K cycles low → IsNext air low own → cycles < air.cycles → ComesNext air K (commit_in air (cycles + 1) own)
+commit-next air is K cycles low own so next left =
     let mine : commits K own ≡ cycles = so.ahead own next.active next.from in
     record {
       slowest = record { active = next.active; fewest = fewest; first = first };
       time = time air is K cycles low own so next left;
       cycle_is = omega (arith, mine);
-      cells_are = sym (cells_seen air is K so.commits_alone own ∙ ap (λ (n : ℕ). seen_cells air own (n + 1)) mine);
+      cells_are = sym (cells-seen air is K so.commits_alone own ∙ ap (λ (n : ℕ). seen_cells air own (n + 1)) mine);
     }
   where
     fewest : (other : ℕ) → is_active air other ≡ true → commits K own ≤ commits K other
@@ -81,9 +81,9 @@ commit_next air is K cycles low own so next left =
           | inr above ↦ absurd (next.none other active above before)
         ]
 
-one_more : (air : Air) → IsWithoutAdvisories air → (K : List Entry) (cycles low own : ℕ) → HasCome air K cycles low → IsNext air low own → cycles < air.cycles → HasCome air (commit_in air (cycles + 1) own ∷ K) cycles (own + 1)
-one_more air is K cycles low own so next left = record {
-  in_order = followed so.in_order (commit_next air is K cycles low own so next left);
+one-more : (air : Air) → IsWithoutAdvisories air → (K : List Entry) (cycles low own : ℕ) → HasCome air K cycles low → IsNext air low own → cycles < air.cycles → HasCome air (commit_in air (cycles + 1) own ∷ K) cycles (own + 1)
+one-more air is K cycles low own so next left = record {
+  in_order = followed so.in_order (commit-next air is K cycles low own so next left);
   commits_alone = (refl, so.commits_alone);
   over = over;
   ahead = ahead;
@@ -96,9 +96,9 @@ one_more air is K cycles low own so next left = record {
     over i active below = elim (cases_eq own i) [
       | inl same ↦
           let mine : commits K i ≡ cycles = so.ahead i active (omega (arith, next.from)) in
-          count_yes (is_commit_of i) entry K (eq-eqb own i same) ∙ ap (λ (n : ℕ). n + 1) mine
+          count-yes (is_commit_of i) entry K (eq-eqb own i same) ∙ ap (λ (n : ℕ). n + 1) mine
       | inr apart ↦ elim (cases_lt i low) [
-        | inl under ↦ count_no (is_commit_of i) entry K (ne_eqb own i apart) ∙ so.over i active under
+        | inl under ↦ count-no (is_commit_of i) entry K (ne_eqb own i apart) ∙ so.over i active under
         | inr above ↦ absurd (next.none i active above (omega arith))
       ]
     ]
@@ -106,7 +106,7 @@ one_more air is K cycles low own so next left = record {
     ahead : (i : ℕ) → is_active air i ≡ true → own + 1 ≤ i → commits (commit_in air (cycles + 1) own ∷ K) i ≡ cycles
     ahead i active above =
         let apart : own ≢ i = λ same. omega arith in
-        count_no (is_commit_of i) entry K (ne_eqb own i apart) ∙ so.ahead i active (omega (arith, next.from))
+        count-no (is_commit_of i) entry K (ne_eqb own i apart) ∙ so.ahead i active (omega (arith, next.from))
 
 -- ---- one round
 
@@ -124,16 +124,16 @@ round air is cycles low [] K so next left = record {
 }
 round air is cycles low (own ∷ rest) K so next left =
     subst (λ (L : List Entry). HasCome air L (cycles + 1) 0) (onto (commit_in air (cycles + 1) own) (map (commit_in air (cycles + 1)) rest) K)
-    (round air is cycles (own + 1) rest (commit_in air (cycles + 1) own ∷ K) (one_more air is K cycles low own so next.0 left) next.1 left)
+    (round air is cycles (own + 1) rest (commit_in air (cycles + 1) own ∷ K) (one-more air is K cycles low own so next.0 left) next.1 left)
 
 -- The active aircraft by index are the next ones from 0 on.
-are_next : (air : Air) → ((i : ℕ) → is_active air i ≡ true → i < air.count) → (n low : ℕ) → low + n ≡ air.count → AreNext air low (filter (is_active air) (range_with_len low n))
-are_next air counted zero low is = λ i active above. let within : i < air.count = counted i active in omega arith
-are_next air counted (suc n) low is = elim (cases_Bool (is_active air low)) [
+are-next : (air : Air) → ((i : ℕ) → is_active air i ≡ true → i < air.count) → (n low : ℕ) → low + n ≡ air.count → AreNext air low (filter (is_active air) (range_with_len low n))
+are-next air counted zero low is = λ i active above. let within : i < air.count = counted i active in omega arith
+are-next air counted (suc n) low is = elim (cases_Bool (is_active air low)) [
   | inl active ↦
       subst (AreNext air low) (sym (cond-true (is_active air low) (low ∷ rest) rest active))
-      (record { active = active; from = omega arith; none = λ i a above below. omega arith }, are_next air counted n (low + 1) (omega arith))
-  | inr other ↦ subst (AreNext air low) (sym (cond-false (is_active air low) (low ∷ rest) rest other)) (skipped rest other (are_next air counted n (low + 1) (omega arith)))
+      (record { active = active; from = omega arith; none = λ i a above below. omega arith }, are-next air counted n (low + 1) (omega arith))
+  | inr other ↦ subst (AreNext air low) (sym (cond-false (is_active air low) (low ∷ rest) rest other)) (skipped rest other (are-next air counted n (low + 1) (omega arith)))
 ]
   where
     rest : List ℕ
@@ -161,12 +161,12 @@ come air is zero within = record {
 come air is (suc n) within =
     let entries = map (commit_in air (n + 1)) (active_crafts air) in
     let before = come air is n (omega arith) in
-    let after = round air is n 0 (active_crafts air) (reverse (traffic_entries air n)) before (are_next air is.sound.counted air.count 0 (omega arith)) (omega arith) in
+    let after = round air is n 0 (active_crafts air) (reverse (traffic_entries air n)) before (are-next air is.sound.counted air.count 0 (omega arith)) (omega arith) in
     subst (λ (k : ℕ). HasCome air (reverse (traffic_entries air (suc n))) k 0) (add-one n)
     (subst (λ (L : List Entry). HasCome air L (n + 1) 0) (sym (reverse-append (traffic_entries air n) entries)) after)
 
-pub traffic_serial : (air : Air) → IsWithoutAdvisories air → IsSerial air (reverse (traffic_entries air air.cycles))
-traffic_serial air is = record { in_order = so.in_order; ended = ended }
+pub traffic-serial : (air : Air) → IsWithoutAdvisories air → IsSerial air (reverse (traffic_entries air air.cycles))
+traffic-serial air is = record { in_order = so.in_order; ended = ended }
   where
     J : List Entry
     J = reverse (traffic_entries air air.cycles)
@@ -188,10 +188,10 @@ traffic_serial air is = record { in_order = so.in_order; ended = ended }
     ended : (entry : Entry) → ComesNext air J entry → ⊥
     ended (Commit own cycle cells) next = at_time own next.slowest.active next.time
     ended (Send own target number word) next =
-        let some : None ≡ Some next.allowed.message = sym (nobody_owes air is J own target) ∙ next.allowed.first_owed.owes in
+        let some : None ≡ Some next.allowed.message = sym (nobody-owes air is J own target) ∙ next.allowed.first_owed.owes in
         cc
     ended (Take own send copy good) next =
-        let due : false ≡ true = sym (nobody_is_due air J so.commits_alone own next.allowed.active send copy) ∙ next.allowed.due in
+        let due : false ≡ true = sym (nobody-is-due air J so.commits_alone own next.allowed.active send copy) ∙ next.allowed.due in
         cc
 
 -- ---- how many entries there are

@@ -15,11 +15,11 @@ use Rattle.air_rules.specs.Air.{is_ra_kind}
 use Rattle.craft_view.proofs.Resolving.{see-nothing}
 use Rattle.craft_view.specs.Sight.{other_craft}
 
-none_at : (crafts : List CraftSpec) (own : ℕ) → list_any is_ra_craft crafts ≡ false → option_map_or is_ra_kind (option_map (λ (craft : CraftSpec). craft.kind) (slice_get crafts own)) false ≡ false
-none_at [] own none = refl
-none_at (craft ∷ crafts) own none = elim (cases_Bool (is_ra_craft craft)) [
+none-at : (crafts : List CraftSpec) (own : ℕ) → list_any is_ra_craft crafts ≡ false → option_map_or is_ra_kind (option_map (λ (craft : CraftSpec). craft.kind) (slice_get crafts own)) false ≡ false
+none-at [] own none = refl
+none-at (craft ∷ crafts) own none = elim (cases_Bool (is_ra_craft craft)) [
   | inl ra ↦ absurd (let some : list_any is_ra_craft (craft ∷ crafts) ≡ true = ap (λ (b : Bool). b || list_any is_ra_craft crafts) ra in cc)
-  | inr other ↦ at own other (λ k. none_at crafts k (sym (ap (λ (b : Bool). b || list_any is_ra_craft crafts) other) ∙ none))
+  | inr other ↦ at own other (λ k. none-at crafts k (sym (ap (λ (b : Bool). b || list_any is_ra_craft crafts) other) ∙ none))
 ]
   where
     at : (own : ℕ) → is_ra_craft craft ≡ false → ((k : ℕ) → option_map_or is_ra_kind (option_map (λ (c : CraftSpec). c.kind) (slice_get crafts k)) false ≡ false)
@@ -27,8 +27,8 @@ none_at (craft ∷ crafts) own none = elim (cases_Bool (is_ra_craft craft)) [
     at zero other rest = other
     at (suc k) other rest = rest k
 
-no_other : (e : Parts) (own other : ℕ) → (ltb other (length e.crafts) && not (eqb own other)) ≡ false → other_craft e own other ≡ None
-no_other e own other none = elim (cases_eq other own) [
+no-other : (e : Parts) (own other : ℕ) → (ltb other (length e.crafts) && not (eqb own other)) ≡ false → other_craft e own other ≡ None
+no-other e own other none = elim (cases_eq other own) [
   | inl same ↦ cond-true (eqb other own) None (slice_get e.crafts other) (eq-eqb other own same)
   | inr apart ↦ cond-false (eqb other own) None (slice_get e.crafts other) (ne_eqb other own apart) ∙ slice_get_past e.crafts other (past apart)
 ]
@@ -39,9 +39,9 @@ no_other e own other none = elim (cases_eq other own) [
       | inl within ↦ absurd (let both : true ≡ false = ap₂ (λ (a b : Bool). a && not b) (sym (lt-ltb other (length e.crafts) within)) (sym (ne_eqb own other (λ same. apart (sym same)))) ∙ none in cc)
     ]
 
-pub without_advisories : (e : Parts) → IsEncounter e → HasNoRa e → IsWithoutAdvisories (air_of e)
-without_advisories e is none = record {
+pub without-advisories : (e : Parts) → IsEncounter e → HasNoRa e → IsWithoutAdvisories (air_of e)
+without-advisories e is none = record {
   sound = sound-of e is;
-  nobody = λ own. none_at e.crafts own none;
-  nothing = λ own other cycle blank. let view = see-nothing e own other cycle (no_other e own other blank) in cc;
+  nobody = λ own. none-at e.crafts own none;
+  nothing = λ own other cycle blank. let view = see-nothing e own other cycle (no-other e own other blank) in cc;
 }

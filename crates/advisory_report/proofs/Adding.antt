@@ -14,7 +14,7 @@ use Rattle.acas_base.specs.declared.advisory.Strength.{Strength}
 use Rattle.acas_base.specs.declared.advisory.Strength.TheVariants.{Limit2000, Limit1000, Limit500, Level, Positive, Increase}
 use Rattle.advisory_report.specs.Composite.{advice_of, advises_with, is_corrective, is_crossing, is_same_strength, strongest_of}
 use Rattle.advisory_report.specs.declared.composite.Advice.{Advice}
-use Rattle.advisory_report.proofs.Strongest.{Told, found_is, found_tells}
+use Rattle.advisory_report.proofs.Strongest.{Told, found-is, found-tells}
 
 itself : (strength : Strength) → is_same_strength strength strength ≡ true
 itself Limit2000 = refl
@@ -24,17 +24,17 @@ itself Level = refl
 itself Positive = refl
 itself Increase = refl
 
-same_sense : (sense : Sense) → is_same_sense sense sense ≡ true
-same_sense Up = refl
-same_sense Down = refl
+same-sense : (sense : Sense) → is_same_sense sense sense ≡ true
+same-sense Up = refl
+same-sense Down = refl
 
-pub or_false : (a : Bool) → (a || false) ≡ a
-or_false true = refl
-or_false false = refl
+pub or-false : (a : Bool) → (a || false) ≡ a
+or-false true = refl
+or-false false = refl
 
-pub or_true : (a : Bool) → (a || true) ≡ true
-or_true true = refl
-or_true false = refl
+pub or-true : (a : Bool) → (a || true) ≡ true
+or-true true = refl
+or-true false = refl
 
 equals : (one other : Strength) → place_of one ≡ place_of other → is_same_strength one other ≡ true
 equals one other h = rw h (itself other)
@@ -50,21 +50,21 @@ abbrev any : Intent → Bool
 any advisory = true
 
 -- The same, with one more advisory.
-one_more : (test : Intent → Bool) (strength : Strength) (cells : List Cell) (it : Intent) →
+one-more : (test : Intent → Bool) (strength : Strength) (cells : List Cell) (it : Intent) →
     some_with test it.sense strength (cells ++ Ra it ∷ []) ≡ (some_with test it.sense strength cells || (is_same_strength it.strength strength && test it))
-one_more test strength cells it =
+one-more test strength cells it =
     let f = advises_with test it.sense strength in
-    list_any-append f cells (Ra it ∷ []) ∙ ap (λ b. list_any f cells || ((b && (is_same_strength it.strength strength && test it)) || false)) (same_sense it.sense)
-    ∙ ap (λ b. list_any f cells || b) (or_false (is_same_strength it.strength strength && test it))
+    list_any-append f cells (Ra it ∷ []) ∙ ap (λ b. list_any f cells || ((b && (is_same_strength it.strength strength && test it)) || false)) (same-sense it.sense)
+    ∙ ap (λ b. list_any f cells || b) (or-false (is_same_strength it.strength strength && test it))
 
-one_equal : (test : Intent → Bool) (strength : Strength) (cells : List Cell) (it : Intent) → place_of it.strength ≡ place_of strength →
+one-equal : (test : Intent → Bool) (strength : Strength) (cells : List Cell) (it : Intent) → place_of it.strength ≡ place_of strength →
     some_with test it.sense strength (cells ++ Ra it ∷ []) ≡ (some_with test it.sense strength cells || test it)
-one_equal test strength cells it h = one_more test strength cells it ∙ ap (λ b. some_with test it.sense strength cells || (b && test it)) (equals it.strength strength h)
+one-equal test strength cells it h = one-more test strength cells it ∙ ap (λ b. some_with test it.sense strength cells || (b && test it)) (equals it.strength strength h)
 
-one_other : (test : Intent → Bool) (strength : Strength) (cells : List Cell) (it : Intent) → (place_of it.strength ≡ place_of strength → ⊥) →
+one-other : (test : Intent → Bool) (strength : Strength) (cells : List Cell) (it : Intent) → (place_of it.strength ≡ place_of strength → ⊥) →
     some_with test it.sense strength (cells ++ Ra it ∷ []) ≡ some_with test it.sense strength cells
-one_other test strength cells it h =
-    one_more test strength cells it ∙ ap (λ b. some_with test it.sense strength cells || (b && test it)) (differs it.strength strength h) ∙ or_false (some_with test it.sense strength cells)
+one-other test strength cells it h =
+    one-more test strength cells it ∙ ap (λ b. some_with test it.sense strength cells || (b && test it)) (differs it.strength strength h) ∙ or-false (some_with test it.sense strength cells)
 
 -- Where no cell has such an advisory, none has one with a test.
 fewer : (a b t r s : Bool) → ((a && (b && true)) || r) ≡ false → (r ≡ false → s ≡ false) → ((a && (b && t)) || s) ≡ false
@@ -83,71 +83,71 @@ abbrev in_cells : Sense → List Cell → Strength → Bool
 in_cells sense cells strength = some_with any sense strength cells
 
 -- The strongest strength with one more advisory: one that some cell has or the advisory has, and no stronger one.
-found_after : (cells : List Cell) (it : Intent) (strength : Strength) → (in_cells it.sense cells strength ≡ true) ⊎ (place_of it.strength ≡ place_of strength) → place_of it.strength ≤ place_of strength →
+found-after : (cells : List Cell) (it : Intent) (strength : Strength) → (in_cells it.sense cells strength ≡ true) ⊎ (place_of it.strength ≡ place_of strength) → place_of it.strength ≤ place_of strength →
     ((other : Strength) → place_of strength < place_of other → in_cells it.sense cells other ≡ false) → strongest_of it.sense (cells ++ Ra it ∷ []) ≡ Some strength
-found_after cells it strength is below above = found_is (in_cells it.sense (cells ++ Ra it ∷ [])) strength (record { passes = passes is; above = λ other h. one_other any other cells it (λ e. omega arith) ∙ above other h })
+found-after cells it strength is below above = found-is (in_cells it.sense (cells ++ Ra it ∷ [])) strength (record { passes = passes is; above = λ other h. one-other any other cells it (λ e. omega arith) ∙ above other h })
   where
     passes : (in_cells it.sense cells strength ≡ true) ⊎ (place_of it.strength ≡ place_of strength) → in_cells it.sense (cells ++ Ra it ∷ []) strength ≡ true
-    passes (inl e) = one_more any strength cells it ∙ ap (λ b. b || (is_same_strength it.strength strength && true)) e
-    passes (inr e) = one_equal any strength cells it e ∙ or_true (in_cells it.sense cells strength)
+    passes (inl e) = one-more any strength cells it ∙ ap (λ b. b || (is_same_strength it.strength strength && true)) e
+    passes (inr e) = one-equal any strength cells it e ∙ or-true (in_cells it.sense cells strength)
 
 -- The parts of an advice.
 parts : (strength : Option Strength) {a b c d : Bool} → a ≡ b → c ≡ d → ◌≡◌ {A = Advice} (record { strength = strength; corrective = a; crossing = c }) (record { strength = strength; corrective = b; crossing = d })
 parts strength e f = rw (e, f) refl
 
 told : (sense : Sense) (cells : List Cell) (found : Option Strength) → found ≡ strongest_of sense cells → Told (in_cells sense cells) found
-told sense cells found e = subst (Told (in_cells sense cells)) (sym e) (found_tells (in_cells sense cells))
+told sense cells found e = subst (Told (in_cells sense cells)) (sym e) (found-tells (in_cells sense cells))
 
 -- An advisory that no cell of its sense is as strong as.
-alone_law : (cells : List Cell) (it : Intent) → ((other : Strength) → place_of it.strength ≤ place_of other → in_cells it.sense cells other ≡ false) →
+alone-law : (cells : List Cell) (it : Intent) → ((other : Strength) → place_of it.strength ≤ place_of other → in_cells it.sense cells other ≡ false) →
     record { strength = Some it.strength; corrective = it.corrective; crossing = it.crossing } ≡ advice_of it.sense (cells ++ Ra it ∷ [])
-alone_law cells it none =
+alone-law cells it none =
     let flag : (test : Intent → Bool) → test it ≡ some_with test it.sense it.strength (cells ++ Ra it ∷ []) =
-    λ test. sym (one_equal test it.strength cells it refl ∙ ap (λ b. b || test it) (gone test it.sense it.strength cells (none it.strength (omega arith)))) in
-    rw (found_after cells it it.strength (inr refl) (omega arith) (λ other h. none other (omega arith))) (parts (Some it.strength) (flag is_corrective) (flag is_crossing))
+    λ test. sym (one-equal test it.strength cells it refl ∙ ap (λ b. b || test it) (gone test it.sense it.strength cells (none it.strength (omega arith)))) in
+    rw (found-after cells it it.strength (inr refl) (omega arith) (λ other h. none other (omega arith))) (parts (Some it.strength) (flag is_corrective) (flag is_crossing))
 
 -- The strength that an advice tells.
-strength_told : {advice : Advice} {found : Option Strength} (sense : Sense) (cells : List Cell) → advice ≡ advice_of sense cells → advice.strength ≡ found → found ≡ strongest_of sense cells
-strength_told sense cells e is = sym is ∙ ap (λ a. a.strength) e
+strength-told : {advice : Advice} {found : Option Strength} (sense : Sense) (cells : List Cell) → advice ≡ advice_of sense cells → advice.strength ≡ found → found ≡ strongest_of sense cells
+strength-told sense cells e is = sym is ∙ ap (λ a. a.strength) e
 
-pub first_law : (advice : Advice) (cells : List Cell) (it : Intent) → advice ≡ advice_of it.sense cells → advice.strength ≡ None →
+pub first-law : (advice : Advice) (cells : List Cell) (it : Intent) → advice ≡ advice_of it.sense cells → advice.strength ≡ None →
     record { strength = Some it.strength; corrective = it.corrective; crossing = it.crossing } ≡ advice_of it.sense (cells ++ Ra it ∷ [])
-first_law advice cells it e is = alone_law cells it (λ other h. told it.sense cells None (strength_told it.sense cells e is) other)
+first-law advice cells it e is = alone-law cells it (λ other h. told it.sense cells None (strength-told it.sense cells e is) other)
 
-pub stronger_law : (advice : Advice) (cells : List Cell) (it : Intent) (strength : Strength) → advice ≡ advice_of it.sense cells → advice.strength ≡ Some strength → place_of strength < place_of it.strength →
+pub stronger-law : (advice : Advice) (cells : List Cell) (it : Intent) (strength : Strength) → advice ≡ advice_of it.sense cells → advice.strength ≡ Some strength → place_of strength < place_of it.strength →
     record { strength = Some it.strength; corrective = it.corrective; crossing = it.crossing } ≡ advice_of it.sense (cells ++ Ra it ∷ [])
-stronger_law advice cells it strength e is h =
-    let strongest = told it.sense cells (Some strength) (strength_told it.sense cells e is) in
-    alone_law cells it (λ other k. strongest.above other (omega arith))
+stronger-law advice cells it strength e is h =
+    let strongest = told it.sense cells (Some strength) (strength-told it.sense cells e is) in
+    alone-law cells it (λ other k. strongest.above other (omega arith))
 
-pub weaker_law : (advice : Advice) (cells : List Cell) (it : Intent) (strength : Strength) → advice ≡ advice_of it.sense cells → advice.strength ≡ Some strength → place_of it.strength < place_of strength →
+pub weaker-law : (advice : Advice) (cells : List Cell) (it : Intent) (strength : Strength) → advice ≡ advice_of it.sense cells → advice.strength ≡ Some strength → place_of it.strength < place_of strength →
     advice ≡ advice_of it.sense (cells ++ Ra it ∷ [])
-weaker_law advice cells it strength e is h =
-    let is_found = strength_told it.sense cells e is in
+weaker-law advice cells it strength e is h =
+    let is_found = strength-told it.sense cells e is in
     let strongest = told it.sense cells (Some strength) is_found in
-    let flag = λ (test : Intent → Bool). sym (one_other test strength cells it (λ k. omega arith)) in
-    e ∙ rw (← is_found, found_after cells it strength (inl strongest.passes) (omega arith) strongest.above) (parts (Some strength) (flag is_corrective) (flag is_crossing))
+    let flag = λ (test : Intent → Bool). sym (one-other test strength cells it (λ k. omega arith)) in
+    e ∙ rw (← is_found, found-after cells it strength (inl strongest.passes) (omega arith) strongest.above) (parts (Some strength) (flag is_corrective) (flag is_crossing))
 
-pub equal_law : (advice : Advice) (cells : List Cell) (it : Intent) (strength : Strength) → advice ≡ advice_of it.sense cells → advice.strength ≡ Some strength → place_of it.strength ≡ place_of strength →
+pub equal-law : (advice : Advice) (cells : List Cell) (it : Intent) (strength : Strength) → advice ≡ advice_of it.sense cells → advice.strength ≡ Some strength → place_of it.strength ≡ place_of strength →
     record { strength = advice.strength; corrective = advice.corrective || it.corrective; crossing = advice.crossing || it.crossing } ≡ advice_of it.sense (cells ++ Ra it ∷ [])
-equal_law advice cells it strength e is h =
-    let is_found = strength_told it.sense cells e is in
+equal-law advice cells it strength e is h =
+    let is_found = strength-told it.sense cells e is in
     let strongest = told it.sense cells (Some strength) is_found in
-    let flag = λ (test : Intent → Bool). sym (one_equal test strength cells it h) in
+    let flag = λ (test : Intent → Bool). sym (one-equal test strength cells it h) in
     ap (λ (a : Advice). record { strength = a.strength; corrective = a.corrective || it.corrective; crossing = a.crossing || it.crossing }) e
-    ∙ rw (← is_found, found_after cells it strength (inl strongest.passes) (omega arith) strongest.above) (parts (Some strength) (flag is_corrective) (flag is_crossing))
+    ∙ rw (← is_found, found-after cells it strength (inl strongest.passes) (omega arith) strongest.above) (parts (Some strength) (flag is_corrective) (flag is_crossing))
 
 -- A cell without an advisory of a sense leaves the advice of that sense.
 without : (test : Intent → Bool) (sense : Sense) (strength : Strength) (cells : List Cell) (cell : Cell) → has_sense cell sense ≡ false → some_with test sense strength cells ≡ some_with test sense strength (cells ++ cell ∷ [])
-without test sense strength cells cell h = sym (list_any-append (advises_with test sense strength) cells (cell ∷ []) ∙ ap (λ b. some_with test sense strength cells || (b || false)) (none cell h) ∙ or_false (some_with test sense strength cells))
+without test sense strength cells cell h = sym (list_any-append (advises_with test sense strength) cells (cell ∷ []) ∙ ap (λ b. some_with test sense strength cells || (b || false)) (none cell h) ∙ or-false (some_with test sense strength cells))
   where
     none : (cell : Cell) → has_sense cell sense ≡ false → advises_with test sense strength cell ≡ false
     none Clear h = refl
     none Traffic h = refl
     none (Ra it) h = ap (λ b. b && (is_same_strength it.strength strength && test it)) h
 
-pub left_law : (sense : Sense) (cells : List Cell) (cell : Cell) → has_sense cell sense ≡ false → advice_of sense cells ≡ advice_of sense (cells ++ cell ∷ [])
-left_law sense cells cell h = same_advice (strongest_of sense cells) refl
+pub left-law : (sense : Sense) (cells : List Cell) (cell : Cell) → has_sense cell sense ≡ false → advice_of sense cells ≡ advice_of sense (cells ++ cell ∷ [])
+left-law sense cells cell h = same_advice (strongest_of sense cells) refl
   where
     same_found : strongest_of sense cells ≡ strongest_of sense (cells ++ cell ∷ [])
     same_found =

@@ -11,7 +11,7 @@ use Rattle.acas_base.specs.declared.advisory.Sense.{Sense}
 use Rattle.acas_base.specs.declared.advisory.Sense.TheVariants.{Up, Down}
 use Rattle.advisory_report.specs.Composite.{advice_of, is_traffic}
 use Rattle.advisory_report.specs.declared.composite.Advice.{Advice}
-use Rattle.advisory_report.proofs.Adding.{left_law, or_false, or_true}
+use Rattle.advisory_report.proofs.Adding.{left-law, or-false, or-true}
 
 -- Traffic and the advice of both senses are those of these cells.
 pub record IsSummary (cells : List Cell) (traffic : Bool) (up down : Advice) : Type 0 where
@@ -19,17 +19,17 @@ pub record IsSummary (cells : List Cell) (traffic : Bool) (up down : Advice) : T
   pub up_is : up ≡ advice_of Up cells
   pub down_is : down ≡ advice_of Down cells
 
-any_more : (cells : List Cell) (cell : Cell) → list_any is_traffic (cells ++ cell ∷ []) ≡ (list_any is_traffic cells || is_traffic cell)
-any_more cells cell = list_any-append is_traffic cells (cell ∷ []) ∙ ap (λ b. list_any is_traffic cells || b) (or_false (is_traffic cell))
+any-more : (cells : List Cell) (cell : Cell) → list_any is_traffic (cells ++ cell ∷ []) ≡ (list_any is_traffic cells || is_traffic cell)
+any-more cells cell = list_any-append is_traffic cells (cell ∷ []) ∙ ap (λ b. list_any is_traffic cells || b) (or-false (is_traffic cell))
 
-any_same : (cells : List Cell) (cell : Cell) → is_traffic cell ≡ false → list_any is_traffic cells ≡ list_any is_traffic (cells ++ cell ∷ [])
-any_same cells cell h = sym (any_more cells cell ∙ ap (λ b. list_any is_traffic cells || b) h ∙ or_false (list_any is_traffic cells))
+any-same : (cells : List Cell) (cell : Cell) → is_traffic cell ≡ false → list_any is_traffic cells ≡ list_any is_traffic (cells ++ cell ∷ [])
+any-same cells cell h = sym (any-more cells cell ∙ ap (λ b. list_any is_traffic cells || b) h ∙ or-false (list_any is_traffic cells))
 
-pub with_clear : {cells : List Cell} {traffic : Bool} {up down : Advice} → IsSummary cells traffic up down → IsSummary (cells ++ Clear ∷ []) traffic up down
-with_clear {cells} s = record { traffic_is = s.traffic_is ∙ any_same cells Clear refl; up_is = s.up_is ∙ left_law Up cells Clear refl; down_is = s.down_is ∙ left_law Down cells Clear refl }
+pub with-clear : {cells : List Cell} {traffic : Bool} {up down : Advice} → IsSummary cells traffic up down → IsSummary (cells ++ Clear ∷ []) traffic up down
+with-clear {cells} s = record { traffic_is = s.traffic_is ∙ any-same cells Clear refl; up_is = s.up_is ∙ left-law Up cells Clear refl; down_is = s.down_is ∙ left-law Down cells Clear refl }
 
-pub with_traffic : {cells : List Cell} {traffic : Bool} {up down : Advice} → IsSummary cells traffic up down → IsSummary (cells ++ Traffic ∷ []) true up down
-with_traffic {cells} s = record { traffic_is = sym (any_more cells Traffic ∙ or_true (list_any is_traffic cells)); up_is = s.up_is ∙ left_law Up cells Traffic refl; down_is = s.down_is ∙ left_law Down cells Traffic refl }
+pub with-traffic : {cells : List Cell} {traffic : Bool} {up down : Advice} → IsSummary cells traffic up down → IsSummary (cells ++ Traffic ∷ []) true up down
+with-traffic {cells} s = record { traffic_is = sym (any-more cells Traffic ∙ or-true (list_any is_traffic cells)); up_is = s.up_is ∙ left-law Up cells Traffic refl; down_is = s.down_is ∙ left-law Down cells Traffic refl }
 
 -- An advisory joins the advice of its sense, and leaves that of the other one.
 abbrev Joins : Advice → Intent → Advice → Type 0
@@ -39,22 +39,22 @@ joins : (sense : Sense) (cells : List Cell) (it : Intent) (before after : Advice
 joins sense cells it before after e join is = subst (λ s. after ≡ advice_of s (cells ++ Ra it ∷ [])) e (join cells (subst (λ s. before ≡ advice_of s cells) (sym e) is))
 
 leaves : (sense : Sense) (cells : List Cell) (it : Intent) (before : Advice) → is_same_sense it.sense sense ≡ false → before ≡ advice_of sense cells → before ≡ advice_of sense (cells ++ Ra it ∷ [])
-leaves sense cells it before h is = is ∙ left_law sense cells (Ra it) h
+leaves sense cells it before h is = is ∙ left-law sense cells (Ra it) h
 
-pub with_up : {cells : List Cell} {traffic : Bool} {up down : Advice} (it : Intent) (after : Advice) → it.sense ≡ Up → Joins up it after → IsSummary cells traffic up down → IsSummary (cells ++ Ra it ∷ []) traffic after down
-with_up {cells} {traffic} {up} {down} it after e join s = record {
-  traffic_is = s.traffic_is ∙ any_same cells (Ra it) refl;
+pub with-up : {cells : List Cell} {traffic : Bool} {up down : Advice} (it : Intent) (after : Advice) → it.sense ≡ Up → Joins up it after → IsSummary cells traffic up down → IsSummary (cells ++ Ra it ∷ []) traffic after down
+with-up {cells} {traffic} {up} {down} it after e join s = record {
+  traffic_is = s.traffic_is ∙ any-same cells (Ra it) refl;
   up_is = joins Up cells it up after e join s.up_is;
   down_is = leaves Down cells it down (ap (λ sense. is_same_sense sense Down) e) s.down_is;
 }
 
-pub with_down : {cells : List Cell} {traffic : Bool} {up down : Advice} (it : Intent) (after : Advice) → it.sense ≡ Down → Joins down it after → IsSummary cells traffic up down → IsSummary (cells ++ Ra it ∷ []) traffic up after
-with_down {cells} {traffic} {up} {down} it after e join s = record {
-  traffic_is = s.traffic_is ∙ any_same cells (Ra it) refl;
+pub with-down : {cells : List Cell} {traffic : Bool} {up down : Advice} (it : Intent) (after : Advice) → it.sense ≡ Down → Joins down it after → IsSummary cells traffic up down → IsSummary (cells ++ Ra it ∷ []) traffic up after
+with-down {cells} {traffic} {up} {down} it after e join s = record {
+  traffic_is = s.traffic_is ∙ any-same cells (Ra it) refl;
   up_is = leaves Up cells it up (ap (λ sense. is_same_sense sense Up) e) s.up_is;
   down_is = joins Down cells it down after e join s.down_is;
 }
 
 -- The cells up to the next one.
-pub next_cells : (cells : List Cell) (i : ℕ) (cell : Cell) → i < length cells → get_or cells i Clear ≡ cell → take (i + 1) cells ≡ take i cells ++ cell ∷ []
-next_cells cells i cell h e = ap (λ n. take n cells) (add-one i) ∙ take-suc cells i Clear h ∙ ap (λ c. take i cells ++ c ∷ []) e
+pub next-cells : (cells : List Cell) (i : ℕ) (cell : Cell) → i < length cells → get_or cells i Clear ≡ cell → take (i + 1) cells ≡ take i cells ++ cell ∷ []
+next-cells cells i cell h e = ap (λ n. take n cells) (add-one i) ∙ take-suc cells i Clear h ∙ ap (λ c. take i cells ++ c ∷ []) e

@@ -10,12 +10,12 @@ use Rattle.acas_base.specs.declared.advisory.ResMsg.{ResMsg}
 use Rattle.acas_base.specs.declared.entry.Entry.{Entry}
 use Rattle.acas_base.specs.declared.entry.Entry.TheVariants.{Commit, Send, Take}
 use Rattle.acas_base.specs.declared.link.CopyPlan.{CopyPlan}
-use Rattle.air_journal.proofs.Bounds.{below_all, entry_fits, few_commits, few_crafts, most_few}
-use Rattle.air_journal.proofs.Dues.{in_at, remove_is, waiting_few, waits_due}
-use Rattle.air_journal.proofs.Queued.{is_queue}
+use Rattle.air_journal.proofs.Bounds.{below-all, entry-fits, few-commits, few-crafts, most-few}
+use Rattle.air_journal.proofs.Dues.{in-at, remove-is, waiting-few, waits-due}
+use Rattle.air_journal.proofs.Queued.{is-queue}
 use Rattle.air_journal.proofs.Soundness.{sound-of}
-use Rattle.air_journal.proofs.Steps.{kept_commit, kept_send, kept_take}
-use Rattle.air_journal.proofs.Telling.{cells_are, count_is, first_owed}
+use Rattle.air_journal.proofs.Steps.{kept-commit, kept-send, kept-take}
+use Rattle.air_journal.proofs.Telling.{cells-are, count-is, first-owed}
 use Rattle.air_journal.specs.Airs.{air_of}
 use Rattle.air_journal.specs.Calls.{IsFree}
 use Rattle.air_journal.specs.Cells.{commit_cells}
@@ -26,10 +26,10 @@ use Rattle.air_journal.specs.States.{IsWhole}
 use Rattle.air_journal.specs.Written.{Written}
 use Rattle.air_journal.specs.declared.due.Found.{Found}
 use Rattle.air_journal.specs.declared.kept.Link.{Link}
-use Rattle.air_rules.proofs.FewSends.{sends_few}
+use Rattle.air_rules.proofs.FewSends.{sends-few}
 use Rattle.air_rules.proofs.Legal.{allowed, earlier}
-use Rattle.air_rules.proofs.Pace.{count_no, count_yes}
-use Rattle.air_rules.proofs.Running.{owed_own}
+use Rattle.air_rules.proofs.Pace.{count-no, count-yes}
+use Rattle.air_rules.proofs.Running.{owed-own}
 use Rattle.air_rules.specs.Air.{Air, is_active}
 use Rattle.air_rules.specs.Journal.{commits, is_commit_of, is_send_of, sends, sent_at}
 use Rattle.air_rules.specs.Length.{most_entries}
@@ -45,15 +45,15 @@ pub record WritesOn (old new : Written) (entry : Entry) : Type 0 where
 
 -- ---- a send
 
-pub may_send : {e : Parts} {w : Written} {t : Kept} → IsWhole e w t → (i j number : ℕ) (m : ResMsg) → is_active (air_of e) i ≡ true → IsFirstOwedBy (air_of e) t i j m → number ≡ (link_at t i j).sends + 1 → MaySend (air_of e) w.entries i j number (word_of m)
-may_send {e} h i j number m active f n =
-    let hi = below_all e h.valid i active in
-    let few = few_crafts e h.valid in
+pub may-send : {e : Parts} {w : Written} {t : Kept} → IsWhole e w t → (i j number : ℕ) (m : ResMsg) → is_active (air_of e) i ≡ true → IsFirstOwedBy (air_of e) t i j m → number ≡ (link_at t i j).sends + 1 → MaySend (air_of e) w.entries i j number (word_of m)
+may-send {e} h i j number m active f n =
+    let hi = below-all e h.valid i active in
+    let few = few-crafts e h.valid in
     let b : j < length e.crafts = f.below in
     record {
       active = active;
       message = m;
-      first_owed = first_owed h i j m hi f;
+      first-owed = first-owed h i j m hi f;
       number_is = n ∙ ap (λ (l : Link). l.sends + 1) (h.kept.link i j hi (omega arith));
       word_is = refl;
     }
@@ -67,43 +67,43 @@ pub record SendFits (e : Parts) (w : Written) (t : Kept) (i j : ℕ) : Type 0 wh
   pub commits : (made_at t j).commits ≤ 600
   pub copies : length (queue_at t i j) + 3 ≤ 1800
 
-pub send_fits : {e : Parts} {w : Written} {t : Kept} → IsWhole e w t → (i j : ℕ) (m : ResMsg) → is_active (air_of e) i ≡ true → IsFirstOwedBy (air_of e) t i j m → SendFits e w t i j
-send_fits {e} {w} {t} h i j m active f =
+pub send-fits : {e : Parts} {w : Written} {t : Kept} → IsWhole e w t → (i j : ℕ) (m : ResMsg) → is_active (air_of e) i ≡ true → IsFirstOwedBy (air_of e) t i j m → SendFits e w t i j
+send-fits {e} {w} {t} h i j m active f =
     let K = w.entries in
     let number = (link_at t i j).sends + 1 in
     let x = Send i j number (word_of m) in
-    let may = may_send h i j number m active f refl in
-    let hi : i < CRAFTS = below_all e h.valid i active in
-    let few = few_crafts e h.valid in
+    let may = may-send h i j number m active f refl in
+    let hi : i < CRAFTS = below-all e h.valid i active in
+    let few = few-crafts e h.valid in
     let b : j < length e.crafts = f.below in
     let hj : j < CRAFTS = omega arith in
-    let a : length K + 1 ≤ most_entries (air_of e) = entry_fits e K x h.valid h.legal may in
-    let most = most_few e h.valid in
+    let a : length K + 1 ≤ most_entries (air_of e) = entry-fits e K x h.valid h.legal may in
+    let most = most-few e h.valid in
     let room = h.room in
     let legal : IsLegal (air_of e) (x ∷ K) = extended h.legal may in
-    let s : sends (x ∷ K) i j ≤ commits (x ∷ K) i = sends_few (air_of e) (x ∷ K) legal i j in
-    let one : sends (x ∷ K) i j ≡ sends K i j + 1 = count_yes (is_send_of i j) x K (and_from _ _ (eq-eqb i i refl) (eq-eqb j j refl)) in
-    let c : commits K i ≤ 600 = few_commits e K h.valid h.legal i in
-    let d : commits K j ≤ 600 = few_commits e K h.valid h.legal j in
-    let q : length (waiting (air_of e) K i j) ≤ 3 * sends K i j = waiting_few (air_of e) (sound-of e h.valid) K i j in
+    let s : sends (x ∷ K) i j ≤ commits (x ∷ K) i = sends-few (air_of e) (x ∷ K) legal i j in
+    let one : sends (x ∷ K) i j ≡ sends K i j + 1 = count-yes (is_send_of i j) x K (and_from _ _ (eq-eqb i i refl) (eq-eqb j j refl)) in
+    let c : commits K i ≤ 600 = few-commits e K h.valid h.legal i in
+    let d : commits K j ≤ 600 = few-commits e K h.valid h.legal j in
+    let q : length (waiting (air_of e) K i j) ≤ 3 * sends K i j = waiting-few (air_of e) (sound-of e h.valid) K i j in
     let l : (link_at t i j).sends ≡ sends K i j = ap (λ (y : Link). y.sends) (h.kept.link i j hi hj) in
     let g : length (queue_at t i j) ≡ length (waiting (air_of e) K i j) = ap length (h.kept.queue i j hi hj) in
-    let n : (made_at t j).commits ≡ commits K j = count_is h j hj in
+    let n : (made_at t j).commits ≡ commits K j = count-is h j hj in
     record { own = hi; target = hj; position = omega arith; room = omega arith; sends = omega arith; commits = omega arith; copies = omega arith }
 
-pub sent_whole : {e : Parts} {w v : Written} {t u : Kept} → IsWhole e w t → (i j number position : ℕ) (m : ResMsg) (plans : List CopyPlan) → is_active (air_of e) i ≡ true → IsFirstOwedBy (air_of e) t i j m →
+pub sent-whole : {e : Parts} {w v : Written} {t u : Kept} → IsWhole e w t → (i j number position : ℕ) (m : ResMsg) (plans : List CopyPlan) → is_active (air_of e) i ≡ true → IsFirstOwedBy (air_of e) t i j m →
     number ≡ (link_at t i j).sends + 1 → position ≡ length w.entries → plans ≡ (air_of e).copies i j number →
     WritesOn w v (Send i j number (word_of m)) → AfterSend t u i j m.vrc (copies_from position (made_at t j).commits 0 plans) → IsWhole e v u
-sent_whole {e} {w} {v} {t} {u} h i j number position m plans active f n p q written after =
-    let fit = send_fits h i j m active f in
-    let owes = (first_owed h i j m fit.own f).owes in
-    let may = may_send h i j number m active f n in
-    let vrc : m.vrc ≡ complement_read ((air_of e).read (word_of m)) = sym (ap complement_read ((sound-of e h.valid).reads i m (owed_own (air_of e) w.entries i j m owes))) in
+sent-whole {e} {w} {v} {t} {u} h i j number position m plans active f n p q written after =
+    let fit = send-fits h i j m active f in
+    let owes = (first-owed h i j m fit.own f).owes in
+    let may = may-send h i j number m active f n in
+    let vrc : m.vrc ≡ complement_read ((air_of e).read (word_of m)) = sym (ap complement_read ((sound-of e h.valid).reads i m (owed-own (air_of e) w.entries i j m owes))) in
     record {
       valid = h.valid;
       inside = h.inside;
       legal = subst (IsLegal (air_of e)) (sym written.entries) (extended h.legal may);
-      kept = subst (λ (J : List Entry). IsKept (air_of e) J u) (sym written.entries) (kept_send (air_of e) w.entries t u h.kept i j number (word_of m) position m.vrc plans fit.own fit.target vrc p q after);
+      kept = subst (λ (J : List Entry). IsKept (air_of e) J u) (sym written.entries) (kept-send (air_of e) w.entries t u h.kept i j number (word_of m) position m.vrc plans fit.own fit.target vrc p q after);
       room = subst (λ (k : ℕ). most_entries (air_of e) ≤ k) (sym written.room) h.room;
       places = written.places ∙ h.places;
     }
@@ -111,13 +111,13 @@ sent_whole {e} {w} {v} {t} {u} h i j number position m plans active f n p q writ
 -- ---- a take
 
 pub wait : {e : Parts} {w : Written} {t : Kept} → IsWhole e w t → (i : ℕ) (f : Found) → WaitsAt (air_of e) w.entries i f → IsWaiting (air_of e) w.entries f.sender i f.waiting
-wait {e} {w} h i f a = (is_queue (air_of e) (sound-of e h.valid) w.entries h.legal f.sender i).holds f.waiting (in_at (waiting (air_of e) w.entries f.sender i) f.place f.waiting a.here)
+wait {e} {w} h i f a = (is-queue (air_of e) (sound-of e h.valid) w.entries h.legal f.sender i).holds f.waiting (in-at (waiting (air_of e) w.entries f.sender i) f.place f.waiting a.here)
 
-pub may_take : {e : Parts} {w : Written} {t : Kept} → IsWhole e w t → (i : ℕ) (f : Found) (o : Option ResMsg) → is_active (air_of e) i ≡ true → WaitsAt (air_of e) w.entries i f → o ≡ read_copy (air_of e) (sent_at w.entries f.waiting.send) f.waiting.copy →
+pub may-take : {e : Parts} {w : Written} {t : Kept} → IsWhole e w t → (i : ℕ) (f : Found) (o : Option ResMsg) → is_active (air_of e) i ≡ true → WaitsAt (air_of e) w.entries i f → o ≡ read_copy (air_of e) (sent_at w.entries f.waiting.send) f.waiting.copy →
     MayTake (air_of e) w.entries i f.waiting.send f.waiting.copy (is_some o)
-may_take {e} {w} h i f o active a r = record {
+may-take {e} {w} h i f o active a r = record {
   active = active;
-  due = waits_due (air_of e) w.entries f.sender i f.waiting (wait h i f a) ∙ le-leb _ _ a.in_time;
+  due = waits-due (air_of e) w.entries f.sender i f.waiting (wait h i f a) ∙ le-leb _ _ a.in_time;
   good_is = ap is_some r;
 }
 
@@ -128,50 +128,50 @@ pub record TakeFits (e : Parts) (w : Written) (t : Kept) (i : ℕ) (f : Found) :
   pub room : length w.entries < w.room
   pub place : f.place < length (queue_at t f.sender i)
 
-pub take_fits : {e : Parts} {w : Written} {t : Kept} → IsWhole e w t → (i : ℕ) (f : Found) → is_active (air_of e) i ≡ true → WaitsAt (air_of e) w.entries i f → TakeFits e w t i f
-take_fits {e} {w} {t} h i f active a =
+pub take-fits : {e : Parts} {w : Written} {t : Kept} → IsWhole e w t → (i : ℕ) (f : Found) → is_active (air_of e) i ≡ true → WaitsAt (air_of e) w.entries i f → TakeFits e w t i f
+take-fits {e} {w} {t} h i f active a =
     let K = w.entries in
     let o = read_copy (air_of e) (sent_at K f.waiting.send) f.waiting.copy in
-    let x : length K + 1 ≤ most_entries (air_of e) = entry_fits e K (Take i f.waiting.send f.waiting.copy (is_some o)) h.valid h.legal (may_take h i f o active a refl) in
-    let most = most_few e h.valid in
+    let x : length K + 1 ≤ most_entries (air_of e) = entry-fits e K (Take i f.waiting.send f.waiting.copy (is_some o)) h.valid h.legal (may-take h i f o active a refl) in
+    let most = most-few e h.valid in
     let room = h.room in
-    let hi : i < CRAFTS = below_all e h.valid i active in
-    let few = few_crafts e h.valid in
+    let hi : i < CRAFTS = below-all e h.valid i active in
+    let few = few-crafts e h.valid in
     let b : f.sender < length e.crafts = a.sender in
     let hj : f.sender < CRAFTS = omega arith in
     let p : f.place < length (waiting (air_of e) K f.sender i) = slice_get_within _ _ _ a.here in
     let g : length (queue_at t f.sender i) ≡ length (waiting (air_of e) K f.sender i) = ap length (h.kept.queue f.sender i hj hi) in
     record { own = hi; sender = hj; position = omega arith; room = omega arith; place = omega arith }
 
-pub taken_whole : {e : Parts} {w v : Written} {t u : Kept} → IsWhole e w t → (i : ℕ) (f : Found) (o : Option ResMsg) → is_active (air_of e) i ≡ true → WaitsAt (air_of e) w.entries i f → o ≡ read_copy (air_of e) (sent_at w.entries f.waiting.send) f.waiting.copy →
+pub taken-whole : {e : Parts} {w v : Written} {t u : Kept} → IsWhole e w t → (i : ℕ) (f : Found) (o : Option ResMsg) → is_active (air_of e) i ≡ true → WaitsAt (air_of e) w.entries i f → o ≡ read_copy (air_of e) (sent_at w.entries f.waiting.send) f.waiting.copy →
     WritesOn w v (Take i f.waiting.send f.waiting.copy (is_some o)) → AfterTake t u i f.sender f.place o → IsWhole e v u
-taken_whole {e} {w} {v} {t} {u} h i f o active a r written after =
-    let fit = take_fits h i f active a in
+taken-whole {e} {w} {v} {t} {u} h i f o active a r written after =
+    let fit = take-fits h i f active a in
     let it = wait h i f a in
     record {
       valid = h.valid;
       inside = h.inside;
-      legal = subst (IsLegal (air_of e)) (sym written.entries) (extended h.legal (may_take h i f o active a r));
+      legal = subst (IsLegal (air_of e)) (sym written.entries) (extended h.legal (may-take h i f o active a r));
       kept = subst (λ (J : List Entry). IsKept (air_of e) J u) (sym written.entries)
-          (kept_take (air_of e) w.entries t u h.kept i f.waiting.send f.waiting.copy f.sender f.place o it.sent fit.own fit.sender r it.from.here it.from.sender
-          (remove_is (waiting (air_of e) w.entries f.sender i) f.place f.waiting (is_queue (air_of e) (sound-of e h.valid) w.entries h.legal f.sender i).ordered a.here) after);
+          (kept-take (air_of e) w.entries t u h.kept i f.waiting.send f.waiting.copy f.sender f.place o it.sent fit.own fit.sender r it.from.here it.from.sender
+          (remove-is (waiting (air_of e) w.entries f.sender i) f.place f.waiting (is-queue (air_of e) (sound-of e h.valid) w.entries h.legal f.sender i).ordered a.here) after);
       room = subst (λ (k : ℕ). most_entries (air_of e) ≤ k) (sym written.room) h.room;
       places = written.places ∙ h.places;
     }
 
 -- ---- a commit
 
-pub no_cells : (air : Air) (K : List Entry) → IsLegal air K → (i k : ℕ) → (k ≡ 0) ⊎ (commits K i < k) → commit_cells K i k ≡ None
-no_cells air [] l i k h = refl
-no_cells air (Commit own cycle cells ∷ K) l i k h = elim (cases_eq own i) [
+pub no-cells : (air : Air) (K : List Entry) → IsLegal air K → (i k : ℕ) → (k ≡ 0) ⊎ (commits K i < k) → commit_cells K i k ≡ None
+no-cells air [] l i k h = refl
+no-cells air (Commit own cycle cells ∷ K) l i k h = elim (cases_eq own i) [
   | inl e ↦
-      let c : commits (Commit own cycle cells ∷ K) i ≡ commits K i + 1 = count_yes (is_commit_of i) (Commit own cycle cells) K (eq-eqb own i e) in
+      let c : commits (Commit own cycle cells ∷ K) i ≡ commits K i + 1 = count-yes (is_commit_of i) (Commit own cycle cells) K (eq-eqb own i e) in
       let f : cycle ≡ commits K i + 1 = (allowed l).cycle_is ∙ ap (λ j. commits K j + 1) e in
       cond-false (eqb own i && eqb cycle k) (Some cells) (commit_cells K i k) (and_right (eqb own i) _ (ne_eqb cycle k (differs cycle k (commits K i) (commits (Commit own cycle cells ∷ K) i) c f h)))
-      ∙ no_cells air K (earlier l) i k (still k (commits K i) (commits (Commit own cycle cells ∷ K) i) c h)
+      ∙ no-cells air K (earlier l) i k (still k (commits K i) (commits (Commit own cycle cells ∷ K) i) c h)
   | inr ne ↦
-      let c : commits (Commit own cycle cells ∷ K) i ≡ commits K i = count_no (is_commit_of i) (Commit own cycle cells) K (ne_eqb own i ne) in
-      cond-false (eqb own i && eqb cycle k) (Some cells) (commit_cells K i k) (and_left _ _ (ne_eqb own i ne)) ∙ no_cells air K (earlier l) i k (subst (λ (m : ℕ). (k ≡ 0) ⊎ (m < k)) c h)
+      let c : commits (Commit own cycle cells ∷ K) i ≡ commits K i = count-no (is_commit_of i) (Commit own cycle cells) K (ne_eqb own i ne) in
+      cond-false (eqb own i && eqb cycle k) (Some cells) (commit_cells K i k) (and_left _ _ (ne_eqb own i ne)) ∙ no-cells air K (earlier l) i k (subst (λ (m : ℕ). (k ≡ 0) ⊎ (m < k)) c h)
 ]
   where
     differs : (cycle k n m : ℕ) → m ≡ n + 1 → cycle ≡ n + 1 → (k ≡ 0) ⊎ (m < k) → cycle ≢ k
@@ -181,31 +181,31 @@ no_cells air (Commit own cycle cells ∷ K) l i k h = elim (cases_eq own i) [
     still : (k n m : ℕ) → m ≡ n + 1 → (k ≡ 0) ⊎ (m < k) → (k ≡ 0) ⊎ (n < k)
     still k n m a (inl z) = inl z
     still k n m a (inr z) = inr (omega arith)
-no_cells air (Send own target number word ∷ K) l i k h = no_cells air K (earlier l) i k h
-no_cells air (Take own p c good ∷ K) l i k h = no_cells air K (earlier l) i k h
+no-cells air (Send own target number word ∷ K) l i k h = no-cells air K (earlier l) i k h
+no-cells air (Take own p c good ∷ K) l i k h = no-cells air K (earlier l) i k h
 
 -- Each commit has its cells.
-pub some_cells : (air : Air) (K : List Entry) → IsLegal air K → (i k : ℕ) → 1 ≤ k → k ≤ commits K i → (cells : Cells) × (commit_cells K i k ≡ Some cells)
-some_cells air [] l i k h few = absurd (omega arith)
-some_cells air (Commit own cycle cells ∷ K) l i k h few = elim (cases_eq own i) [
+pub some-cells : (air : Air) (K : List Entry) → IsLegal air K → (i k : ℕ) → 1 ≤ k → k ≤ commits K i → (cells : Cells) × (commit_cells K i k ≡ Some cells)
+some-cells air [] l i k h few = absurd (omega arith)
+some-cells air (Commit own cycle cells ∷ K) l i k h few = elim (cases_eq own i) [
   | inl e ↦
-      let c : commits (Commit own cycle cells ∷ K) i ≡ commits K i + 1 = count_yes (is_commit_of i) (Commit own cycle cells) K (eq-eqb own i e) in
+      let c : commits (Commit own cycle cells ∷ K) i ≡ commits K i + 1 = count-yes (is_commit_of i) (Commit own cycle cells) K (eq-eqb own i e) in
       let f : cycle ≡ commits K i + 1 = (allowed l).cycle_is ∙ ap (λ j. commits K j + 1) e in
       elim (cases_eq cycle k) [
         | inl q ↦ (cells, cond-true (eqb own i && eqb cycle k) (Some cells) (commit_cells K i k) (and_from _ _ (eq-eqb own i e) (eq-eqb cycle k q)))
-        | inr ne ↦ let r = some_cells air K (earlier l) i k h (omega arith) in (r.0, cond-false (eqb own i && eqb cycle k) (Some cells) (commit_cells K i k) (and_right (eqb own i) _ (ne_eqb cycle k ne)) ∙ r.1)
+        | inr ne ↦ let r = some-cells air K (earlier l) i k h (omega arith) in (r.0, cond-false (eqb own i && eqb cycle k) (Some cells) (commit_cells K i k) (and_right (eqb own i) _ (ne_eqb cycle k ne)) ∙ r.1)
       ]
   | inr ne ↦
-      let c : commits (Commit own cycle cells ∷ K) i ≡ commits K i = count_no (is_commit_of i) (Commit own cycle cells) K (ne_eqb own i ne) in
-      let r = some_cells air K (earlier l) i k h (omega arith) in (r.0, cond-false (eqb own i && eqb cycle k) (Some cells) (commit_cells K i k) (and_left _ _ (ne_eqb own i ne)) ∙ r.1)
+      let c : commits (Commit own cycle cells ∷ K) i ≡ commits K i = count-no (is_commit_of i) (Commit own cycle cells) K (ne_eqb own i ne) in
+      let r = some-cells air K (earlier l) i k h (omega arith) in (r.0, cond-false (eqb own i && eqb cycle k) (Some cells) (commit_cells K i k) (and_left _ _ (ne_eqb own i ne)) ∙ r.1)
 ]
-some_cells air (Send own target number word ∷ K) l i k h few = some_cells air K (earlier l) i k h few
-some_cells air (Take own p c good ∷ K) l i k h few = some_cells air K (earlier l) i k h few
+some-cells air (Send own target number word ∷ K) l i k h few = some-cells air K (earlier l) i k h few
+some-cells air (Take own p c good ∷ K) l i k h few = some-cells air K (earlier l) i k h few
 
-pub may_commit : {e : Parts} {w : Written} {t : Kept} → IsWhole e w t → (i cycle : ℕ) (cells : Cells) → is_active (air_of e) i ≡ true → IsFree (air_of e) w.entries i → cycle ≡ (made_at t i).commits + 1 → AreNext (air_of e) t i cells → MayCommit (air_of e) w.entries i cycle cells
-may_commit {e} h i cycle cells active free c next =
-    let hi = below_all e h.valid i active in
-    let n = count_is h i hi in
+pub may-commit : {e : Parts} {w : Written} {t : Kept} → IsWhole e w t → (i cycle : ℕ) (cells : Cells) → is_active (air_of e) i ≡ true → IsFree (air_of e) w.entries i → cycle ≡ (made_at t i).commits + 1 → AreNext (air_of e) t i cells → MayCommit (air_of e) w.entries i cycle cells
+may-commit {e} h i cycle cells active free c next =
+    let hi = below-all e h.valid i active in
+    let n = count-is h i hi in
     let left = free.left in
     record {
       active = active;
@@ -214,7 +214,7 @@ may_commit {e} h i cycle cells active free c next =
       owes_nothing = free.owes_nothing;
       nothing_due = free.nothing_due;
       not_ahead = free.not_ahead;
-      cells_are = cells_are h i cells hi next;
+      cells-are = cells-are h i cells hi next;
     }
 
 pub record CommitFits (e : Parts) (w : Written) (t : Kept) (i : ℕ) : Type 0 where
@@ -225,27 +225,27 @@ pub record CommitFits (e : Parts) (w : Written) (t : Kept) (i : ℕ) : Type 0 wh
   pub places : ((made_at t i).commits + 1) * CRAFTS ≤ w.places
   pub new : commit_cells w.entries i ((made_at t i).commits + 1) ≡ None
 
-pub commit_fits : {e : Parts} {w : Written} {t : Kept} → IsWhole e w t → (i : ℕ) (cells : Cells) → is_active (air_of e) i ≡ true → IsFree (air_of e) w.entries i → AreNext (air_of e) t i cells → CommitFits e w t i
-commit_fits {e} {w} {t} h i cells active free next =
+pub commit-fits : {e : Parts} {w : Written} {t : Kept} → IsWhole e w t → (i : ℕ) (cells : Cells) → is_active (air_of e) i ≡ true → IsFree (air_of e) w.entries i → AreNext (air_of e) t i cells → CommitFits e w t i
+commit-fits {e} {w} {t} h i cells active free next =
     let K = w.entries in
-    let hi = below_all e h.valid i active in
-    let n = count_is h i hi in
+    let hi = below-all e h.valid i active in
+    let n = count-is h i hi in
     let left : commits K i < e.cycles = free.left in
     let k : e.cycles ≤ 600 = h.valid.run.length.1 in
-    let x : length K + 1 ≤ most_entries (air_of e) = entry_fits e K (Commit i ((made_at t i).commits + 1) cells) h.valid h.legal (may_commit h i ((made_at t i).commits + 1) cells active free refl next) in
-    let most = most_few e h.valid in
+    let x : length K + 1 ≤ most_entries (air_of e) = entry-fits e K (Commit i ((made_at t i).commits + 1) cells) h.valid h.legal (may-commit h i ((made_at t i).commits + 1) cells active free refl next) in
+    let most = most-few e h.valid in
     let room = h.room in
     let p : w.places ≡ e.cycles * 16 = h.places in
-    record { own = hi; position = omega arith; room = omega arith; commits = omega arith; places = omega arith; new = no_cells (air_of e) K h.legal i ((made_at t i).commits + 1) (inr (omega arith)) }
+    record { own = hi; position = omega arith; room = omega arith; commits = omega arith; places = omega arith; new = no-cells (air_of e) K h.legal i ((made_at t i).commits + 1) (inr (omega arith)) }
 
-pub committed_whole : {e : Parts} {w v : Written} {t u : Kept} → IsWhole e w t → (i cycle : ℕ) (cells : Cells) (many : Bool) → is_active (air_of e) i ≡ true → IsFree (air_of e) w.entries i → cycle ≡ (made_at t i).commits + 1 → AreNext (air_of e) t i cells →
+pub committed-whole : {e : Parts} {w v : Written} {t u : Kept} → IsWhole e w t → (i cycle : ℕ) (cells : Cells) (many : Bool) → is_active (air_of e) i ≡ true → IsFree (air_of e) w.entries i → cycle ≡ (made_at t i).commits + 1 → AreNext (air_of e) t i cells →
     many ≡ has_many cells → WritesOn w v (Commit i cycle cells) → AfterCommit t u i cells many → IsWhole e v u
-committed_whole {e} {w} {v} {t} {u} h i cycle cells many active free c next m written after =
+committed-whole {e} {w} {v} {t} {u} h i cycle cells many active free c next m written after =
     record {
       valid = h.valid;
       inside = h.inside;
-      legal = subst (IsLegal (air_of e)) (sym written.entries) (extended h.legal (may_commit h i cycle cells active free c next));
-      kept = subst (λ (J : List Entry). IsKept (air_of e) J u) (sym written.entries) (kept_commit (air_of e) w.entries t u h.kept i cycle cells many m after);
+      legal = subst (IsLegal (air_of e)) (sym written.entries) (extended h.legal (may-commit h i cycle cells active free c next));
+      kept = subst (λ (J : List Entry). IsKept (air_of e) J u) (sym written.entries) (kept-commit (air_of e) w.entries t u h.kept i cycle cells many m after);
       room = subst (λ (k : ℕ). most_entries (air_of e) ≤ k) (sym written.room) h.room;
       places = written.places ∙ h.places;
     }

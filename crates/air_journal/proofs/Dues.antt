@@ -5,32 +5,32 @@ use Rattle.std.proofs.lemmas.Bool.{cond-false, cond-true, cond_both, and_parts, 
 use Rattle.acas_base.specs.declared.entry.Entry.{Entry}
 use Rattle.acas_base.specs.declared.entry.Entry.TheVariants.{Commit, Send, Take}
 use Rattle.acas_base.specs.declared.link.CopyPlan.{CopyPlan}
-use Rattle.air_journal.proofs.Queued.{is_queue}
+use Rattle.air_journal.proofs.Queued.{is-queue}
 use Rattle.air_journal.specs.Calls.{IsFirstDue}
 use Rattle.air_journal.specs.Kept.{copies_from, is_copy, waiting, without}
 use Rattle.air_journal.specs.Queues.{AreOrdered, IsBefore, IsFirstDueAt, IsIn, IsQueue, IsWaiting, NoneDue}
 use Rattle.air_journal.specs.declared.kept.Waiting.{Waiting}
-use Rattle.air_rules.proofs.Pace.{active_ra, count_no, count_yes, later_more, later_none, send_shows}
+use Rattle.air_rules.proofs.Pace.{active-ra, count-no, count-yes, later-more, later-none, send-shows}
 use Rattle.air_rules.specs.Air.{Air, IsSound, copy_plan}
 use Rattle.air_rules.specs.Due.{NothingDue, is_copy_due, is_due, is_free}
 use Rattle.air_rules.specs.Journal.{Sent, WasSent, commits, count_of, entries_after, is_commit_of, is_send_of, sends, sent_at, was_taken}
 use Rattle.air_rules.specs.Rules.{IsLegal}
 use Rattle.air_rules.specs.Takes.{is_from}
 
-few_after : (f : Entry → Bool) (K : List Entry) (p : ℕ) → count_of f (entries_after K p) ≤ count_of f K
-few_after f [] p = zero-le
-few_after f (x ∷ K) p = elim (cases_lt p (length K)) [
-  | inl h ↦ subst (λ L. count_of f L ≤ count_of f (x ∷ K)) (sym (later_more x K p h)) (let ih = few_after f K p in elim (cases_Bool (f x)) [
-    | inl y ↦ (let a = count_yes f x K y in let b = count_yes f x (entries_after K p) y in omega arith)
-    | inr n ↦ (let a = count_no f x K n in let b = count_no f x (entries_after K p) n in omega arith)
+few-after : (f : Entry → Bool) (K : List Entry) (p : ℕ) → count_of f (entries_after K p) ≤ count_of f K
+few-after f [] p = zero-le
+few-after f (x ∷ K) p = elim (cases_lt p (length K)) [
+  | inl h ↦ subst (λ L. count_of f L ≤ count_of f (x ∷ K)) (sym (later-more x K p h)) (let ih = few-after f K p in elim (cases_Bool (f x)) [
+    | inl y ↦ (let a = count-yes f x K y in let b = count-yes f x (entries_after K p) y in omega arith)
+    | inr n ↦ (let a = count-no f x K n in let b = count-no f x (entries_after K p) n in omega arith)
   ])
-  | inr h ↦ subst (λ L. count_of f L ≤ count_of f (x ∷ K)) (sym (later_none x K p h)) zero-le
+  | inr h ↦ subst (λ L. count_of f L ≤ count_of f (x ∷ K)) (sym (later-none x K p h)) zero-le
 ]
 
 -- ---- due and waiting
 
-pub waits_due : (air : Air) (K : List Entry) (j i : ℕ) (w : Waiting) → IsWaiting air K j i w → is_due air K i w.send w.copy ≡ leb w.due (commits K i)
-waits_due air K j i w h =
+pub waits-due : (air : Air) (K : List Entry) (j i : ℕ) (w : Waiting) → IsWaiting air K j i w → is_due air K i w.send w.copy ≡ leb w.due (commits K i)
+waits-due air K j i w h =
     let n = commits (entries_after K w.send) i in
     let a : is_due air K i w.send w.copy ≡ is_copy_due air K (Some h.sent) i w.send w.copy = ap (λ o. is_copy_due air K o i w.send w.copy) h.from.here in
     let d : w.due + n ≡ commits K i + h.plan.hold = h.due_is in
@@ -48,11 +48,11 @@ pub record DueFrom (air : Air) (K : List Entry) (i p c : ℕ) : Type 0 where
   pub copy_is : it.copy ≡ c
   pub due : it.due ≤ commits K i
 
-pub due_waits : (air : Air) → IsSound air → (K : List Entry) → IsLegal air K → (i p c : ℕ) → is_due air K i p c ≡ true → DueFrom air K i p c
-due_waits air sound K l i p c d = go (sent_at K p) refl d
+pub due-waits : (air : Air) → IsSound air → (K : List Entry) → IsLegal air K → (i p c : ℕ) → is_due air K i p c ≡ true → DueFrom air K i p c
+due-waits air sound K l i p c d = go (sent_at K p) refl d
   where
     few : commits (entries_after K p) i ≤ commits K i
-    few = few_after (is_commit_of i) K p
+    few = few-after (is_commit_of i) K p
 
     with_plan : (S : Sent) → sent_at K p ≡ Some S → S.receiver ≡ i → was_taken K i p c ≡ false → (o : Option CopyPlan) → copy_plan air S c ≡ o → is_free o (commits (entries_after K p) i) ≡ true → DueFrom air K i p c
     with_plan S e r t None f h = absurd (cc)
@@ -61,7 +61,7 @@ due_waits air sound K l i p c d = go (sent_at K p) refl d
         let from : WasSent K p S.sender i S = record { here = e; sender = refl; receiver = r } in
         record {
           sender = S.sender;
-          below = sound.counted S.sender (active_ra air S.sender (send_shows air K l p S.sender i S from).sender_ra);
+          below = sound.counted S.sender (active-ra air S.sender (send-shows air K l p S.sender i S from).sender_ra);
           it = record { send = p; copy = c; due = commits K i + plan.hold - commits (entries_after K p) i };
           waits = record { sent = S; from = from; plan = plan; planned = f; due_is = (let x = few in omega arith); untaken = t };
           send_is = refl;
@@ -76,21 +76,21 @@ due_waits air sound K l i p c d = go (sent_at K p) refl d
         let b = and_parts (is_free (copy_plan air S c) (commits (entries_after K p) i)) _ a.1 in
         with_plan S e (eqb-true _ _ a.0) (not-true _ b.1) (copy_plan air S c) refl b.0
 
--- nothing is due where no queue has what is due
-pub nothing_due : (air : Air) → IsSound air → (K : List Entry) → IsLegal air K → (i : ℕ) → ((j : ℕ) → j < air.count → NoneDue (waiting air K j i) (commits K i)) → NothingDue air K i
-nothing_due air sound K l i none p c = false_from_ne_true _ (λ d.
-    let f = due_waits air sound K l i p c d in
-    let a : commits K i < f.it.due = none f.sender f.below f.it ((is_queue air sound K l f.sender i).whole f.it f.waits) in
+-- Nothing is due where no queue has what is due.
+pub nothing-due : (air : Air) → IsSound air → (K : List Entry) → IsLegal air K → (i : ℕ) → ((j : ℕ) → j < air.count → NoneDue (waiting air K j i) (commits K i)) → NothingDue air K i
+nothing-due air sound K l i none p c = false_from_ne_true _ (λ d.
+    let f = due-waits air sound K l i p c d in
+    let a : commits K i < f.it.due = none f.sender f.below f.it ((is-queue air sound K l f.sender i).whole f.it f.waits) in
     let b : f.it.due ≤ commits K i = f.due in omega arith)
 
 -- ---- places in a queue
 
-pub in_at : (ws : List Waiting) (k : ℕ) (w : Waiting) → slice_get ws k ≡ Some w → IsIn w ws
-in_at [] k w e = absurd (cc)
-in_at (x ∷ xs) zero w e = inl (cc)
-in_at (x ∷ xs) (suc k) w e = inr (in_at xs k w e)
+pub in-at : (ws : List Waiting) (k : ℕ) (w : Waiting) → slice_get ws k ≡ Some w → IsIn w ws
+in-at [] k w e = absurd (cc)
+in-at (x ∷ xs) zero w e = inl (cc)
+in-at (x ∷ xs) (suc k) w e = inr (in-at xs k w e)
 
--- another element of an ordered queue stands before the place or comes after what is there
+-- Another element of an ordered queue stands before the place or comes after what is there.
 pub data Side (ws : List Waiting) (k : ℕ) (w u : Waiting) : Type 0 where
   front : IsIn u (take k ws) → Side ws k w u
   same : u ≡ w → Side ws k w u
@@ -108,27 +108,27 @@ side (x ∷ xs) (suc k) w u o e (inr h) = on (side xs k w u o.1 e h)
     on (same a) = same a
     on (behind a) = behind a
 
--- the first due copy, from the first of each queue
-pub first_due : (air : Air) → IsSound air → (K : List Entry) → IsLegal air K → (i j k : ℕ) (w : Waiting) → IsFirstDueAt (waiting air K j i) (commits K i) k w →
+-- The first due copy, from the first of each queue.
+pub first-due : (air : Air) → IsSound air → (K : List Entry) → IsLegal air K → (i j k : ℕ) (w : Waiting) → IsFirstDueAt (waiting air K j i) (commits K i) k w →
     ((b : ℕ) → b < air.count → (u : Waiting) → IsIn u (waiting air K b i) → u.due ≤ commits K i → w.send ≤ u.send) → IsFirstDue air K i w.send w.copy
-first_due air sound K l i j k w f least =
+first-due air sound K l i j k w f least =
     record {
-      due = waits_due air K j i w here ∙ le-leb w.due (commits K i) f.in_time;
+      due = waits-due air K j i w here ∙ le-leb w.due (commits K i) f.in_time;
       first = λ q d lt. false_from_ne_true _ (λ e.
-          let g = due_waits air sound K l i q d e in
-          let a : w.send ≤ g.it.send = least g.sender g.below g.it ((is_queue air sound K l g.sender i).whole g.it g.waits) g.due in
+          let g = due-waits air sound K l i q d e in
+          let a : w.send ≤ g.it.send = least g.sender g.below g.it ((is-queue air sound K l g.sender i).whole g.it g.waits) g.due in
           let b : g.it.send ≡ q = g.send_is in omega arith);
       first_copy = λ d lt. false_from_ne_true _ (λ e.
-          let g = due_waits air sound K l i w.send d e in
+          let g = due-waits air sound K l i w.send d e in
           let same_sender : g.sender ≡ j = sym g.waits.from.sender ∙ ap (λ (s : Sent). s.sender) (let p : sent_at K w.send ≡ Some g.waits.sent = ap (sent_at K) (sym g.send_is) ∙ g.waits.from.here in let r : sent_at K w.send ≡ Some here.sent = here.from.here in let z : g.waits.sent ≡ here.sent = cc in z) ∙ here.from.sender in
-          copies g.it g.send_is g.due (let c : g.it.copy ≡ d = g.copy_is in omega arith) (side (waiting air K j i) k w g.it q.ordered f.here (subst (λ x. IsIn g.it (waiting air K x i)) same_sender ((is_queue air sound K l g.sender i).whole g.it g.waits))));
+          copies g.it g.send_is g.due (let c : g.it.copy ≡ d = g.copy_is in omega arith) (side (waiting air K j i) k w g.it q.ordered f.here (subst (λ x. IsIn g.it (waiting air K x i)) same_sender ((is-queue air sound K l g.sender i).whole g.it g.waits))));
     }
   where
     q : IsQueue air K j i (waiting air K j i)
-    q = is_queue air sound K l j i
+    q = is-queue air sound K l j i
 
     here : IsWaiting air K j i w
-    here = q.holds w (in_at (waiting air K j i) k w f.here)
+    here = q.holds w (in-at (waiting air K j i) k w f.here)
 
     copies : (u : Waiting) → u.send ≡ w.send → u.due ≤ commits K i → u.copy < w.copy → Side (waiting air K j i) k w u → ⊥
     copies u s d lt (front a) = let z : commits K i < u.due = f.first u a in omega arith
@@ -138,53 +138,53 @@ first_due air sound K l i j k w f least =
 
 -- ---- taking one out
 
-none_left : (p c : ℕ) (xs : List Waiting) → ((u : Waiting) → IsIn u xs → is_copy p c u ≡ false) → without p c xs ≡ xs
-none_left p c [] h = refl
-none_left p c (x ∷ xs) h = cond-false (is_copy p c x) (without p c xs) (x ∷ without p c xs) (h x (inl refl)) ∙ ap (λ L. x ∷ L) (none_left p c xs (λ u a. h u (inr a)))
+none-left : (p c : ℕ) (xs : List Waiting) → ((u : Waiting) → IsIn u xs → is_copy p c u ≡ false) → without p c xs ≡ xs
+none-left p c [] h = refl
+none-left p c (x ∷ xs) h = cond-false (is_copy p c x) (without p c xs) (x ∷ without p c xs) (h x (inl refl)) ∙ ap (λ L. x ∷ L) (none-left p c xs (λ u a. h u (inr a)))
 
-not_same : (w u : Waiting) → IsBefore w u → is_copy w.send w.copy u ≡ false
-not_same w u (inl a) = and_left _ _ (ne_eqb u.send w.send (omega arith))
-not_same w u (inr b) = and_right _ _ (ne_eqb u.copy w.copy (let z : w.copy < u.copy = b.1 in omega arith))
+not-same : (w u : Waiting) → IsBefore w u → is_copy w.send w.copy u ≡ false
+not-same w u (inl a) = and_left _ _ (ne_eqb u.send w.send (omega arith))
+not-same w u (inr b) = and_right _ _ (ne_eqb u.copy w.copy (let z : w.copy < u.copy = b.1 in omega arith))
 
-not_same_back : (w u : Waiting) → IsBefore u w → is_copy w.send w.copy u ≡ false
-not_same_back w u (inl a) = and_left _ _ (ne_eqb u.send w.send (omega arith))
-not_same_back w u (inr b) = and_right _ _ (ne_eqb u.copy w.copy (let z : u.copy < w.copy = b.1 in omega arith))
+not-same-back : (w u : Waiting) → IsBefore u w → is_copy w.send w.copy u ≡ false
+not-same-back w u (inl a) = and_left _ _ (ne_eqb u.send w.send (omega arith))
+not-same-back w u (inr b) = and_right _ _ (ne_eqb u.copy w.copy (let z : u.copy < w.copy = b.1 in omega arith))
 
-pub remove_is : (xs : List Waiting) (k : ℕ) (w : Waiting) → AreOrdered xs → slice_get xs k ≡ Some w → remove xs k ≡ without w.send w.copy xs
-remove_is [] k w o e = absurd (cc)
-remove_is (x ∷ xs) zero w o e =
+pub remove-is : (xs : List Waiting) (k : ℕ) (w : Waiting) → AreOrdered xs → slice_get xs k ≡ Some w → remove xs k ≡ without w.send w.copy xs
+remove-is [] k w o e = absurd (cc)
+remove-is (x ∷ xs) zero w o e =
     let f : x ≡ w = cc in
     subst (λ y. xs ≡ without y.send y.copy (x ∷ xs)) f
-    (sym (cond-true (is_copy x.send x.copy x) (without x.send x.copy xs) (x ∷ without x.send x.copy xs) (and_from _ _ (eq-eqb x.send x.send refl) (eq-eqb x.copy x.copy refl)) ∙ none_left x.send x.copy xs (λ u h. not_same x u (o.0 u h))))
-remove_is (x ∷ xs) (suc k) w o e =
-    ap (λ L. x ∷ L) (remove_is xs k w o.1 e) ∙ sym (cond-false (is_copy w.send w.copy x) (without w.send w.copy xs) (x ∷ without w.send w.copy xs) (not_same_back w x (o.0 w (in_at xs k w e))))
+    (sym (cond-true (is_copy x.send x.copy x) (without x.send x.copy xs) (x ∷ without x.send x.copy xs) (and_from _ _ (eq-eqb x.send x.send refl) (eq-eqb x.copy x.copy refl)) ∙ none-left x.send x.copy xs (λ u h. not-same x u (o.0 u h))))
+remove-is (x ∷ xs) (suc k) w o e =
+    ap (λ L. x ∷ L) (remove-is xs k w o.1 e) ∙ sym (cond-false (is_copy w.send w.copy x) (without w.send w.copy xs) (x ∷ without w.send w.copy xs) (not-same-back w x (o.0 w (in-at xs k w e))))
 
 -- ---- how much a queue holds
 
-without_few : (p c : ℕ) (xs : List Waiting) → length (without p c xs) ≤ length xs
-without_few p c [] = zero-le
-without_few p c (x ∷ xs) = let ih = without_few p c xs in cond_both (is_copy p c x) (without p c xs) (x ∷ without p c xs) (λ L. length L ≤ suc (length xs)) (λ _. omega arith) (λ _. omega arith)
+without-few : (p c : ℕ) (xs : List Waiting) → length (without p c xs) ≤ length xs
+without-few p c [] = zero-le
+without-few p c (x ∷ xs) = let ih = without-few p c xs in cond_both (is_copy p c x) (without p c xs) (x ∷ without p c xs) (λ L. length L ≤ suc (length xs)) (λ _. omega arith) (λ _. omega arith)
 
-length_copies : (at made c : ℕ) (plans : List CopyPlan) → length (copies_from at made c plans) ≡ length plans
-length_copies at made c [] = refl
-length_copies at made c (plan ∷ plans) = ap suc (length_copies at made (c + 1) plans)
+length-copies : (at made c : ℕ) (plans : List CopyPlan) → length (copies_from at made c plans) ≡ length plans
+length-copies at made c [] = refl
+length-copies at made c (plan ∷ plans) = ap suc (length-copies at made (c + 1) plans)
 
-pub waiting_few : (air : Air) → IsSound air → (K : List Entry) (j i : ℕ) → length (waiting air K j i) ≤ 3 * sends K j i
-waiting_few air sound [] j i = zero-le
-waiting_few air sound (Commit own cycle cells ∷ K) j i = waiting_few air sound K j i
-waiting_few air sound (Send own target number word ∷ K) j i =
-    let ih : length (waiting air K j i) ≤ 3 * sends K j i = waiting_few air sound K j i in
+pub waiting-few : (air : Air) → IsSound air → (K : List Entry) (j i : ℕ) → length (waiting air K j i) ≤ 3 * sends K j i
+waiting-few air sound [] j i = zero-le
+waiting-few air sound (Commit own cycle cells ∷ K) j i = waiting-few air sound K j i
+waiting-few air sound (Send own target number word ∷ K) j i =
+    let ih : length (waiting air K j i) ≤ 3 * sends K j i = waiting-few air sound K j i in
     let f : length (air.copies j i number) ≤ 3 = sound.few j i number in
     elim (cases_Bool (eqb own j && eqb target i)) [
-      | inl y ↦ (let s : sends (Send own target number word ∷ K) j i ≡ sends K j i + 1 = count_yes (is_send_of j i) (Send own target number word) K y in
-          let n : length (copies_from (length K) (commits K i) 0 (air.copies j i number)) ≡ length (air.copies j i number) = length_copies (length K) (commits K i) 0 (air.copies j i number) in
+      | inl y ↦ (let s : sends (Send own target number word ∷ K) j i ≡ sends K j i + 1 = count-yes (is_send_of j i) (Send own target number word) K y in
+          let n : length (copies_from (length K) (commits K i) 0 (air.copies j i number)) ≡ length (air.copies j i number) = length-copies (length K) (commits K i) 0 (air.copies j i number) in
           let a : length (waiting air K j i ++ copies_from (length K) (commits K i) 0 (air.copies j i number)) ≡ length (waiting air K j i) + length (copies_from (length K) (commits K i) 0 (air.copies j i number)) = length-append _ _ in
           let w : length (waiting air (Send own target number word ∷ K) j i) ≡ length (waiting air K j i ++ copies_from (length K) (commits K i) 0 (air.copies j i number)) = ap length (cond-true (eqb own j && eqb target i) _ (waiting air K j i) y) in
           omega arith)
-      | inr n ↦ (let s : sends (Send own target number word ∷ K) j i ≡ sends K j i = count_no (is_send_of j i) (Send own target number word) K n in
+      | inr n ↦ (let s : sends (Send own target number word ∷ K) j i ≡ sends K j i = count-no (is_send_of j i) (Send own target number word) K n in
           let w : length (waiting air (Send own target number word ∷ K) j i) ≡ length (waiting air K j i) = ap length (cond-false (eqb own j && eqb target i) (waiting air K j i ++ copies_from (length K) (commits K i) 0 (air.copies j i number)) (waiting air K j i) n) in
           omega arith)
     ]
-waiting_few air sound (Take own p c good ∷ K) j i =
-    let ih : length (waiting air K j i) ≤ 3 * sends K j i = waiting_few air sound K j i in
-    cond_both (eqb own i && is_from (sent_at K p) j) (without p c (waiting air K j i)) (waiting air K j i) (λ L. length L ≤ 3 * sends K j i) (λ _. let h : length (without p c (waiting air K j i)) ≤ length (waiting air K j i) = without_few p c (waiting air K j i) in omega arith) (λ _. ih)
+waiting-few air sound (Take own p c good ∷ K) j i =
+    let ih : length (waiting air K j i) ≤ 3 * sends K j i = waiting-few air sound K j i in
+    cond_both (eqb own i && is_from (sent_at K p) j) (without p c (waiting air K j i)) (waiting air K j i) (λ L. length L ≤ 3 * sends K j i) (λ _. let h : length (without p c (waiting air K j i)) ≤ length (waiting air K j i) = without-few p c (waiting air K j i) in omega arith) (λ _. ih)

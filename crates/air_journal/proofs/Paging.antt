@@ -5,30 +5,30 @@ use Rattle.std.proofs.lemmas.List.{append-nil, append_assoc, nil_from_length}
 use Rattle.air_journal.specs.declared.log.Note.{Note}
 use Rattle.air_journal.specs.Pages.{joined, Fill, Noted}
 
-pub joined_new : (n : ℕ) → joined (replicate n []) ≡ []
-joined_new zero = refl
-joined_new (suc n) = joined_new n
+pub joined-new : (n : ℕ) → joined (replicate n []) ≡ []
+joined-new zero = refl
+joined-new (suc n) = joined-new n
 
-pub paged_new : (n : ℕ) → Fill (replicate n []) 0
-paged_new zero = refl
-paged_new (suc n) = (refl, paged_new n)
+pub paged-new : (n : ℕ) → Fill (replicate n []) 0
+paged-new zero = refl
+paged-new (suc n) = (refl, paged-new n)
 
-pub joined_none : (ps : List (List Note)) → Fill ps 0 → joined ps ≡ []
-joined_none [] h = refl
-joined_none (p ∷ ps) h = let e : p ≡ [] = nil_from_length p h.0 in ap (λ L. L ++ joined ps) e ∙ joined_none ps h.1
+pub joined-none : (ps : List (List Note)) → Fill ps 0 → joined ps ≡ []
+joined-none [] h = refl
+joined-none (p ∷ ps) h = let e : p ≡ [] = nil_from_length p h.0 in ap (λ L. L ++ joined ps) e ∙ joined-none ps h.1
 
-pub paged_length : (ps : List (List Note)) (n : ℕ) → Fill ps n → length (joined ps) ≡ n
-paged_length [] n h = sym h
-paged_length (p ∷ ps) n h = let a : length (joined ps) ≡ n - 1024 = paged_length ps (n - 1024) h.1 in let b : length p ≡ min 1024 n = h.0 in let c : length (p ++ joined ps) ≡ length p + length (joined ps) = length-append p (joined ps) in omega arith
+pub paged-length : (ps : List (List Note)) (n : ℕ) → Fill ps n → length (joined ps) ≡ n
+paged-length [] n h = sym h
+paged-length (p ∷ ps) n h = let a : length (joined ps) ≡ n - 1024 = paged-length ps (n - 1024) h.1 in let b : length p ≡ min 1024 n = h.0 in let c : length (p ++ joined ps) ≡ length p + length (joined ps) = length-append p (joined ps) in omega arith
 
-get_front : (p q : List Note) (k : ℕ) → k < length p → slice_get (p ++ q) k ≡ slice_get p k
-get_front [] q k h = absurd (omega arith)
-get_front (x ∷ p) q zero h = refl
-get_front (x ∷ p) q (suc k) h = get_front p q k (omega arith)
+get-front : (p q : List Note) (k : ℕ) → k < length p → slice_get (p ++ q) k ≡ slice_get p k
+get-front [] q k h = absurd (omega arith)
+get-front (x ∷ p) q zero h = refl
+get-front (x ∷ p) q (suc k) h = get-front p q k (omega arith)
 
-get_back : (p q : List Note) (k : ℕ) → slice_get (p ++ q) (length p + k) ≡ slice_get q k
-get_back [] q k = ap (slice_get q) (let e : 0 + k ≡ k = omega arith in e)
-get_back (x ∷ p) q k = ap (slice_get (x ∷ (p ++ q))) (let e : suc (length p) + k ≡ suc (length p + k) = omega arith in e) ∙ get_back p q k
+get-back : (p q : List Note) (k : ℕ) → slice_get (p ++ q) (length p + k) ≡ slice_get q k
+get-back [] q k = ap (slice_get q) (let e : 0 + k ≡ k = omega arith in e)
+get-back (x ∷ p) q k = ap (slice_get (x ∷ (p ++ q))) (let e : suc (length p) + k ≡ suc (length p + k) = omega arith in e) ∙ get-back p q k
 
 pub read : (ps : List (List Note)) (n k : ℕ) → Fill ps n → k < n → slice_get (joined ps) k ≡ slice_get (get_or ps (k / 1024) []) (k % 1024)
 read [] n k h lt = absurd (let e : n ≡ 0 = h in omega arith)
@@ -37,21 +37,21 @@ read (p ∷ ps) n k h lt = elim (cases_lt k 1024) [
       (let b : length p ≡ min 1024 n = h.0 in
       let z : k / 1024 ≡ 0 = omega arith in
       let m : k % 1024 ≡ k = omega arith in
-      get_front p (joined ps) k (omega arith) ∙ sym (ap (λ i. slice_get (get_or (p ∷ ps) i []) (k % 1024)) z ∙ ap (slice_get p) m))
+      get-front p (joined ps) k (omega arith) ∙ sym (ap (λ i. slice_get (get_or (p ∷ ps) i []) (k % 1024)) z ∙ ap (slice_get p) m))
   | inr g ↦
       (let b : length p ≡ min 1024 n = h.0 in
       let e : k ≡ length p + (k - 1024) = omega arith in
       let z : k / 1024 ≡ suc ((k - 1024) / 1024) = omega arith in
       let m : k % 1024 ≡ (k - 1024) % 1024 = omega arith in
-      ap (slice_get (p ++ joined ps)) e ∙ get_back p (joined ps) (k - 1024) ∙ read ps (n - 1024) (k - 1024) h.1 (omega arith)
+      ap (slice_get (p ++ joined ps)) e ∙ get-back p (joined ps) (k - 1024) ∙ read ps (n - 1024) (k - 1024) h.1 (omega arith)
       ∙ sym (ap (λ i. slice_get (get_or (p ∷ ps) i []) (k % 1024)) z ∙ ap (slice_get (get_or ps ((k - 1024) / 1024) [])) m))
 ]
 
-pub page_free : (ps : List (List Note)) (n : ℕ) → Fill ps n → n < length ps * 1024 → (n / 1024 < length ps) × (length (get_or ps (n / 1024) []) < 1024)
-page_free [] n h lt = absurd (omega arith)
-page_free (p ∷ ps) n h lt = elim (cases_lt n 1024) [
+pub page-free : (ps : List (List Note)) (n : ℕ) → Fill ps n → n < length ps * 1024 → (n / 1024 < length ps) × (length (get_or ps (n / 1024) []) < 1024)
+page-free [] n h lt = absurd (omega arith)
+page-free (p ∷ ps) n h lt = elim (cases_lt n 1024) [
   | inl s ↦ (let b : length p ≡ min 1024 n = h.0 in let z : n / 1024 ≡ 0 = omega arith in (omega arith, subst (λ i. length (get_or (p ∷ ps) i []) < 1024) (sym z) (let q : length p < 1024 = omega arith in q)))
-  | inr g ↦ (let z : n / 1024 ≡ suc ((n - 1024) / 1024) = omega arith in let r = page_free ps (n - 1024) h.1 (omega arith) in let a : (n - 1024) / 1024 < length ps = r.0 in (omega arith, subst (λ i. length (get_or (p ∷ ps) i []) < 1024) (sym z) r.1))
+  | inr g ↦ (let z : n / 1024 ≡ suc ((n - 1024) / 1024) = omega arith in let r = page-free ps (n - 1024) h.1 (omega arith) in let a : (n - 1024) / 1024 < length ps = r.0 in (omega arith, subst (λ i. length (get_or (p ∷ ps) i []) < 1024) (sym z) r.1))
 ]
 
 abbrev filled : List (List Note) → ℕ → Note → List (List Note)
@@ -67,7 +67,7 @@ write (p ∷ ps) n e h lt = elim (cases_lt n 1024) [
       let l : length (p ++ e ∷ []) ≡ min 1024 (n + 1) = omega arith in
       let o : n + 1 - 1024 ≡ n - 1024 = omega arith in
       let w : n - 1024 ≡ 0 = omega arith in
-      let none : joined ps ≡ [] = joined_none ps (subst (Fill ps) w h.1) in
+      let none : joined ps ≡ [] = joined-none ps (subst (Fill ps) w h.1) in
       let a : Fill ((p ++ e ∷ []) ∷ ps) (n + 1) = (l, subst (Fill ps) (sym o) h.1) in
       let j : (p ++ e ∷ []) ++ joined ps ≡ (p ++ joined ps) ++ e ∷ [] = ap (λ L. (p ++ e ∷ []) ++ L) none ∙ append-nil (p ++ e ∷ []) ∙ ap (λ L. L ++ e ∷ []) (sym (ap (λ L. p ++ L) none ∙ append-nil p)) in
       subst (λ k. Fill (filled (p ∷ ps) k e) (n + 1) × (joined (filled (p ∷ ps) k e) ≡ joined (p ∷ ps) ++ e ∷ [])) (sym z) (a, j))
@@ -94,5 +94,5 @@ pub room : (ps : List (List Note)) (n : ℕ) (l : Noted) → Fill ps n → (let 
 room ps n l h e lt =
     let a : length (joined ps) ≡ length l.notes = ap (λ (x : Noted). length x.notes) e in
     let b : length ps * 1024 ≡ l.room = ap (λ (x : Noted). x.room) e in
-    let c : length (joined ps) ≡ n = paged_length ps n h in
+    let c : length (joined ps) ≡ n = paged-length ps n h in
     omega arith

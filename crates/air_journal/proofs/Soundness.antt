@@ -19,11 +19,11 @@ use Rattle.acas_base.specs.declared.link.LinkPlan.{LinkPlan}
 use Rattle.air_journal.specs.Airs.{air_of}
 use Rattle.air_rules.specs.Air.{IsMessageOf, IsSound, copy_plan, is_active, is_ra, is_ra_kind}
 use Rattle.air_rules.specs.Journal.{Sent}
-use Rattle.craft_view.proofs.Resolving.{resolves-as_own, see-nothing, threatens}
+use Rattle.craft_view.proofs.Resolving.{resolves-as-own, see-nothing, threatens}
 use Rattle.craft_view.specs.Sight.{other_craft}
 use Rattle.craft_view.specs.Views.{view_of}
 use Rattle.res_message.proofs.Distance.{distance}
-use Rattle.res_message.proofs.Fields.{is_read, is_word, reads}
+use Rattle.res_message.proofs.Fields.{is-read, is-word, reads}
 use Rattle.res_message.specs.Words.{flip_word, read_word, word_of}
 
 -- ---- the copies of a message
@@ -93,9 +93,9 @@ message-address e is own message sent = by_craft (slice_get e.crafts own) refl s
         let all : IsCraft craft = subst IsCraft (get_or_from_slice_get e.crafts own craft craft at) (All-get_or IsCraft e.crafts own craft (slice_get_within e.crafts own craft at) is.crafts.ranges) in
         subst IsAddress (sym from) all.address
 
-read-if_at_all : (message : ResMsg) (mask : ℕ) (read : ResMsg) → IsAddress message.sender → IsMask mask → read_word (flip_word (word_of message) mask) ≡ Some read → read ≡ message
-read-if_at_all message mask read address byte is =
-    let fact = is_read (flip_word (word_of message) mask) (λ (n : ResMsg). n ≡ message) (λ n b e. distance message n mask address b byte.0 byte.1 (sym e)) in
+read-if-at-all : (message : ResMsg) (mask : ℕ) (read : ResMsg) → IsAddress message.sender → IsMask mask → read_word (flip_word (word_of message) mask) ≡ Some read → read ≡ message
+read-if-at-all message mask read address byte is =
+    let fact = is-read (flip_word (word_of message) mask) (λ (n : ResMsg). n ≡ message) (λ n b e. distance message n mask address b byte.0 byte.1 (sym e)) in
     subst (λ (o : Option ResMsg). IfSome o (λ n. n ≡ message)) is fact
 
 -- ---- the aircraft
@@ -113,7 +113,7 @@ resolves-ra e own other cycle is = by_craft (other_craft e own other) refl
     by_craft None none = absurd (let view = see-nothing e own other cycle none in cc)
     by_craft (Some craft) some =
         let here : IsTrue (is_some (other_craft e own other)) = ap is_some some in
-        let mine = (resolves-as_own e own other cycle here).0 is in
+        let mine = (resolves-as-own e own other cycle here).0 is in
         ap (λ (o : Option Kind). option_map_or is_ra_kind o false) mine.kind
 
 pub sound-of : (e : Parts) → IsEncounter e → IsSound (air_of e)
@@ -125,7 +125,7 @@ sound-of e is = record {
   counted = active-within e;
   threatens = λ own other cycle threat. (threatens e own other cycle threat).resolves;
   resolves = resolves-ra e;
-  reads = λ own message sent. reads message (word_of message) (is_word message (message-address e is own message sent));
+  reads = λ own message sent. reads message (word_of message) (is-word message (message-address e is own message sent));
   plain = xor_zero_r;
-  apart = λ own sent copy plan message read of here is_read. read-if_at_all message plan.mask read (message-address e is own message of) (is-mask e is sent copy plan here) is_read;
+  apart = λ own sent copy plan message read of here is-read. read-if-at-all message plan.mask read (message-address e is own message of) (is-mask e is sent copy plan here) is-read;
 }

@@ -18,33 +18,33 @@ use Rattle.air_rules.specs.Air.{Air}
 use Rattle.air_rules.specs.Journal.{Sent, cell_at, commits, sent_at}
 use Rattle.air_rules.specs.Takes.{complement_read, is_from, last_take, read_copy}
 
-pub blank_kept : (air : Air) (kept : Kept) → IsBlank kept → IsKept air [] kept
-blank_kept air kept b = record { made = b.made; link = b.link; queue = b.queue }
+pub blank-kept : (air : Air) (kept : Kept) → IsBlank kept → IsKept air [] kept
+blank-kept air kept b = record { made = b.made; link = b.link; queue = b.queue }
 
 -- ---- one pair
 
-link_send : (air : Air) (K : List Entry) (own target number word a b : ℕ) →
+link-send : (air : Air) (K : List Entry) (own target number word a b : ℕ) →
     link_of air (Send own target number word ∷ K) a b ≡ cond (eqb own a && eqb target b) (sent_link (link_of air K a b) (complement_read (air.read word))) (link_of air K a b)
-link_send air K own target number word a b =
+link-send air K own target number word a b =
     elim (eqb own a && eqb target b) as (λ t. (let r : Link = record { cell = (link_of air K a b).cell; said = cond t (complement_read (air.read word)) (link_of air K a b).said; sends = cond t ((link_of air K a b).sends + 1) (link_of air K a b).sends; sent = cond t true (link_of air K a b).sent; complement = (link_of air K a b).complement } in r)
     ≡ cond t (sent_link (link_of air K a b) (complement_read (air.read word))) (link_of air K a b)) [ true ↦ refl | false ↦ refl ]
 
-link_commit : (air : Air) (K : List Entry) (own cycle : ℕ) (cells : Cells) (a b : ℕ) →
+link-commit : (air : Air) (K : List Entry) (own cycle : ℕ) (cells : Cells) (a b : ℕ) →
     link_of air (Commit own cycle cells ∷ K) a b ≡ cond (eqb own a) (committed_link (link_of air K a b) (cell_at cells b)) (link_of air K a b)
-link_commit air K own cycle cells a b =
+link-commit air K own cycle cells a b =
     elim (eqb own a) as (λ t. (let r : Link = record { cell = cond t (cell_at cells b) (link_of air K a b).cell; said = (link_of air K a b).said; sends = (link_of air K a b).sends; sent = cond t false (link_of air K a b).sent; complement = (link_of air K a b).complement } in r)
     ≡ cond t (committed_link (link_of air K a b) (cell_at cells b)) (link_of air K a b)) [ true ↦ refl | false ↦ refl ]
 
-made_commit : (K : List Entry) (own cycle : ℕ) (cells : Cells) (a : ℕ) →
+made-commit : (K : List Entry) (own cycle : ℕ) (cells : Cells) (a : ℕ) →
     made_of (Commit own cycle cells ∷ K) a ≡ cond (eqb own a) (let r : Made = record { commits = commits K a + 1; many = has_many cells } in r) (made_of K a)
-made_commit K own cycle cells a =
+made-commit K own cycle cells a =
     elim (eqb own a) as (λ t. (let r : Made = record { commits = cond t (commits K a + 1) (commits K a); many = cond t (has_many cells) (made_of K a).many } in r)
     ≡ cond t (let r : Made = record { commits = commits K a + 1; many = has_many cells } in r) (made_of K a)) [ true ↦ refl | false ↦ refl ]
 
-link_take : (air : Air) (K : List Entry) (own send copy : ℕ) (good : Bool) (a b : ℕ) →
+link-take : (air : Air) (K : List Entry) (own send copy : ℕ) (good : Bool) (a b : ℕ) →
     link_of air (Take own send copy good ∷ K) a b ≡ cond (good && (eqb own a && is_from (sent_at K send) b))
     (let r : Link = record { cell = (link_of air K a b).cell; said = (link_of air K a b).said; sends = (link_of air K a b).sends; sent = (link_of air K a b).sent; complement = Some (let c : Complement = record { vrc = complement_read (read_copy air (sent_at K send) copy); commits = commits K a } in c) } in r) (link_of air K a b)
-link_take air K own send copy good a b =
+link-take air K own send copy good a b =
     elim (good && (eqb own a && is_from (sent_at K send) b)) as (λ t. (let r : Link = record {
       cell = (link_of air K a b).cell;
       said = (link_of air K a b).said;
@@ -56,14 +56,14 @@ link_take air K own send copy good a b =
 
 -- ---- after a send
 
-pub kept_send : (air : Air) (K : List Entry) (old new : Kept) → IsKept air K old → (own target number word at : ℕ) (vrc : Vrc) (plans : List CopyPlan) →
+pub kept-send : (air : Air) (K : List Entry) (old new : Kept) → IsKept air K old → (own target number word at : ℕ) (vrc : Vrc) (plans : List CopyPlan) →
     own < CRAFTS → target < CRAFTS → vrc ≡ complement_read (air.read word) → at ≡ length K → plans ≡ air.copies own target number →
     AfterSend old new own target vrc (copies_from at (made_at old target).commits 0 plans) → IsKept air (Send own target number word ∷ K) new
-kept_send air K old new k own target number word at vrc plans hi hj e f g s =
+kept-send air K old new k own target number word at vrc plans hi hj e f g s =
     record {
       made = λ a ha. s.made a ha ∙ k.made a ha;
       link = λ a b ha hb. s.link a b ha hb ∙ ap (λ (l : Link). cond (eqb own a && eqb target b) (sent_link l vrc) l) (k.link a b ha hb)
-          ∙ ap (λ v. cond (eqb own a && eqb target b) (sent_link (link_of air K a b) v) (link_of air K a b)) e ∙ sym (link_send air K own target number word a b);
+          ∙ ap (λ v. cond (eqb own a && eqb target b) (sent_link (link_of air K a b) v) (link_of air K a b)) e ∙ sym (link-send air K own target number word a b);
       queue = λ a b ha hb. s.queue a b ha hb ∙ ap (λ q. cond (eqb own a && eqb target b) (q ++ copies_from at (made_at old target).commits 0 plans) q) (k.queue a b ha hb) ∙ at_pair a b (cases_Bool (eqb own a && eqb target b));
     }
   where
@@ -82,26 +82,26 @@ kept_send air K old new k own target number word at vrc plans hi hj e f g s =
 
 -- ---- after a take
 
-taken_is : (air : Air) (K : List Entry) (own send copy sender a b : ℕ) (message : Option ResMsg) → message ≡ read_copy air (sent_at K send) copy → is_from (sent_at K send) b ≡ eqb sender b →
+taken-is : (air : Air) (K : List Entry) (own send copy sender a b : ℕ) (message : Option ResMsg) → message ≡ read_copy air (sent_at K send) copy → is_from (sent_at K send) b ≡ eqb sender b →
     cond (eqb own a && eqb sender b) (taken_link (link_of air K a b) message (commits K a)) (link_of air K a b) ≡ link_of air (Take own send copy (is_some message) ∷ K) a b
-taken_is air K own send copy sender a b None e f =
+taken-is air K own send copy sender a b None e f =
     (elim (eqb own a && eqb sender b) as (λ t. cond t (link_of air K a b) (link_of air K a b) ≡ link_of air K a b) [ true ↦ refl | false ↦ refl ])
-    ∙ sym (link_take air K own send copy false a b)
-taken_is air K own send copy sender a b (Some m) e f =
+    ∙ sym (link-take air K own send copy false a b)
+taken-is air K own send copy sender a b (Some m) e f =
     ap (λ z. cond (eqb own a && eqb sender b) (let r : Link = record { cell = (link_of air K a b).cell; said = (link_of air K a b).said; sends = (link_of air K a b).sends; sent = (link_of air K a b).sent; complement = Some (let c : Complement = record { vrc = complement_read z; commits = commits K a } in c) } in r) (link_of air K a b)) e
     ∙ ap (λ q. cond (eqb own a && q) (let r : Link = record { cell = (link_of air K a b).cell; said = (link_of air K a b).said; sends = (link_of air K a b).sends; sent = (link_of air K a b).sent; complement = Some (let c : Complement = record { vrc = complement_read (read_copy air (sent_at K send) copy); commits = commits K a } in c) } in r) (link_of air K a b)) (sym f)
-    ∙ sym (link_take air K own send copy true a b)
+    ∙ sym (link-take air K own send copy true a b)
 
-pub kept_take : (air : Air) (K : List Entry) (old new : Kept) → IsKept air K old → (own send copy sender place : ℕ) (message : Option ResMsg) (sent : Sent) →
+pub kept-take : (air : Air) (K : List Entry) (old new : Kept) → IsKept air K old → (own send copy sender place : ℕ) (message : Option ResMsg) (sent : Sent) →
     own < CRAFTS → sender < CRAFTS → message ≡ read_copy air (sent_at K send) copy → sent_at K send ≡ Some sent → sent.sender ≡ sender →
     remove (waiting air K sender own) place ≡ without send copy (waiting air K sender own) →
     AfterTake old new own sender place message → IsKept air (Take own send copy (is_some message) ∷ K) new
-kept_take air K old new k own send copy sender place message sent hi hj e here from gone s =
+kept-take air K old new k own send copy sender place message sent hi hj e here from gone s =
     record {
       made = λ a ha. s.made a ha ∙ k.made a ha;
       link = λ a b ha hb. s.link a b ha hb ∙ ap (λ (l : Link). cond (eqb own a && eqb sender b) (taken_link l message (made_at old a).commits) l) (k.link a b ha hb)
           ∙ ap (λ (m : Made). cond (eqb own a && eqb sender b) (taken_link (link_of air K a b) message m.commits) (link_of air K a b)) (k.made a ha)
-          ∙ taken_is air K own send copy sender a b message e (is_from_it b);
+          ∙ taken-is air K own send copy sender a b message e (is_from_it b);
       queue = λ a b ha hb. s.queue a b ha hb ∙ ap (λ q. cond (eqb sender a && eqb own b) (remove q place) q) (k.queue a b ha hb) ∙ at_pair a b (cases_Bool (eqb own b && is_from (sent_at K send) a));
     }
   where
@@ -124,12 +124,12 @@ kept_take air K old new k own send copy sender place message sent hi hj e here f
 
 -- ---- after a commit
 
-pub kept_commit : (air : Air) (K : List Entry) (old new : Kept) → IsKept air K old → (own cycle : ℕ) (cells : Cells) (many : Bool) → many ≡ has_many cells →
+pub kept-commit : (air : Air) (K : List Entry) (old new : Kept) → IsKept air K old → (own cycle : ℕ) (cells : Cells) (many : Bool) → many ≡ has_many cells →
     AfterCommit old new own cells many → IsKept air (Commit own cycle cells ∷ K) new
-kept_commit air K old new k own cycle cells many e s =
+kept-commit air K old new k own cycle cells many e s =
     record {
       made = λ a ha. s.made a ha ∙ ap (λ (m : Made). cond (eqb own a) (let r : Made = record { commits = m.commits + 1; many = many } in r) m) (k.made a ha)
-          ∙ ap (λ n. cond (eqb own a) (let r : Made = record { commits = commits K a + 1; many = n } in r) (made_of K a)) e ∙ sym (made_commit K own cycle cells a);
-      link = λ a b ha hb. s.link a b ha hb ∙ ap (λ (l : Link). cond (eqb own a) (committed_link l (cell_at cells b)) l) (k.link a b ha hb) ∙ sym (link_commit air K own cycle cells a b);
+          ∙ ap (λ n. cond (eqb own a) (let r : Made = record { commits = commits K a + 1; many = n } in r) (made_of K a)) e ∙ sym (made-commit K own cycle cells a);
+      link = λ a b ha hb. s.link a b ha hb ∙ ap (λ (l : Link). cond (eqb own a) (committed_link l (cell_at cells b)) l) (k.link a b ha hb) ∙ sym (link-commit air K own cycle cells a b);
       queue = λ a b ha hb. s.queue a b ha hb ∙ k.queue a b ha hb;
     }

@@ -10,10 +10,10 @@ use Rattle.acas_base.specs.declared.advisory.Cell.TheVariants.{Clear, Ra}
 use Rattle.acas_base.specs.declared.advisory.Cells.{Cells}
 use Rattle.acas_base.specs.declared.advisory.Intent.{Intent}
 use Rattle.acas_base.specs.declared.advisory.ResMsg.{ResMsg}
-use Rattle.air_journal.proofs.Ages.{age_few}
-use Rattle.air_journal.proofs.Bounds.{below, below_all, few_crafts}
-use Rattle.air_journal.proofs.Dues.{due_waits, first_due, nothing_due}
-use Rattle.air_journal.proofs.Queued.{is_queue}
+use Rattle.air_journal.proofs.Ages.{age-few}
+use Rattle.air_journal.proofs.Bounds.{below, below-all, few-crafts}
+use Rattle.air_journal.proofs.Dues.{due-waits, first-due, nothing-due}
+use Rattle.air_journal.proofs.Queued.{is-queue}
 use Rattle.air_journal.proofs.Soundness.{sound-of}
 use Rattle.air_journal.specs.Airs.{air_of}
 use Rattle.air_journal.specs.Calls.{IsFirstBehind, IsFirstDue}
@@ -27,8 +27,8 @@ use Rattle.air_journal.specs.declared.kept.Link.{Link}
 use Rattle.air_journal.specs.declared.kept.Made.{Made}
 use Rattle.air_journal.specs.declared.kept.Waiting.{Waiting}
 use Rattle.air_journal.specs.declared.pace.Behind.{Behind}
-use Rattle.air_rules.proofs.Searching.{some_or_none}
-use Rattle.air_rules.proofs.Waiting.{owed_within}
+use Rattle.air_rules.proofs.Searching.{some-or-none}
+use Rattle.air_rules.proofs.Waiting.{owed-within}
 use Rattle.air_rules.specs.Air.{is_active, rank_of}
 use Rattle.air_rules.specs.Due.{NothingDue, is_due}
 use Rattle.air_rules.specs.Journal.{commits}
@@ -38,41 +38,41 @@ use Rattle.air_rules.specs.Takes.{Taken, last_take, vrc_in_force}
 
 -- ---- commits
 
-pub count_is : {e : Parts} {w : Written} {t : Kept} → IsWhole e w t → (i : ℕ) → i < CRAFTS → (made_at t i).commits ≡ commits w.entries i
-count_is h i hi = ap (λ (m : Made). m.commits) (h.kept.made i hi)
+pub count-is : {e : Parts} {w : Written} {t : Kept} → IsWhole e w t → (i : ℕ) → i < CRAFTS → (made_at t i).commits ≡ commits w.entries i
+count-is h i hi = ap (λ (m : Made). m.commits) (h.kept.made i hi)
 
 -- ---- what is owed
 
-owed_is : {e : Parts} {w : Written} {t : Kept} → IsWhole e w t → (i j : ℕ) → i < CRAFTS → j < CRAFTS → owed_in (air_of e) t i j ≡ owed (air_of e) w.entries i j
-owed_is {e} {w} {t} h i j hi hj =
+owed-is : {e : Parts} {w : Written} {t : Kept} → IsWhole e w t → (i j : ℕ) → i < CRAFTS → j < CRAFTS → owed_in (air_of e) t i j ≡ owed (air_of e) w.entries i j
+owed-is {e} {w} {t} h i j hi hj =
     ap (λ (l : Link). owed_by (air_of e) i j l (made_at t i)) (h.kept.link i j hi hj) ∙ ap (owed_by (air_of e) i j (link_of (air_of e) w.entries i j)) (h.kept.made i hi)
 
-pub owes_nothing : {e : Parts} {w : Written} {t : Kept} → IsWhole e w t → (i : ℕ) → i < CRAFTS → NothingOwedBy (air_of e) t i (length e.crafts) → OwesNothing (air_of e) w.entries i
-owes_nothing {e} {w} h i hi none j = elim (some_or_none (owed (air_of e) w.entries i j)) [
+pub owes-nothing : {e : Parts} {w : Written} {t : Kept} → IsWhole e w t → (i : ℕ) → i < CRAFTS → NothingOwedBy (air_of e) t i (length e.crafts) → OwesNothing (air_of e) w.entries i
+owes-nothing {e} {w} h i hi none j = elim (some-or-none (owed (air_of e) w.entries i j)) [
   | inl (m, o) ↦
-      let hj : j < length e.crafts = (owed_within (air_of e) (sound-of e h.valid) w.entries i j m o).receiver in
-      let f = few_crafts e h.valid in
-      sym (owed_is h i j hi (omega arith)) ∙ none j hj
+      let hj : j < length e.crafts = (owed-within (air_of e) (sound-of e h.valid) w.entries i j m o).receiver in
+      let f = few-crafts e h.valid in
+      sym (owed-is h i j hi (omega arith)) ∙ none j hj
   | inr n ↦ n
 ]
 
-pub first_owed : {e : Parts} {w : Written} {t : Kept} → IsWhole e w t → (i j : ℕ) (m : ResMsg) → i < CRAFTS → IsFirstOwedBy (air_of e) t i j m → IsFirstOwed (air_of e) w.entries i j m
-first_owed {e} h i j m hi f =
-    let few = few_crafts e h.valid in
+pub first-owed : {e : Parts} {w : Written} {t : Kept} → IsWhole e w t → (i j : ℕ) (m : ResMsg) → i < CRAFTS → IsFirstOwedBy (air_of e) t i j m → IsFirstOwed (air_of e) w.entries i j m
+first-owed {e} h i j m hi f =
+    let few = few-crafts e h.valid in
     let b : j < length e.crafts = f.below in
     record {
-      owes = sym (owed_is h i j hi (omega arith)) ∙ f.owes;
-      first = λ k lt. sym (owed_is h i k hi (omega arith)) ∙ f.first k lt;
+      owes = sym (owed-is h i j hi (omega arith)) ∙ f.owes;
+      first = λ k lt. sym (owed-is h i k hi (omega arith)) ∙ f.first k lt;
     }
 
 -- ---- what is due
 
-pub all_ordered : {e : Parts} {w : Written} {t : Kept} → IsWhole e w t → (i b : ℕ) → i < CRAFTS → b < CRAFTS → AreOrdered (queue_at t b i)
-all_ordered {e} {w} h i b hi hb = subst AreOrdered (sym (h.kept.queue b i hb hi)) (is_queue (air_of e) (sound-of e h.valid) w.entries h.legal b i).ordered
+pub all-ordered : {e : Parts} {w : Written} {t : Kept} → IsWhole e w t → (i b : ℕ) → i < CRAFTS → b < CRAFTS → AreOrdered (queue_at t b i)
+all-ordered {e} {w} h i b hi hb = subst AreOrdered (sym (h.kept.queue b i hb hi)) (is-queue (air_of e) (sound-of e h.valid) w.entries h.legal b i).ordered
 
-pub found_waits : {e : Parts} {w : Written} {t : Kept} → IsWhole e w t → (i n : ℕ) (f : Found) → i < CRAFTS → n ≡ commits w.entries i → IsLeast t i n (length e.crafts) f → WaitsAt (air_of e) w.entries i f
-found_waits {e} h i n f hi g l =
-    let few = few_crafts e h.valid in
+pub found-waits : {e : Parts} {w : Written} {t : Kept} → IsWhole e w t → (i n : ℕ) (f : Found) → i < CRAFTS → n ≡ commits w.entries i → IsLeast t i n (length e.crafts) f → WaitsAt (air_of e) w.entries i f
+found-waits {e} h i n f hi g l =
+    let few = few-crafts e h.valid in
     let b : f.sender < length e.crafts = l.sender in
     record {
       sender = l.sender;
@@ -80,31 +80,31 @@ found_waits {e} h i n f hi g l =
       in_time = subst (λ (m : ℕ). f.waiting.due ≤ m) g l.place.in_time;
     }
 
-pub found_first : {e : Parts} {w : Written} {t : Kept} → IsWhole e w t → (i n : ℕ) (f : Found) → i < CRAFTS → n ≡ commits w.entries i → IsLeast t i n (length e.crafts) f → IsFirstDue (air_of e) w.entries i f.waiting.send f.waiting.copy
-found_first {e} {w} {t} h i n f hi g l =
-    let few = few_crafts e h.valid in
+pub found-first : {e : Parts} {w : Written} {t : Kept} → IsWhole e w t → (i n : ℕ) (f : Found) → i < CRAFTS → n ≡ commits w.entries i → IsLeast t i n (length e.crafts) f → IsFirstDue (air_of e) w.entries i f.waiting.send f.waiting.copy
+found-first {e} {w} {t} h i n f hi g l =
+    let few = few-crafts e h.valid in
     let b : f.sender < length e.crafts = l.sender in
-    first_due (air_of e) (sound-of e h.valid) w.entries h.legal i f.sender f.place f.waiting
+    first-due (air_of e) (sound-of e h.valid) w.entries h.legal i f.sender f.place f.waiting
     (subst (λ (m : ℕ). IsFirstDueAt (waiting (air_of e) w.entries f.sender i) m f.place f.waiting) g (subst (λ (ws : List Waiting). IsFirstDueAt ws n f.place f.waiting) (h.kept.queue f.sender i (omega arith) hi) l.place))
     (λ s hs u a d. l.least s hs u (subst (λ (ws : List Waiting). IsIn u ws) (sym (h.kept.queue s i (omega arith) hi)) a) (subst (λ (m : ℕ). u.due ≤ m) (sym g) d))
 
-pub none_due : {e : Parts} {w : Written} {t : Kept} → IsWhole e w t → (i n : ℕ) → i < CRAFTS → n ≡ commits w.entries i → NoneOf t i n (length e.crafts) → NothingDue (air_of e) w.entries i
-none_due {e} {w} h i n hi g none =
-    let few = few_crafts e h.valid in
-    nothing_due (air_of e) (sound-of e h.valid) w.entries h.legal i
+pub none-due : {e : Parts} {w : Written} {t : Kept} → IsWhole e w t → (i n : ℕ) → i < CRAFTS → n ≡ commits w.entries i → NoneOf t i n (length e.crafts) → NothingDue (air_of e) w.entries i
+none-due {e} {w} h i n hi g none =
+    let few = few-crafts e h.valid in
+    nothing-due (air_of e) (sound-of e h.valid) w.entries h.legal i
     (λ s hs u a. subst (λ (m : ℕ). m < u.due) g (none s hs u (subst (λ (ws : List Waiting). IsIn u ws) (sym (h.kept.queue s i (omega arith) hi)) a)))
 
-pub not_due : {e : Parts} {w : Written} {t : Kept} → IsWhole e w t → (i n p c : ℕ) → i < CRAFTS → n ≡ commits w.entries i → NotDueInAny t i n p c (length e.crafts) → is_due (air_of e) w.entries i p c ≡ false
-not_due {e} {w} h i n p c hi g none = false_from_ne_true _ (λ d.
-    let f = due_waits (air_of e) (sound-of e h.valid) w.entries h.legal i p c d in
-    let few = few_crafts e h.valid in
+pub not-due : {e : Parts} {w : Written} {t : Kept} → IsWhole e w t → (i n p c : ℕ) → i < CRAFTS → n ≡ commits w.entries i → NotDueInAny t i n p c (length e.crafts) → is_due (air_of e) w.entries i p c ≡ false
+not-due {e} {w} h i n p c hi g none = false_from_ne_true _ (λ d.
+    let f = due-waits (air_of e) (sound-of e h.valid) w.entries h.legal i p c d in
+    let few = few-crafts e h.valid in
     let b : f.sender < length e.crafts = f.below in
-    let a : n < f.it.due = none f.sender b f.it (subst (λ (ws : List Waiting). IsIn f.it ws) (sym (h.kept.queue f.sender i (omega arith) hi)) ((is_queue (air_of e) (sound-of e h.valid) w.entries h.legal f.sender i).whole f.it f.waits)) f.send_is f.copy_is in
+    let a : n < f.it.due = none f.sender b f.it (subst (λ (ws : List Waiting). IsIn f.it ws) (sym (h.kept.queue f.sender i (omega arith) hi)) ((is-queue (air_of e) (sound-of e h.valid) w.entries h.legal f.sender i).whole f.it f.waits)) f.send_is f.copy_is in
     let z : f.it.due ≤ commits w.entries i = f.due in omega arith)
 
-pub this_waits : {e : Parts} {w : Written} {t : Kept} → IsWhole e w t → (i n p c : ℕ) (f : Found) → i < CRAFTS → n ≡ commits w.entries i → IsDueInOne t i n p c (length e.crafts) f → WaitsAt (air_of e) w.entries i f
-this_waits {e} h i n p c f hi g l =
-    let few = few_crafts e h.valid in
+pub this-waits : {e : Parts} {w : Written} {t : Kept} → IsWhole e w t → (i n p c : ℕ) (f : Found) → i < CRAFTS → n ≡ commits w.entries i → IsDueInOne t i n p c (length e.crafts) f → WaitsAt (air_of e) w.entries i f
+this-waits {e} h i n p c f hi g l =
+    let few = few-crafts e h.valid in
     let b : f.sender < length e.crafts = l.sender in
     record {
       sender = l.sender;
@@ -114,46 +114,46 @@ this_waits {e} h i n p c f hi g l =
 
 -- ---- who is behind
 
-pub not_ahead : {e : Parts} {w : Written} {t : Kept} → IsWhole e w t → (i n : ℕ) → n ≡ commits w.entries i → NobodyBehind (air_of e) t n (length e.crafts) → (j : ℕ) → is_active (air_of e) j ≡ true → commits w.entries i ≤ commits w.entries j
-not_ahead {e} h i n g none j a =
+pub not-ahead : {e : Parts} {w : Written} {t : Kept} → IsWhole e w t → (i n : ℕ) → n ≡ commits w.entries i → NobodyBehind (air_of e) t n (length e.crafts) → (j : ℕ) → is_active (air_of e) j ≡ true → commits w.entries i ≤ commits w.entries j
+not-ahead {e} h i n g none j a =
     let hj = below e h.valid j a in
-    let c = count_is h j (below_all e h.valid j a) in
+    let c = count-is h j (below-all e h.valid j a) in
     let d = none j hj a in
     omega arith
 
-pub first_behind_is : {e : Parts} {w : Written} {t : Kept} → IsWhole e w t → (i n : ℕ) (b : Behind) → n ≡ commits w.entries i → IsFirstBehindBy (air_of e) t n b → IsFirstBehind (air_of e) w.entries i b.craft × (b.commits ≡ commits w.entries b.craft)
-first_behind_is {e} h i n b g f =
-    let few = few_crafts e h.valid in
+pub first-behind-is : {e : Parts} {w : Written} {t : Kept} → IsWhole e w t → (i n : ℕ) (b : Behind) → n ≡ commits w.entries i → IsFirstBehindBy (air_of e) t n b → IsFirstBehind (air_of e) w.entries i b.craft × (b.commits ≡ commits w.entries b.craft)
+first-behind-is {e} h i n b g f =
+    let few = few-crafts e h.valid in
     let hb : b.craft < length e.crafts = f.below in
-    let c = count_is h b.craft (omega arith) in
+    let c = count-is h b.craft (omega arith) in
     let d = f.count in
     let l : b.commits < n = f.fewer in (
       record {
         active = f.active;
         fewer = omega arith;
-        first = λ k lt a. let m = count_is h k (omega arith) in let z = f.first k lt a in omega arith;
+        first = λ k lt a. let m = count-is h k (omega arith) in let z = f.first k lt a in omega arith;
       },
       d ∙ c,
     )
 
 -- ---- the next cells
 
-force_is : (o : Option Taken) (n : ℕ) → kept_in_force (complement_of o) n ≡ vrc_in_force o n
-force_is None n = refl
-force_is (Some t) n = refl
+force-is : (o : Option Taken) (n : ℕ) → kept_in_force (complement_of o) n ≡ vrc_in_force o n
+force-is None n = refl
+force-is (Some t) n = refl
 
-next_is : {e : Parts} {w : Written} {t : Kept} → IsWhole e w t → (i j : ℕ) → i < CRAFTS → j < CRAFTS → next_in (air_of e) t i j ≡ cell_for (air_of e) w.entries i j
-next_is {e} {w} {t} h i j hi hj =
+next-is : {e : Parts} {w : Written} {t : Kept} → IsWhole e w t → (i j : ℕ) → i < CRAFTS → j < CRAFTS → next_in (air_of e) t i j ≡ cell_for (air_of e) w.entries i j
+next-is {e} {w} {t} h i j hi hj =
     ap (λ (l : Link). next_by (air_of e) i j l (made_at t i)) (h.kept.link i j hi hj) ∙ ap (next_by (air_of e) i j (link_of (air_of e) w.entries i j)) (h.kept.made i hi)
-    ∙ ap (λ r. cond (ltb j (length e.crafts) && not (eqb i j)) (following_cell (link_of (air_of e) w.entries i j).cell ((air_of e).view i j (commits w.entries i + 1)) r (rank_of (air_of e) i j)) Clear) (force_is (last_take (air_of e) w.entries i j) (commits w.entries i))
+    ∙ ap (λ r. cond (ltb j (length e.crafts) && not (eqb i j)) (following_cell (link_of (air_of e) w.entries i j).cell ((air_of e).view i j (commits w.entries i + 1)) r (rank_of (air_of e) i j)) Clear) (force-is (last_take (air_of e) w.entries i j) (commits w.entries i))
 
-pub cells_are : {e : Parts} {w : Written} {t : Kept} → IsWhole e w t → (i : ℕ) (cells : Cells) → i < CRAFTS → AreNext (air_of e) t i cells → cells ≡ cells_for (air_of e) w.entries i
-cells_are {e} {w} h i cells hi a =
+pub cells-are : {e : Parts} {w : Written} {t : Kept} → IsWhole e w t → (i : ℕ) (cells : Cells) → i < CRAFTS → AreNext (air_of e) t i cells → cells ≡ cells_for (air_of e) w.entries i
+cells-are {e} {w} h i cells hi a =
     ap (λ (xs : List Cell). let r : Cells = record { list = xs } in r)
-    (fill_by_all (λ j. cell_for (air_of e) w.entries i j) cells.list CRAFTS Clear a.size (λ j hj. a.each j hj ∙ next_is h i j hi hj))
+    (fill_by_all (λ j. cell_for (air_of e) w.entries i j) cells.list CRAFTS Clear a.size (λ j hj. a.each j hj ∙ next-is h i j hi hj))
 
 pub ages : {e : Parts} {w : Written} {t : Kept} → IsWhole e w t → (i : ℕ) → i < CRAFTS → commits w.entries i < e.cycles → (j : ℕ) (it : Intent) → j < CRAFTS → (link_at t i j).cell ≡ Ra it → it.age < 600
 ages {e} {w} h i hi left j it hj f =
-    let a : it.age ≤ commits w.entries i = age_few (air_of e) w.entries h.legal i j it (sym (ap (λ (l : Link). l.cell) (h.kept.link i j hi hj)) ∙ f) in
+    let a : it.age ≤ commits w.entries i = age-few (air_of e) w.entries h.legal i j it (sym (ap (λ (l : Link). l.cell) (h.kept.link i j hi hj)) ∙ f) in
     let b : e.cycles ≤ 600 = h.valid.run.length.1 in
     omega arith

@@ -16,48 +16,48 @@ use Rattle.air_rules.proofs.Positions.{chosen}
 
 -- ---- in order and backwards
 
-all_reverse : {X : Type 0} (P : X → Type 0) (xs : List X) → All P xs → All P (reverse xs)
-all_reverse P [] h = h
-all_reverse P (x ∷ xs) h = subst (All P) (sym (reverse-append (x ∷ []) xs)) (All-append P (reverse xs) (x ∷ []) (all_reverse P xs (All-tail P x xs h)) (All-cons P x [] (All-head P x xs h) (All-nil P)))
+all-reverse : {X : Type 0} (P : X → Type 0) (xs : List X) → All P xs → All P (reverse xs)
+all-reverse P [] h = h
+all-reverse P (x ∷ xs) h = subst (All P) (sym (reverse-append (x ∷ []) xs)) (All-append P (reverse xs) (x ∷ []) (all-reverse P xs (All-tail P x xs h)) (All-cons P x [] (All-head P x xs h) (All-nil P)))
 
-map_back : {X Y : Type 0} (f : X → Y) (xs ys : List X) → map f (xs ++ ys) ≡ map f xs ++ map f ys
-map_back f [] ys = refl
-map_back f (x ∷ xs) ys = ap (λ l. f x ∷ l) (map_back f xs ys)
+map-back : {X Y : Type 0} (f : X → Y) (xs ys : List X) → map f (xs ++ ys) ≡ map f xs ++ map f ys
+map-back f [] ys = refl
+map-back f (x ∷ xs) ys = ap (λ l. f x ∷ l) (map-back f xs ys)
 
-map_reverse : {X Y : Type 0} (f : X → Y) (xs : List X) → map f (reverse xs) ≡ reverse (map f xs)
-map_reverse f [] = refl
-map_reverse f (x ∷ xs) = ap (map f) (reverse-append (x ∷ []) xs) ∙ map_back f (reverse xs) (x ∷ []) ∙ ap (λ l. l ++ f x ∷ []) (map_reverse f xs) ∙ sym (reverse-append (f x ∷ []) (map f xs))
+map-reverse : {X Y : Type 0} (f : X → Y) (xs : List X) → map f (reverse xs) ≡ reverse (map f xs)
+map-reverse f [] = refl
+map-reverse f (x ∷ xs) = ap (map f) (reverse-append (x ∷ []) xs) ∙ map-back f (reverse xs) (x ∷ []) ∙ ap (λ l. l ++ f x ∷ []) (map-reverse f xs) ∙ sym (reverse-append (f x ∷ []) (map f xs))
 
-get_map : {X Y : Type 0} (f : X → Y) (xs : List X) (k : ℕ) → slice_get (map f xs) k ≡ option_map f (slice_get xs k)
-get_map f [] k = refl
-get_map f (x ∷ xs) zero = refl
-get_map f (x ∷ xs) (suc k) = get_map f xs k
+get-map : {X Y : Type 0} (f : X → Y) (xs : List X) (k : ℕ) → slice_get (map f xs) k ≡ option_map f (slice_get xs k)
+get-map f [] k = refl
+get-map f (x ∷ xs) zero = refl
+get-map f (x ∷ xs) (suc k) = get-map f xs k
 
-pub entry_at : (table : List Cells) (notes : List Note) (at : ℕ) → slice_get (reverse (entries_in table notes)) at ≡ option_map (told table) (slice_get notes at)
-entry_at table notes at =
-    ap (λ l. slice_get l at) (sym (map_reverse (told table) (reverse notes)) ∙ ap (map (told table)) (reverse-reverse notes)) ∙ get_map (told table) notes at
+pub entry-at : (table : List Cells) (notes : List Note) (at : ℕ) → slice_get (reverse (entries_in table notes)) at ≡ option_map (told table) (slice_get notes at)
+entry-at table notes at =
+    ap (λ l. slice_get l at) (sym (map-reverse (told table) (reverse notes)) ∙ ap (map (told table)) (reverse-reverse notes)) ∙ get-map (told table) notes at
 
-pub length_entries : (table : List Cells) (notes : List Note) → length (entries_in table notes) ≡ length notes
-length_entries table notes = length-map (reverse notes) (told table) ∙ length-reverse notes
+pub length-entries : (table : List Cells) (notes : List Note) → length (entries_in table notes) ≡ length notes
+length-entries table notes = length-map (reverse notes) (told table) ∙ length-reverse notes
 
 -- ---- one note more
 
-pub push_entry : (table : List Cells) (notes : List Note) (note : Note) → entries_in table (notes ++ note ∷ []) ≡ told table note ∷ entries_in table notes
-push_entry table notes note = ap (map (told table)) (reverse-append notes (note ∷ []))
+pub push-entry : (table : List Cells) (notes : List Note) (note : Note) → entries_in table (notes ++ note ∷ []) ≡ told table note ∷ entries_in table notes
+push-entry table notes note = ap (map (told table)) (reverse-append notes (note ∷ []))
 
-pub push_note : (places : ℕ) (notes : List Note) (note : Note) → AreNotes places notes → IsNote places note → AreNotes places (notes ++ note ∷ [])
-push_note places notes note h n = All-append (IsNote places) notes (note ∷ []) h (All-cons (IsNote places) note [] n (All-nil (IsNote places)))
+pub push-note : (places : ℕ) (notes : List Note) (note : Note) → AreNotes places notes → IsNote places note → AreNotes places (notes ++ note ∷ [])
+push-note places notes note h n = All-append (IsNote places) notes (note ∷ []) h (All-cons (IsNote places) note [] n (All-nil (IsNote places)))
 
-pub note_at : (places : ℕ) (notes : List Note) (at : ℕ) (note : Note) → AreNotes places notes → slice_get notes at ≡ Some note → IsNote places note
-note_at places notes at note h e = subst (IsNote places) (get_or_from_slice_get notes at note note e) (All-get_or (IsNote places) notes at note (slice_get_within notes at note e) h)
+pub note-at : (places : ℕ) (notes : List Note) (at : ℕ) (note : Note) → AreNotes places notes → slice_get notes at ≡ Some note → IsNote places note
+note-at places notes at note h e = subst (IsNote places) (get_or_from_slice_get notes at note note e) (All-get_or (IsNote places) notes at note (slice_get_within notes at note e) h)
 
 -- ---- the cells of a commit
 
 -- Other cells than those of an aircraft's new commit stay.
-same_told : (table : List Cells) (own cycle : ℕ) (cells : Cells) → own < CRAFTS → 1 ≤ cycle → (ns : List Note) → AreNotes (length table) ns →
+same-told : (table : List Cells) (own cycle : ℕ) (cells : Cells) → own < CRAFTS → 1 ≤ cycle → (ns : List Note) → AreNotes (length table) ns →
     commit_cells (map (told table) ns) own cycle ≡ None → map (told (set table (place_of own cycle) cells)) ns ≡ map (told table) ns
-same_told table own cycle cells ho hc [] h e = refl
-same_told table own cycle cells ho hc (Commit o c ∷ ns) h e =
+same-told table own cycle cells ho hc [] h e = refl
+same-told table own cycle cells ho hc (Commit o c ∷ ns) h e =
     let here = All-head (IsNote (length table)) (Commit o c) ns h in
     let rest = All-tail (IsNote (length table)) (Commit o c) ns h in
     elim (chosen (eqb o own && eqb c cycle) (Some (get_or table (place_of o c) clear_cells)) (commit_cells (map (told table) ns) own cycle) None e) [
@@ -65,22 +65,22 @@ same_told table own cycle cells ho hc (Commit o c ∷ ns) h e =
       | inr a ↦
           let apart : place_of o c ≢ place_of own cycle = differs o c (and_cases (eqb o own) (eqb c cycle) a.0) here.0 here.1 in
           ap (λ (x : Cells). entries.Commit o c x ∷ map (told (set table (place_of own cycle) cells)) ns) (get_or-set_other table (place_of own cycle) (place_of o c) cells clear_cells apart)
-          ∙ ap (λ l. told table (Commit o c) ∷ l) (same_told table own cycle cells ho hc ns rest a.1)
+          ∙ ap (λ l. told table (Commit o c) ∷ l) (same-told table own cycle cells ho hc ns rest a.1)
     ]
   where
     differs : (o c : ℕ) → (eqb o own ≡ false) ⊎ (eqb c cycle ≡ false) → o < CRAFTS → 1 ≤ c → place_of o c ≢ place_of own cycle
     differs o c (inl f) a b = let ne : o ≢ own = eqb-false o own f in omega arith
     differs o c (inr f) a b = let ne : c ≢ cycle = eqb-false c cycle f in omega arith
-same_told table own cycle cells ho hc (Send o t n w ∷ ns) h e = ap (λ l. entries.Send o t n w ∷ l) (same_told table own cycle cells ho hc ns (All-tail (IsNote (length table)) (Send o t n w) ns h) e)
-same_told table own cycle cells ho hc (Take o s c g ∷ ns) h e = ap (λ l. entries.Take o s c g ∷ l) (same_told table own cycle cells ho hc ns (All-tail (IsNote (length table)) (Take o s c g) ns h) e)
+same-told table own cycle cells ho hc (Send o t n w ∷ ns) h e = ap (λ l. entries.Send o t n w ∷ l) (same-told table own cycle cells ho hc ns (All-tail (IsNote (length table)) (Send o t n w) ns h) e)
+same-told table own cycle cells ho hc (Take o s c g ∷ ns) h e = ap (λ l. entries.Take o s c g ∷ l) (same-told table own cycle cells ho hc ns (All-tail (IsNote (length table)) (Take o s c g) ns h) e)
 
-pub push_commit : (table : List Cells) (notes : List Note) (own cycle : ℕ) (cells : Cells) → own < CRAFTS → 1 ≤ cycle → place_of own cycle < length table → AreNotes (length table) notes →
+pub push-commit : (table : List Cells) (notes : List Note) (own cycle : ℕ) (cells : Cells) → own < CRAFTS → 1 ≤ cycle → place_of own cycle < length table → AreNotes (length table) notes →
     commit_cells (entries_in table notes) own cycle ≡ None →
     entries_in (set table (place_of own cycle) cells) (notes ++ Commit own cycle ∷ []) ≡ entries.Commit own cycle cells ∷ entries_in table notes
-push_commit table notes own cycle cells ho hc hp h e =
-    push_entry (set table (place_of own cycle) cells) notes (Commit own cycle)
+push-commit table notes own cycle cells ho hc hp h e =
+    push-entry (set table (place_of own cycle) cells) notes (Commit own cycle)
     ∙ ap (λ (x : Cells). entries.Commit own cycle x ∷ entries_in (set table (place_of own cycle) cells) notes) (get_or-set_same table (place_of own cycle) cells clear_cells hp)
-    ∙ ap (λ l. entries.Commit own cycle cells ∷ l) (same_told table own cycle cells ho hc (reverse notes) (all_reverse (IsNote (length table)) notes h) e)
+    ∙ ap (λ l. entries.Commit own cycle cells ∷ l) (same-told table own cycle cells ho hc (reverse notes) (all-reverse (IsNote (length table)) notes h) e)
 
 -- The cells of a commit that is there stand in the table.
 pub record Stands (table : List Cells) (own cycle : ℕ) (cells : Cells) : Type 0 where
@@ -104,17 +104,17 @@ stands table own cycle cells (Commit o c ∷ ns) h e =
 stands table own cycle cells (Send o t n w ∷ ns) h e = stands table own cycle cells ns (All-tail (IsNote (length table)) (Send o t n w) ns h) e
 stands table own cycle cells (Take o s c g ∷ ns) h e = stands table own cycle cells ns (All-tail (IsNote (length table)) (Take o s c g) ns h) e
 
-pub found_cells : (table : List Cells) (notes : List Note) (own cycle : ℕ) (cells : Cells) → AreNotes (length table) notes → commit_cells (entries_in table notes) own cycle ≡ Some cells → Stands table own cycle cells
-found_cells table notes own cycle cells h e = stands table own cycle cells (reverse notes) (all_reverse (IsNote (length table)) notes h) e
+pub found-cells : (table : List Cells) (notes : List Note) (own cycle : ℕ) (cells : Cells) → AreNotes (length table) notes → commit_cells (entries_in table notes) own cycle ≡ Some cells → Stands table own cycle cells
+found-cells table notes own cycle cells h e = stands table own cycle cells (reverse notes) (all-reverse (IsNote (length table)) notes h) e
 
 pub record Found (table : List Cells) (notes : List Note) (own cycle : ℕ) : Type 0 where
   pub cells : Cells
   pub is : commit_cells (entries_in table notes) own cycle ≡ Some cells
   pub stands : Stands table own cycle cells
 
-pub found_some : (table : List Cells) (notes : List Note) (own cycle : ℕ) → AreNotes (length table) notes → is_some (commit_cells (entries_in table notes) own cycle) ≡ true → Found table notes own cycle
-found_some table notes own cycle h some = go (commit_cells (entries_in table notes) own cycle) refl some
+pub found-some : (table : List Cells) (notes : List Note) (own cycle : ℕ) → AreNotes (length table) notes → is_some (commit_cells (entries_in table notes) own cycle) ≡ true → Found table notes own cycle
+found-some table notes own cycle h some = go (commit_cells (entries_in table notes) own cycle) refl some
   where
     go : (o : Option Cells) → commit_cells (entries_in table notes) own cycle ≡ o → is_some o ≡ true → Found table notes own cycle
     go None e s = absurd (cc)
-    go (Some cells) e s = record { cells = cells; is = e; stands = found_cells table notes own cycle cells h e }
+    go (Some cells) e s = record { cells = cells; is = e; stands = found-cells table notes own cycle cells h e }

@@ -5,10 +5,10 @@ use Rattle.std.proofs.lemmas.Option.{slice_get_past}
 use Rattle.acas_base.specs.declared.advisory.ResMsg.{ResMsg}
 use Rattle.acas_base.specs.declared.entry.Entry.{Entry}
 use Rattle.acas_base.specs.declared.entry.Entry.TheVariants.{Commit, Send, Take}
-use Rattle.air_rules.proofs.Beginnings.{begins_length}
-use Rattle.air_rules.proofs.Positions.{sent_within}
-use Rattle.air_rules.proofs.Searching.{some_or_none}
-use Rattle.air_rules.proofs.Waiting.{nobody_owes, owed_within}
+use Rattle.air_rules.proofs.Beginnings.{begins-length}
+use Rattle.air_rules.proofs.Positions.{sent-within}
+use Rattle.air_rules.proofs.Searching.{some-or-none}
+use Rattle.air_rules.proofs.Waiting.{nobody-owes, owed-within}
 use Rattle.air_rules.specs.Air.{Air, IsSound, copy_plan, is_active}
 use Rattle.air_rules.specs.Due.{NothingDue, is_copy_due, is_due, is_free}
 use Rattle.air_rules.specs.Journal.{Begins, Sent, commits, entries_after, is_take_of, more, sends, sent_at, was_taken, whole}
@@ -25,11 +25,11 @@ abbrev pub none_below : (ℕ → Bool) → ℕ → Bool
 none_below test zero = true
 none_below test (suc n) = not (test n) && none_below test n
 
-pub below_none : (test : ℕ → Bool) (n : ℕ) → none_below test n ≡ true → (k : ℕ) → k < n → test k ≡ false
-below_none test zero e k h = absurd (omega arith)
-below_none test (suc n) e k h =
+pub below-none : (test : ℕ → Bool) (n : ℕ) → none_below test n ≡ true → (k : ℕ) → k < n → test k ≡ false
+below-none test zero e k h = absurd (omega arith)
+below-none test (suc n) e k h =
     let parts = and_parts (not (test n)) (none_below test n) e in
-    let ih = below_none test n parts.1 k in
+    let ih = below-none test n parts.1 k in
     elim (cases_eq k n) [
       | inl q ↦ ap test q ∙ not-true (test n) parts.0
       | inr ne ↦ ih (omega arith)
@@ -41,10 +41,10 @@ record Passes (test : ℕ → Bool) (n : ℕ) : Type 0 where
   within : at < n
   passes : test at ≡ true
 
-below_some : (test : ℕ → Bool) (n : ℕ) → none_below test n ≡ false → Passes test n
-below_some test zero e = absurd (cc)
-below_some test (suc n) e =
-    let ih = below_some test n in
+below-some : (test : ℕ → Bool) (n : ℕ) → none_below test n ≡ false → Passes test n
+below-some test zero e = absurd (cc)
+below-some test (suc n) e =
+    let ih = below-some test n in
     elim (cases_Bool (test n)) [
       | inl t ↦ record { at = n; within = omega arith; passes = t }
       | inr f ↦
@@ -53,13 +53,13 @@ below_some test (suc n) e =
           record { at = rest.at; within = omega arith; passes = rest.passes }
     ]
 
-both_not : (a b : Bool) → (a && b) ≡ false → a ≡ true → b ≡ false
-both_not true b e h = e
-both_not false b e h = absurd (cc)
+both-not : (a b : Bool) → (a && b) ≡ false → a ≡ true → b ≡ false
+both-not true b e h = e
+both-not false b e h = absurd (cc)
 
-not_not : (b : Bool) → not b ≡ false → b ≡ true
-not_not true e = refl
-not_not false e = absurd (cc)
+not-not : (b : Bool) → not b ≡ false → b ≡ true
+not-not true e = refl
+not-not false e = absurd (cc)
 
 -- ---- messages that are owed
 
@@ -69,25 +69,25 @@ owes_nobody air K own = none_below (λ other. is_some (owed air K own other)) ai
 abbrev no_message : Air → List Entry → ℕ → Bool
 no_message air K n = none_below (λ own. not (owes_nobody air K own)) n
 
-none_where : {X : Type 0} (o : Option X) → is_some o ≡ false → o ≡ None
-none_where None e = refl
-none_where (Some x) e = absurd (cc)
+none-where : {X : Type 0} (o : Option X) → is_some o ≡ false → o ≡ None
+none-where None e = refl
+none-where (Some x) e = absurd (cc)
 
-some_where : {X : Type 0} (o : Option X) → is_some o ≡ true → (x : X) × (o ≡ Some x)
-some_where None e = absurd (cc)
-some_where (Some x) e = (x, refl)
+some-where : {X : Type 0} (o : Option X) → is_some o ≡ true → (x : X) × (o ≡ Some x)
+some-where None e = absurd (cc)
+some-where (Some x) e = (x, refl)
 
-owes_nothing : (air : Air) → IsSound air → (K : List Entry) (own : ℕ) → owes_nobody air K own ≡ true → OwesNothing air K own
-owes_nothing air sound K own e other = elim (some_or_none (owed air K own other)) [
-  | inl (m, o) ↦ absurd (let f : true ≡ false = sym (ap is_some o) ∙ below_none (λ j. is_some (owed air K own j)) air.count e other (owed_within air sound K own other m o).receiver in cc)
+owes-nothing : (air : Air) → IsSound air → (K : List Entry) (own : ℕ) → owes_nobody air K own ≡ true → OwesNothing air K own
+owes-nothing air sound K own e other = elim (some-or-none (owed air K own other)) [
+  | inl (m, o) ↦ absurd (let f : true ≡ false = sym (ap is_some o) ∙ below-none (λ j. is_some (owed air K own j)) air.count e other (owed-within air sound K own other m o).receiver in cc)
   | inr n ↦ n
 ]
 
-owing_none : (air : Air) → IsSound air → (K : List Entry) (n : ℕ) → no_message air K n ≡ true → (own : ℕ) → own < n → OwesNothing air K own
-owing_none air sound K n e own h = owes_nothing air sound K own (not_not _ (below_none (λ i. not (owes_nobody air K i)) n e own h))
+owing-none : (air : Air) → IsSound air → (K : List Entry) (n : ℕ) → no_message air K n ≡ true → (own : ℕ) → own < n → OwesNothing air K own
+owing-none air sound K n e own h = owes-nothing air sound K own (not-not _ (below-none (λ i. not (owes_nobody air K i)) n e own h))
 
-nobody_owing : (air : Air) → IsSound air → (K : List Entry) → no_message air K air.count ≡ true → NobodyOwes air K
-nobody_owing air sound K e = nobody_owes air sound K (owing_none air sound K air.count e)
+nobody-owing : (air : Air) → IsSound air → (K : List Entry) → no_message air K air.count ≡ true → NobodyOwes air K
+nobody-owing air sound K e = nobody-owes air sound K (owing-none air sound K air.count e)
 
 -- ---- copies that are due
 
@@ -103,10 +103,10 @@ no_copy_before air K own n = none_below (λ p. not (no_copy_of air K (sent_at K 
 abbrev no_copy_to : Air → List Entry → ℕ → Bool
 no_copy_to air K n = none_below (λ own. is_active air own && not (no_copy_before air K own (length K))) n
 
-no_copy : (air : Air) → IsSound air → (K : List Entry) (o : Option Sent) (own p : ℕ) → no_copy_of air K o own p ≡ true → (c : ℕ) → is_copy_due air K o own p c ≡ false
-no_copy air sound K None own p e c = refl
-no_copy air sound K (Some S) own p e c = elim (cases_lt c 3) [
-  | inl h ↦ below_none (λ c. is_copy_due air K (Some S) own p c) 3 e c h
+no-copy : (air : Air) → IsSound air → (K : List Entry) (o : Option Sent) (own p : ℕ) → no_copy_of air K o own p ≡ true → (c : ℕ) → is_copy_due air K o own p c ≡ false
+no-copy air sound K None own p e c = refl
+no-copy air sound K (Some S) own p e c = elim (cases_lt c 3) [
+  | inl h ↦ below-none (λ c. is_copy_due air K (Some S) own p c) 3 e c h
   | inr h ↦
       let copies = air.copies S.sender S.receiver S.number in
       let few : length copies ≤ 3 = sound.few S.sender S.receiver S.number in
@@ -114,21 +114,21 @@ no_copy air sound K (Some S) own p e c = elim (cases_lt c 3) [
       and_right (eqb S.receiver own) _ (and_left (is_free (copy_plan air S c) (commits (entries_after K p) own)) _ (ap (λ o. is_free o (commits (entries_after K p) own)) none))
 ]
 
-none_due_before : (air : Air) → IsSound air → (K : List Entry) (own n : ℕ) → no_copy_before air K own n ≡ true → (p : ℕ) → p < n → (c : ℕ) → is_due air K own p c ≡ false
-none_due_before air sound K own n e p h = no_copy air sound K (sent_at K p) own p (not_not _ (below_none (λ p. not (no_copy_of air K (sent_at K p) own p)) n e p h))
+none-due-before : (air : Air) → IsSound air → (K : List Entry) (own n : ℕ) → no_copy_before air K own n ≡ true → (p : ℕ) → p < n → (c : ℕ) → is_due air K own p c ≡ false
+none-due-before air sound K own n e p h = no-copy air sound K (sent_at K p) own p (not-not _ (below-none (λ p. not (no_copy_of air K (sent_at K p) own p)) n e p h))
 
-nothing_due : (air : Air) → IsSound air → (K : List Entry) (own : ℕ) → no_copy_before air K own (length K) ≡ true → NothingDue air K own
-nothing_due air sound K own e p c = elim (cases_lt p (length K)) [
-  | inl h ↦ none_due_before air sound K own (length K) e p h c
-  | inr h ↦ elim (some_or_none (sent_at K p)) [
-    | inl (S, f) ↦ absurd (let x : p < length K = sent_within K p S f in omega arith)
+nothing-due : (air : Air) → IsSound air → (K : List Entry) (own : ℕ) → no_copy_before air K own (length K) ≡ true → NothingDue air K own
+nothing-due air sound K own e p c = elim (cases_lt p (length K)) [
+  | inl h ↦ none-due-before air sound K own (length K) e p h c
+  | inr h ↦ elim (some-or-none (sent_at K p)) [
+    | inl (S, f) ↦ absurd (let x : p < length K = sent-within K p S f in omega arith)
     | inr n ↦ ap (λ o. is_copy_due air K o own p c) n
   ]
 ]
 
-none_due_to : (air : Air) → IsSound air → (K : List Entry) (n : ℕ) → no_copy_to air K n ≡ true → (own : ℕ) → own < n → is_active air own ≡ true → NothingDue air K own
-none_due_to air sound K n e own h a =
-    nothing_due air sound K own (not_not _ (both_not (is_active air own) _ (below_none (λ own. is_active air own && not (no_copy_before air K own (length K))) n e own h) a))
+none-due-to : (air : Air) → IsSound air → (K : List Entry) (n : ℕ) → no_copy_to air K n ≡ true → (own : ℕ) → own < n → is_active air own ≡ true → NothingDue air K own
+none-due-to air sound K n e own h a =
+    nothing-due air sound K own (not-not _ (both-not (is_active air own) _ (below-none (λ own. is_active air own && not (no_copy_before air K own (length K))) n e own h) a))
 
 -- ---- who has committed
 
@@ -147,15 +147,15 @@ abbrev is_even : Air → List Entry → Bool
 is_even air K = none_below (λ own. is_active air own && not (none_more air K own)) air.count
 
 fewest : (air : Air) → IsSound air → (K : List Entry) (own : ℕ) → none_fewer air K own air.count ≡ true → (other : ℕ) → is_active air other ≡ true → commits K own ≤ commits K other
-fewest air sound K own e other a = ltb-false (commits K other) (commits K own) (both_not (is_active air other) _ (below_none _ air.count e other (sound.counted other a)) a)
+fewest air sound K own e other a = ltb-false (commits K other) (commits K own) (both-not (is_active air other) _ (below-none _ air.count e other (sound.counted other a)) a)
 
-first_of_fewest : (air : Air) (K : List Entry) (own : ℕ) → none_as_few air K own own ≡ true → (other : ℕ) → is_active air other ≡ true → other < own → commits K own < commits K other
-first_of_fewest air K own e other a h = leb-false (commits K other) (commits K own) (both_not (is_active air other) _ (below_none _ own e other h) a)
+first-of-fewest : (air : Air) (K : List Entry) (own : ℕ) → none_as_few air K own own ≡ true → (other : ℕ) → is_active air other ≡ true → other < own → commits K own < commits K other
+first-of-fewest air K own e other a h = leb-false (commits K other) (commits K own) (both-not (is_active air other) _ (below-none _ own e other h) a)
 
-not_uneven : (air : Air) → IsSound air → (K : List Entry) → is_even air K ≡ true → IsUneven air K → ⊥
-not_uneven air sound K e u =
-    let few = not_not _ (both_not (is_active air u.fewer) _ (below_none _ air.count e u.fewer (sound.counted u.fewer u.active_fewer)) u.active_fewer) in
-    let more : commits K u.more ≤ commits K u.fewer = ltb-false (commits K u.fewer) (commits K u.more) (both_not (is_active air u.more) _ (below_none _ air.count few u.more (sound.counted u.more u.active_more)) u.active_more) in
+not-uneven : (air : Air) → IsSound air → (K : List Entry) → is_even air K ≡ true → IsUneven air K → ⊥
+not-uneven air sound K e u =
+    let few = not-not _ (both-not (is_active air u.fewer) _ (below-none _ air.count e u.fewer (sound.counted u.fewer u.active_fewer)) u.active_fewer) in
+    let more : commits K u.more ≤ commits K u.fewer = ltb-false (commits K u.fewer) (commits K u.more) (both-not (is_active air u.more) _ (below-none _ air.count few u.more (sound.counted u.more u.active_more)) u.active_more) in
     let below : commits K u.fewer < commits K u.more = u.below in
     omega arith
 
@@ -186,26 +186,26 @@ comes air K (Send own target number word) = may_come air K (Send own target numb
 comes air K (Take own send copy good) =
     may_come air K (Take own send copy good) && (is_even air K && (no_message air K air.count && (no_copy_to air K own && (no_copy_before air K own send && none_below (λ before. is_due air K own send before) copy))))
 
-may_send : (air : Air) (K : List Entry) (own target number word : ℕ) → may_come air K (Send own target number word) ≡ true → corrected air K (Send own target number word) ≡ Send own target number word → MaySend air K own target number word
-may_send air K own target number word e f =
+may-send : (air : Air) (K : List Entry) (own target number word : ℕ) → may_come air K (Send own target number word) ≡ true → corrected air K (Send own target number word) ≡ Send own target number word → MaySend air K own target number word
+may-send air K own target number word e f =
     let parts = and_parts (is_active air own) _ e in
     let rest = and_parts (is_some (owed air K own target)) _ parts.1 in
-    let some = some_where (owed air K own target) rest.0 in
+    let some = some-where (owed air K own target) rest.0 in
     record {
       active = parts.0;
       message = some.0;
-      first_owed = record { owes = some.1; first = λ before h. none_where _ (below_none (λ before. is_some (owed air K own before)) target rest.1 before h) };
+      first_owed = record { owes = some.1; first = λ before h. none-where _ (below-none (λ before. is_some (owed air K own before)) target rest.1 before h) };
       number_is = let g : sends K own target + 1 ≡ number = cc in sym g;
       word_is = let g : word_of air (owed air K own target) ≡ word = cc in sym g ∙ ap (word_of air) some.1;
     }
 
-may_take : (air : Air) (K : List Entry) (own send copy : ℕ) (good : Bool) → may_come air K (Take own send copy good) ≡ true → corrected air K (Take own send copy good) ≡ Take own send copy good → MayTake air K own send copy good
-may_take air K own send copy good e f =
+may-take : (air : Air) (K : List Entry) (own send copy : ℕ) (good : Bool) → may_come air K (Take own send copy good) ≡ true → corrected air K (Take own send copy good) ≡ Take own send copy good → MayTake air K own send copy good
+may-take air K own send copy good e f =
     let parts = and_parts (is_active air own) _ e in
     record { active = parts.0; due = parts.1; good_is = let g : is_some (read_copy air (sent_at K send) copy) ≡ good = cc in sym g }
 
-pub allowed_by : (air : Air) → IsSound air → (K : List Entry) (x : Entry) → may_come air K x ≡ true → corrected air K x ≡ x → IsAllowed air K x
-allowed_by air sound K (Commit own cycle cells) e f =
+pub allowed-by : (air : Air) → IsSound air → (K : List Entry) (x : Entry) → may_come air K x ≡ true → corrected air K x ≡ x → IsAllowed air K x
+allowed-by air sound K (Commit own cycle cells) e f =
     let active = and_parts (is_active air own) _ e in
     let left = and_parts (nat_lt (commits K own) air.cycles) _ active.1 in
     let owes = and_parts (owes_nobody air K own) _ left.1 in
@@ -217,59 +217,59 @@ allowed_by air sound K (Commit own cycle cells) e f =
       active = active.0;
       cycle_is = sym next;
       in_run = omega arith;
-      owes_nothing = owes_nothing air sound K own owes.0;
-      nothing_due = nothing_due air sound K own due.0;
+      owes-nothing = owes-nothing air sound K own owes.0;
+      nothing-due = nothing-due air sound K own due.0;
       not_ahead = fewest air sound K own due.1;
       cells_are = sym same;
     }
-allowed_by air sound K (Send own target number word) e f = may_send air K own target number word e f
-allowed_by air sound K (Take own send copy good) e f = may_take air K own send copy good e f
+allowed-by air sound K (Send own target number word) e f = may-send air K own target number word e f
+allowed-by air sound K (Take own send copy good) e f = may-take air K own send copy good e f
 
-time_to_commit : (air : Air) → IsSound air → (K : List Entry) (own : ℕ) → is_active air own ≡ true → is_time air K own ≡ true → IsTimeToCommit air K own
-time_to_commit air sound K own a e = elim (cases_Bool (none_more air K own)) [
+time-to-commit : (air : Air) → IsSound air → (K : List Entry) (own : ℕ) → is_active air own ≡ true → is_time air K own ≡ true → IsTimeToCommit air K own
+time-to-commit air sound K own a e = elim (cases_Bool (none_more air K own)) [
   | inl y ↦
       let idle = and_parts (no_message air K air.count) _ (sym (ap (λ b. not b || (no_message air K air.count && (no_copy_to air K air.count && nat_lt (commits K own) air.cycles))) y) ∙ e) in
       let rest = and_parts (no_copy_to air K air.count) _ idle.1 in
       inr (
-        record { nobody_owes = nobody_owing air sound K idle.0; nobody_is_due = λ i b. none_due_to air sound K air.count rest.0 i (sound.counted i b) b },
+        record { nobody-owes = nobody-owing air sound K idle.0; nobody_is_due = λ i b. none-due-to air sound K air.count rest.0 i (sound.counted i b) b },
         ltb-true (commits K own) air.cycles rest.1,
       )
   | inr n ↦
-      let some = below_some _ air.count n in
+      let some = below-some _ air.count n in
       let parts = and_parts (is_active air some.at) _ some.passes in
       inl (record { fewer = own; more = some.at; active_fewer = a; active_more = parts.0; below = ltb-true (commits K own) (commits K some.at) parts.1 })
 ]
 
-pub next_by : (air : Air) → IsSound air → (K : List Entry) (x : Entry) → comes air K x ≡ true → corrected air K x ≡ x → ComesNext air K x
-next_by air sound K (Commit own cycle cells) e f =
+pub next-by : (air : Air) → IsSound air → (K : List Entry) (x : Entry) → comes air K x ≡ true → corrected air K x ≡ x → ComesNext air K x
+next-by air sound K (Commit own cycle cells) e f =
     let active = and_parts (is_active air own) _ e in
     let few = and_parts (none_fewer air K own air.count) _ active.1 in
     let first = and_parts (none_as_few air K own own) _ few.1 in
     let next : commits K own + 1 ≡ cycle = cc in
     let same : cells_for air K own ≡ cells = cc in
     record {
-      slowest = record { active = active.0; fewest = fewest air sound K own few.0; first = first_of_fewest air K own first.0 };
-      time = time_to_commit air sound K own active.0 first.1;
+      slowest = record { active = active.0; fewest = fewest air sound K own few.0; first = first-of-fewest air K own first.0 };
+      time = time-to-commit air sound K own active.0 first.1;
       cycle_is = sym next;
       cells_are = sym same;
     }
-next_by air sound K (Send own target number word) e f =
+next-by air sound K (Send own target number word) e f =
     let may = and_parts (may_come air K (Send own target number word)) _ e in
     let even = and_parts (is_even air K) _ may.1 in
-    record { even = not_uneven air sound K even.0; allowed = may_send air K own target number word may.0 f; first = owing_none air sound K own even.1 }
-next_by air sound K (Take own send copy good) e f =
+    record { even = not-uneven air sound K even.0; allowed = may-send air K own target number word may.0 f; first = owing-none air sound K own even.1 }
+next-by air sound K (Take own send copy good) e f =
     let may = and_parts (may_come air K (Take own send copy good)) _ e in
     let even = and_parts (is_even air K) _ may.1 in
     let owes = and_parts (no_message air K air.count) _ even.1 in
     let others = and_parts (no_copy_to air K own) _ owes.1 in
     let sends = and_parts (no_copy_before air K own send) _ others.1 in
     record {
-      even = not_uneven air sound K even.0;
-      nobody_owes = nobody_owing air sound K owes.0;
-      allowed = may_take air K own send copy good may.0 f;
-      first = λ before h a. none_due_to air sound K own others.0 before h a;
-      first_send = λ before h. none_due_before air sound K own send sends.0 before h;
-      first_copy = below_none (λ before. is_due air K own send before) copy sends.1;
+      even = not-uneven air sound K even.0;
+      nobody-owes = nobody-owing air sound K owes.0;
+      allowed = may-take air K own send copy good may.0 f;
+      first = λ before h a. none-due-to air sound K own others.0 before h a;
+      first_send = λ before h. none-due-before air sound K own send sends.0 before h;
+      first_copy = below-none (λ before. is_due air K own send before) copy sends.1;
     }
 
 -- ---- whole journals
@@ -286,50 +286,50 @@ abbrev pub all_come : Air → List Entry → Bool
 all_come air [] = true
 all_come air (x ∷ K) = comes air K x && all_come air K
 
-pub legal_by : (air : Air) → IsSound air → (J : List Entry) → all_may_come air J ≡ true → all_corrected air J ≡ J → IsLegal air J
-legal_by air sound [] e f = empty
-legal_by air sound (x ∷ K) e f =
+pub legal-by : (air : Air) → IsSound air → (J : List Entry) → all_may_come air J ≡ true → all_corrected air J ≡ J → IsLegal air J
+legal-by air sound [] e f = empty
+legal-by air sound (x ∷ K) e f =
     let parts = and_parts (may_come air K x) (all_may_come air K) e in
     let same : corrected air K x ≡ x = cc in
     let rest : all_corrected air K ≡ K = cc in
-    extended (legal_by air sound K parts.1 rest) (allowed_by air sound K x parts.0 same)
+    extended (legal-by air sound K parts.1 rest) (allowed-by air sound K x parts.0 same)
 
-pub in_order_by : (air : Air) → IsSound air → (J : List Entry) → all_come air J ≡ true → all_corrected air J ≡ J → IsInOrder air J
-in_order_by air sound [] e f = started
-in_order_by air sound (x ∷ K) e f =
+pub in-order-by : (air : Air) → IsSound air → (J : List Entry) → all_come air J ≡ true → all_corrected air J ≡ J → IsInOrder air J
+in-order-by air sound [] e f = started
+in-order-by air sound (x ∷ K) e f =
     let parts = and_parts (comes air K x) (all_come air K) e in
     let same : corrected air K x ≡ x = cc in
     let rest : all_corrected air K ≡ K = cc in
-    followed (in_order_by air sound K parts.1 rest) (next_by air sound K x parts.0 same)
+    followed (in-order-by air sound K parts.1 rest) (next-by air sound K x parts.0 same)
 
 -- Nothing comes after it.
 abbrev pub is_over : Air → List Entry → Bool
 is_over air J = is_even air J && (no_message air J air.count && (no_copy_to air J air.count && none_below (λ own. is_active air own && nat_lt (commits J own) air.cycles) air.count))
 
-over_by : (air : Air) → IsSound air → (J : List Entry) → is_over air J ≡ true → (x : Entry) → ComesNext air J x → ⊥
-over_by air sound J e (Commit own cycle cells) n = at n.time
+over-by : (air : Air) → IsSound air → (J : List Entry) → is_over air J ≡ true → (x : Entry) → ComesNext air J x → ⊥
+over-by air sound J e (Commit own cycle cells) n = at n.time
   where
     left : own < air.count
     left = sound.counted own n.slowest.active
 
     at : IsTimeToCommit air J own → ⊥
-    at (inl u) = not_uneven air sound J (and_parts (is_even air J) _ e).0 u
+    at (inl u) = not-uneven air sound J (and_parts (is_even air J) _ e).0 u
     at (inr (i, h)) =
         let parts = and_parts (no_copy_to air J air.count) _ (and_parts (no_message air J air.count) _ (and_parts (is_even air J) _ e).1).1 in
-        let all : air.cycles ≤ commits J own = ltb-false (commits J own) air.cycles (both_not (is_active air own) _ (below_none _ air.count parts.1 own left) n.slowest.active) in
+        let all : air.cycles ≤ commits J own = ltb-false (commits J own) air.cycles (both-not (is_active air own) _ (below-none _ air.count parts.1 own left) n.slowest.active) in
         omega arith
-over_by air sound J e (Send own target number word) n =
+over-by air sound J e (Send own target number word) n =
     let owes = and_parts (no_message air J air.count) _ (and_parts (is_even air J) _ e).1 in
-    let f : None ≡ Some n.allowed.message = sym (nobody_owing air sound J owes.0 own target) ∙ n.allowed.first_owed.owes in
+    let f : None ≡ Some n.allowed.message = sym (nobody-owing air sound J owes.0 own target) ∙ n.allowed.first_owed.owes in
     cc
-over_by air sound J e (Take own send copy good) n =
+over-by air sound J e (Take own send copy good) n =
     let due = and_parts (no_copy_to air J air.count) _ (and_parts (no_message air J air.count) _ (and_parts (is_even air J) _ e).1).1 in
-    let none = none_due_to air sound J air.count due.0 own (sound.counted own n.allowed.active) n.allowed.active in
+    let none = none-due-to air sound J air.count due.0 own (sound.counted own n.allowed.active) n.allowed.active in
     let f : false ≡ true = sym (none send copy) ∙ n.allowed.due in
     cc
 
-pub serial_by : (air : Air) → IsSound air → (J : List Entry) → all_come air J ≡ true → all_corrected air J ≡ J → is_over air J ≡ true → IsSerial air J
-serial_by air sound J e f o = record { in_order = in_order_by air sound J e f; ended = over_by air sound J o }
+pub serial-by : (air : Air) → IsSound air → (J : List Entry) → all_come air J ≡ true → all_corrected air J ≡ J → is_over air J ≡ true → IsSerial air J
+serial-by air sound J e f o = record { in_order = in-order-by air sound J e f; ended = over-by air sound J o }
 
 -- ---- takes in order
 
@@ -345,50 +345,50 @@ takes_rise (Commit who cycle cells ∷ K) own = takes_rise K own
 takes_rise (Send who target number word ∷ K) own = takes_rise K own
 takes_rise (Take who send copy good ∷ K) own = (not (eqb who own) || takes_below K own send) && takes_rise K own
 
-not_or : (a b : Bool) → (not a || b) ≡ true → a ≡ true → b ≡ true
-not_or true b e h = e
-not_or false b e h = absurd (cc)
+not-or : (a b : Bool) → (not a || b) ≡ true → a ≡ true → b ≡ true
+not-or true b e h = e
+not-or false b e h = absurd (cc)
 
-taken_below : (K : List Entry) (own n s c : ℕ) → takes_below K own n ≡ true → was_taken K own s c ≡ true → s < n
-taken_below [] own n s c e t = absurd (cc)
-taken_below (Commit who cycle cells ∷ K) own n s c e t = taken_below K own n s c e t
-taken_below (Send who target number word ∷ K) own n s c e t = taken_below K own n s c e t
-taken_below (Take who send copy good ∷ K) own n s c e t =
+taken-below : (K : List Entry) (own n s c : ℕ) → takes_below K own n ≡ true → was_taken K own s c ≡ true → s < n
+taken-below [] own n s c e t = absurd (cc)
+taken-below (Commit who cycle cells ∷ K) own n s c e t = taken-below K own n s c e t
+taken-below (Send who target number word ∷ K) own n s c e t = taken-below K own n s c e t
+taken-below (Take who send copy good ∷ K) own n s c e t =
     let parts = and_parts (not (eqb who own) || nat_lt send n) (takes_below K own n) e in
-    let ih = taken_below K own n s c parts.1 in
+    let ih = taken-below K own n s c parts.1 in
     elim (or_cases (is_take_of own s c (Take who send copy good)) (was_taken K own s c) t) [
       | inl y ↦
           let same = and_parts (eqb who own) _ y in
           let sends = and_parts (eqb send s) _ same.1 in
           let q : send ≡ s = eqb-true send s sends.0 in
-          let h : send < n = ltb-true send n (not_or (eqb who own) _ parts.0 same.0) in
+          let h : send < n = ltb-true send n (not-or (eqb who own) _ parts.0 same.0) in
           omega arith
       | inr k ↦ ih k
     ]
 
-take_in : {x : Entry} {K : List Entry} (own s c : ℕ) (g : Bool) (L : List Entry) → Begins (Take own s c g ∷ L) (x ∷ K) → (Take own s c g ∷ L ≡ x ∷ K) ⊎ Begins (Take own s c g ∷ L) K
-take_in own s c g L whole = inl refl
-take_in own s c g L (more b) = inr b
+take-in : {x : Entry} {K : List Entry} (own s c : ℕ) (g : Bool) (L : List Entry) → Begins (Take own s c g ∷ L) (x ∷ K) → (Take own s c g ∷ L ≡ x ∷ K) ⊎ Begins (Take own s c g ∷ L) K
+take-in own s c g L whole = inl refl
+take-in own s c g L (more b) = inr b
 
 rises : (J : List Entry) (own : ℕ) → takes_rise J own ≡ true → (L : List Entry) (s c : ℕ) (g : Bool) (p d : ℕ) → Begins (Take own s c g ∷ L) J → was_taken L own p d ≡ true → p < s
 rises [] own e L s c g p d b t = absurd (no_begin b)
   where
     no_begin : Begins (Take own s c g ∷ L) [] → ⊥
-    no_begin b = let h : length (Take own s c g ∷ L) ≤ 0 = begins_length (Take own s c g ∷ L) [] b in omega arith
-rises (Commit who cycle cells ∷ K) own e L s c g p d b t = elim (take_in own s c g L b) [ inl f ↦ absurd (cc) | inr in_K ↦ rises K own e L s c g p d in_K t ]
-rises (Send who target number word ∷ K) own e L s c g p d b t = elim (take_in own s c g L b) [ inl f ↦ absurd (cc) | inr in_K ↦ rises K own e L s c g p d in_K t ]
+    no_begin b = let h : length (Take own s c g ∷ L) ≤ 0 = begins-length (Take own s c g ∷ L) [] b in omega arith
+rises (Commit who cycle cells ∷ K) own e L s c g p d b t = elim (take-in own s c g L b) [ inl f ↦ absurd (cc) | inr in_K ↦ rises K own e L s c g p d in_K t ]
+rises (Send who target number word ∷ K) own e L s c g p d b t = elim (take-in own s c g L b) [ inl f ↦ absurd (cc) | inr in_K ↦ rises K own e L s c g p d in_K t ]
 rises (Take who send copy good ∷ K) own e L s c g p d b t =
     let parts = and_parts (not (eqb who own) || takes_below K own send) (takes_rise K own) e in
     let ih = rises K own parts.1 L s c g p d in
-    elim (take_in own s c g L b) [
+    elim (take-in own s c g L b) [
       | inl f ↦
           let o : own ≡ who = cc in
           let q : s ≡ send = cc in
           let l : L ≡ K = cc in
-          let h : p < send = taken_below K own send p d (not_or (eqb who own) _ parts.0 (eq-eqb who own (sym o))) (subst (λ (M : List Entry). was_taken M own p d ≡ true) l t) in
+          let h : p < send = taken-below K own send p d (not-or (eqb who own) _ parts.0 (eq-eqb who own (sym o))) (subst (λ (M : List Entry). was_taken M own p d ≡ true) l t) in
           omega arith
       | inr in_K ↦ ih in_K t
     ]
 
-pub in_order_of_takes : (J : List Entry) (own other : ℕ) → takes_rise J own ≡ true → TakesInOrder J own other
-in_order_of_takes J own other e L s c g p d b of t from = rises J own e L s c g p d b t
+pub in-order-of-takes : (J : List Entry) (own other : ℕ) → takes_rise J own ≡ true → TakesInOrder J own other
+in-order-of-takes J own other e L s c g p d b of t from = rises J own e L s c g p d b t

@@ -5,7 +5,7 @@ use Rattle.acas_base.specs.declared.advisory.Cells.{Cells}
 use Rattle.acas_base.specs.declared.advisory.ResMsg.{ResMsg}
 use Rattle.acas_base.specs.declared.advisory.Sense.TheVariants.{Down, Up}
 use Rattle.acas_base.specs.declared.advisory.Vrc.TheVariants.{Nil, NotAbove}
-use Rattle.air_rules.proofs.Deciding.{in_order_of_takes, legal_by, serial_by}
+use Rattle.air_rules.proofs.Deciding.{in-order-of-takes, legal-by, serial-by}
 use Rattle.air_rules.proofs.ExampleWords.{IsSender, apart, reads}
 use Rattle.air_rules.proofs.Legal.{allowed}
 use Rattle.air_rules.specs.Air.{IsMessageOf, IsSound, is_active, is_ra}
@@ -29,8 +29,8 @@ sender zero m is = inl is.sender
 sender (suc zero) m is = inr (inl is.sender)
 sender (suc (suc n)) m is = absurd (let e = is.resolves in cc)
 
-pub example_sound : IsSound example
-example_sound = record {
+pub example-sound : IsSound example
+example-sound = record {
   few = λ sender receiver number. omega arith;
   counted = counted;
   threatens = λ own other cycle e. e;
@@ -40,14 +40,14 @@ example_sound = record {
   apart = λ own sent copy plan message read is e r. apart message read plan.mask (sender own message is) r;
 }
 
-pub example_serial : IsSerial example worked
-example_serial = serial_by example example_sound worked refl refl refl
+pub example-serial : IsSerial example worked
+example-serial = serial-by example example-sound worked refl refl refl
 
-pub premises_met : MeetsPremises
-premises_met = record {
+pub premises-met : MeetsPremises
+premises-met = record {
   second = record { apart = λ e. omega (arith, e); rank = refl };
   plain = λ position sent was. refl;
-  in_order = in_order_of_takes worked 1 0 refl;
+  in_order = in-order-of-takes worked 1 0 refl;
   taken = refl;
   mine = refl;
   theirs = refl;
@@ -58,11 +58,11 @@ premises_met = record {
 
 -- ---- what is not legal
 
-pub wrong_sense_refused : IsLegal example (reverse wrong_sense) → ⊥
-wrong_sense_refused l = let f : Some Up ≡ Some Down = ap (λ (x : Cells). sense_of (cell_at x 0)) (allowed l).cells_are in cc
+pub wrong-sense-refused : IsLegal example (reverse wrong_sense) → ⊥
+wrong-sense-refused l = let f : Some Up ≡ Some Down = ap (λ (x : Cells). sense_of (cell_at x 0)) (allowed l).cells_are in cc
 
-pub wrong_word_refused : IsLegal example (reverse wrong_word) → ⊥
-wrong_word_refused l =
+pub wrong-word-refused : IsLegal example (reverse wrong_word) → ⊥
+wrong-word-refused l =
     let may = allowed l in
     let message : ResMsg = record { many = false; cancel = Nil; vrc = NotAbove; sender = 1 } in
     let owes : Some message ≡ Some may.message = may.first_owed.owes in
@@ -72,13 +72,13 @@ wrong_word_refused l =
     not_both : (word : ℕ) → 1001 ≡ word → word ≡ 2001 → ⊥
     not_both word e f = omega arith
 
-pub wrong_order_refused : IsLegal example (reverse wrong_order) → ⊥
-wrong_order_refused l = let f : false ≡ true = (allowed l).due in cc
+pub wrong-order-refused : IsLegal example (reverse wrong_order) → ⊥
+wrong-order-refused l = let f : false ≡ true = (allowed l).due in cc
 
-pub past_a_copy_refused : IsLegal example (reverse past_a_copy) → ⊥
-past_a_copy_refused l = let f : true ≡ false = (allowed l).nothing_due 3 0 in cc
+pub past-a-copy-refused : IsLegal example (reverse past_a_copy) → ⊥
+past-a-copy-refused l = let f : true ≡ false = (allowed l).nothing_due 3 0 in cc
 
 -- ---- what is legal, though not serial
 
-pub twice_legal : IsTwiceEqual
-twice_legal = record { legal = legal_by example example_sound (reverse twice_equal) refl refl; run = refl; both = refl }
+pub twice-legal : IsTwiceEqual
+twice-legal = record { legal = legal-by example example-sound (reverse twice_equal) refl refl; run = refl; both = refl }

@@ -12,14 +12,14 @@ earlier (extended l a) = l
 pub allowed : {air : Air} {entry : Entry} {K : List Entry} → IsLegal air (entry ∷ K) → IsAllowed air K entry
 allowed (extended l a) = a
 
-pub legal_begins : (air : Air) {K J : List Entry} → Begins K J → IsLegal air J → IsLegal air K
-legal_begins air whole l = l
-legal_begins air (more b) l = legal_begins air b (earlier l)
+pub legal-begins : (air : Air) {K J : List Entry} → Begins K J → IsLegal air J → IsLegal air K
+legal-begins air whole l = l
+legal-begins air (more b) l = legal-begins air b (earlier l)
 
 -- So is what is before the last commit of an aircraft.
-pub legal_before : (air : Air) (K : List Entry) (i : ℕ) → IsLegal air K → IsLegal air (before_last_commit K i)
-legal_before air [] i l = l
-legal_before air (Commit own cycle cells ∷ K) i l =
-    elim (eqb own i) as (λ b. IsLegal air (cond b K (before_last_commit K i))) [ true ↦ earlier l | false ↦ legal_before air K i (earlier l) ]
-legal_before air (Send own target number word ∷ K) i l = legal_before air K i (earlier l)
-legal_before air (Take own send copy good ∷ K) i l = legal_before air K i (earlier l)
+pub legal-before : (air : Air) (K : List Entry) (i : ℕ) → IsLegal air K → IsLegal air (before_last_commit K i)
+legal-before air [] i l = l
+legal-before air (Commit own cycle cells ∷ K) i l =
+    elim (eqb own i) as (λ b. IsLegal air (cond b K (before_last_commit K i))) [ true ↦ earlier l | false ↦ legal-before air K i (earlier l) ]
+legal-before air (Send own target number word ∷ K) i l = legal-before air K i (earlier l)
+legal-before air (Take own send copy good ∷ K) i l = legal-before air K i (earlier l)

@@ -2,7 +2,7 @@
 use Rattle.std.proofs.Common.{◌≡◌, ◌⊎◌, ℕ, ◌+◌, ◌≤◌, true, List, is_some, refl, arith, inl, inr}
 use Rattle.std.proofs.lemmas.Bool.{cases_lt}
 use Rattle.acas_base.specs.declared.entry.Entry.{Entry}
-use Rattle.air_rules.proofs.Waiting.{FirstDueTo, FirstOwing, commits_within, first_due_to, first_owing, owed_within, slowest}
+use Rattle.air_rules.proofs.Waiting.{FirstDueTo, FirstOwing, commits-within, first-due-to, first-owing, owed-within, slowest}
 use Rattle.air_rules.specs.Air.{Air, IsSound, is_active}
 use Rattle.air_rules.specs.Due.{NobodyIsDue}
 use Rattle.air_rules.specs.Journal.{commits, sends, sent_at}
@@ -12,8 +12,8 @@ use Rattle.air_rules.specs.Rules.{IsLegal, cells_for}
 use Rattle.air_rules.specs.Serial.{IsSlowest}
 use Rattle.air_rules.specs.Takes.{read_copy}
 
-pub never_stuck : (air : Air) (J : List Entry) → IsSound air → IsLegal air J → IsNeverStuck air J
-never_stuck air J sound l = at_sends (first_owing air sound J)
+pub never-stuck : (air : Air) (J : List Entry) → IsSound air → IsLegal air J → IsNeverStuck air J
+never-stuck air J sound l = at_sends (first-owing air sound J)
   where
     at_commits : NobodyOwes air J → NobodyIsDue air J → ((k : ℕ) × IsSlowest air J k) ⊎ ((i : ℕ) → is_active air i ≡ true → ⊥) → IsNeverStuck air J
     at_commits owes due (inr none) = inl (λ i a. absurd (none i a))
@@ -28,7 +28,7 @@ never_stuck air J sound l = at_sends (first_owing air sound J)
         cells_are = refl;
       }))
       | inr h ↦ inl (λ i ai.
-          let up : commits J i ≤ air.cycles = commits_within air J l i in
+          let up : commits J i ≤ air.cycles = commits-within air J l i in
           let down : commits J k ≤ commits J i = slow.fewest i ai in
           record { all_cycles = omega arith; owes_nothing = owes i })
     ]
@@ -43,10 +43,10 @@ never_stuck air J sound l = at_sends (first_owing air sound J)
     at_sends (inl (k, f)) =
         let o = f.holds in
         inr (by_send k o.target (sends J k o.target + 1) (air.word o.message) (record {
-          active = (owed_within air sound J k o.target o.message o.first.owes).active;
+          active = (owed-within air sound J k o.target o.message o.first.owes).active;
           message = o.message;
           first_owed = o.first;
           number_is = refl;
           word_is = refl;
         }))
-    at_sends (inr none) = at_takes none (first_due_to air sound J)
+    at_sends (inr none) = at_takes none (first-due-to air sound J)

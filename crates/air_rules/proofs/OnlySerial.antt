@@ -24,92 +24,92 @@ slower air K i j one two h =
     let b : commits K i ≤ commits K j = one.fewest j two.active in
     omega arith
 
-owes_then : (air : Air) (K : List Entry) (i j number word : ℕ) → MaySend air K i j number word → owed air K i j ≡ None → ⊥
-owes_then air K i j number word may none = let e : None ≡ Some may.message = sym none ∙ may.first_owed.owes in cc
+owes-then : (air : Air) (K : List Entry) (i j number word : ℕ) → MaySend air K i j number word → owed air K i j ≡ None → ⊥
+owes-then air K i j number word may none = let e : None ≡ Some may.message = sym none ∙ may.first_owed.owes in cc
 
-due_then : (air : Air) (K : List Entry) (i p c : ℕ) (good : Bool) → MayTake air K i p c good → is_due air K i p c ≡ false → ⊥
-due_then air K i p c good may none = let e : false ≡ true = sym none ∙ may.due in cc
+due-then : (air : Air) (K : List Entry) (i p c : ℕ) (good : Bool) → MayTake air K i p c good → is_due air K i p c ≡ false → ⊥
+due-then air K i p c good may none = let e : false ≡ true = sym none ∙ may.due in cc
 
-commit_send : (air : Air) (K : List Entry) (a b : ℕ) (cells : Cells) (i j number word : ℕ) → CommitsNext air K a b cells → SendsNext air K i j number word → ⊥
-commit_send air K a b cells i j number word one two = go one.time
+commit-send : (air : Air) (K : List Entry) (a b : ℕ) (cells : Cells) (i j number word : ℕ) → CommitsNext air K a b cells → SendsNext air K i j number word → ⊥
+commit-send air K a b cells i j number word one two = go one.time
   where
     go : IsTimeToCommit air K a → ⊥
     go (inl u) = two.even u
-    go (inr (idle, left)) = owes_then air K i j number word two.allowed (idle.nobody_owes i j)
+    go (inr (idle, left)) = owes-then air K i j number word two.allowed (idle.nobody_owes i j)
 
-commit_take : (air : Air) (K : List Entry) (a b : ℕ) (cells : Cells) (i p c : ℕ) (good : Bool) → CommitsNext air K a b cells → TakesNext air K i p c good → ⊥
-commit_take air K a b cells i p c good one two = go one.time
+commit-take : (air : Air) (K : List Entry) (a b : ℕ) (cells : Cells) (i p c : ℕ) (good : Bool) → CommitsNext air K a b cells → TakesNext air K i p c good → ⊥
+commit-take air K a b cells i p c good one two = go one.time
   where
     go : IsTimeToCommit air K a → ⊥
     go (inl u) = two.even u
-    go (inr (idle, left)) = due_then air K i p c good two.allowed (idle.nobody_is_due i two.allowed.active p c)
+    go (inr (idle, left)) = due-then air K i p c good two.allowed (idle.nobody_is_due i two.allowed.active p c)
 
-send_take : (air : Air) (K : List Entry) (i j number word a p c : ℕ) (good : Bool) → SendsNext air K i j number word → TakesNext air K a p c good → ⊥
-send_take air K i j number word a p c good one two = owes_then air K i j number word one.allowed (two.nobody_owes i j)
+send-take : (air : Air) (K : List Entry) (i j number word a p c : ℕ) (good : Bool) → SendsNext air K i j number word → TakesNext air K a p c good → ⊥
+send-take air K i j number word a p c good one two = owes-then air K i j number word one.allowed (two.nobody_owes i j)
 
-commit_once : (air : Air) (K : List Entry) (i j b d : ℕ) (cells others : Cells) → CommitsNext air K i b cells → CommitsNext air K j d others → Commit i b cells ≡ Commit j d others
-commit_once air K i j b d cells others one two =
+commit-once : (air : Air) (K : List Entry) (i j b d : ℕ) (cells others : Cells) → CommitsNext air K i b cells → CommitsNext air K j d others → Commit i b cells ≡ Commit j d others
+commit-once air K i j b d cells others one two =
     let own : i ≡ j = neither i j (slower air K i j one.slowest two.slowest) (slower air K j i two.slowest one.slowest) in
     let cycle : b ≡ d = one.cycle_is ∙ ap (λ (k : ℕ). commits K k + 1) own ∙ sym two.cycle_is in
     let same : cells ≡ others = one.cells_are ∙ ap (cells_for air K) own ∙ sym two.cells_are in
     λ t. Commit (own t) (cycle t) (same t)
 
-send_once : (air : Air) (K : List Entry) (i j n w k l m v : ℕ) → SendsNext air K i j n w → SendsNext air K k l m v → Send i j n w ≡ Send k l m v
-send_once air K i j n w k l m v one two =
-    let own : i ≡ k = neither i k (λ h. owes_then air K i j n w one.allowed (two.first i h j)) (λ h. owes_then air K k l m v two.allowed (one.first k h l)) in
+send-once : (air : Air) (K : List Entry) (i j n w k l m v : ℕ) → SendsNext air K i j n w → SendsNext air K k l m v → Send i j n w ≡ Send k l m v
+send-once air K i j n w k l m v one two =
+    let own : i ≡ k = neither i k (λ h. owes-then air K i j n w one.allowed (two.first i h j)) (λ h. owes-then air K k l m v two.allowed (one.first k h l)) in
     let f = one.allowed.first_owed in
     let g = two.allowed.first_owed in
     let to : j ≡ l = neither j l
-    (λ h. owes_then air K i j n w one.allowed (subst (λ (x : ℕ). owed air K x j ≡ None) (sym own) (g.first j h)))
-    (λ h. owes_then air K k l m v two.allowed (subst (λ (x : ℕ). owed air K x l ≡ None) own (f.first l h))) in
+    (λ h. owes-then air K i j n w one.allowed (subst (λ (x : ℕ). owed air K x j ≡ None) (sym own) (g.first j h)))
+    (λ h. owes-then air K k l m v two.allowed (subst (λ (x : ℕ). owed air K x l ≡ None) own (f.first l h))) in
     let message : Some one.allowed.message ≡ Some two.allowed.message = sym f.owes ∙ ap₂ (λ (x y : ℕ). owed air K x y) own to ∙ g.owes in
     let what : one.allowed.message ≡ two.allowed.message = cc in
     let number : n ≡ m = one.allowed.number_is ∙ ap₂ (λ (x y : ℕ). sends K x y + 1) own to ∙ sym two.allowed.number_is in
     let word : w ≡ v = one.allowed.word_is ∙ ap air.word what ∙ sym two.allowed.word_is in
     λ t. Send (own t) (to t) (number t) (word t)
 
-take_once : (air : Air) (K : List Entry) (i p c k q d : ℕ) (good fine : Bool) → TakesNext air K i p c good → TakesNext air K k q d fine → Take i p c good ≡ Take k q d fine
-take_once air K i p c k q d good fine one two =
-    let own : i ≡ k = neither i k (λ h. due_then air K i p c good one.allowed (two.first i h one.allowed.active p c)) (λ h. due_then air K k q d fine two.allowed (one.first k h two.allowed.active q d)) in
+take-once : (air : Air) (K : List Entry) (i p c k q d : ℕ) (good fine : Bool) → TakesNext air K i p c good → TakesNext air K k q d fine → Take i p c good ≡ Take k q d fine
+take-once air K i p c k q d good fine one two =
+    let own : i ≡ k = neither i k (λ h. due-then air K i p c good one.allowed (two.first i h one.allowed.active p c)) (λ h. due-then air K k q d fine two.allowed (one.first k h two.allowed.active q d)) in
     let send : p ≡ q = neither p q
-    (λ h. due_then air K i p c good one.allowed (subst (λ (x : ℕ). is_due air K x p c ≡ false) (sym own) (two.first_send p h c)))
-    (λ h. due_then air K k q d fine two.allowed (subst (λ (x : ℕ). is_due air K x q d ≡ false) own (one.first_send q h d))) in
+    (λ h. due-then air K i p c good one.allowed (subst (λ (x : ℕ). is_due air K x p c ≡ false) (sym own) (two.first_send p h c)))
+    (λ h. due-then air K k q d fine two.allowed (subst (λ (x : ℕ). is_due air K x q d ≡ false) own (one.first_send q h d))) in
     let copy : c ≡ d = neither c d
-    (λ h. due_then air K i p c good one.allowed (ap₂ (λ (x y : ℕ). is_due air K x y c) own send ∙ two.first_copy c h))
-    (λ h. due_then air K k q d fine two.allowed (ap₂ (λ (x y : ℕ). is_due air K x y d) (sym own) (sym send) ∙ one.first_copy d h)) in
+    (λ h. due-then air K i p c good one.allowed (ap₂ (λ (x y : ℕ). is_due air K x y c) own send ∙ two.first_copy c h))
+    (λ h. due-then air K k q d fine two.allowed (ap₂ (λ (x y : ℕ). is_due air K x y d) (sym own) (sym send) ∙ one.first_copy d h)) in
     let is : good ≡ fine = one.allowed.good_is ∙ ap₂ (λ (x y : ℕ). is_some (read_copy air (sent_at K x) y)) send copy ∙ sym two.allowed.good_is in
     λ t. Take (own t) (send t) (copy t) (is t)
 
-pub comes_once : (air : Air) (K : List Entry) (x y : Entry) → ComesNext air K x → ComesNext air K y → x ≡ y
-comes_once air K (Commit i b cells) (Commit j d others) one two = commit_once air K i j b d cells others one two
-comes_once air K (Commit a b cells) (Send i j n w) one two = absurd (commit_send air K a b cells i j n w one two)
-comes_once air K (Commit a b cells) (Take i p c good) one two = absurd (commit_take air K a b cells i p c good one two)
-comes_once air K (Send i j n w) (Commit a b cells) one two = absurd (commit_send air K a b cells i j n w two one)
-comes_once air K (Send i j n w) (Send k l m v) one two = send_once air K i j n w k l m v one two
-comes_once air K (Send i j n w) (Take a p c good) one two = absurd (send_take air K i j n w a p c good one two)
-comes_once air K (Take i p c good) (Commit a b cells) one two = absurd (commit_take air K a b cells i p c good two one)
-comes_once air K (Take i p c good) (Send k l m v) one two = absurd (send_take air K k l m v i p c good two one)
-comes_once air K (Take i p c good) (Take k q d fine) one two = take_once air K i p c k q d good fine one two
+pub comes-once : (air : Air) (K : List Entry) (x y : Entry) → ComesNext air K x → ComesNext air K y → x ≡ y
+comes-once air K (Commit i b cells) (Commit j d others) one two = commit-once air K i j b d cells others one two
+comes-once air K (Commit a b cells) (Send i j n w) one two = absurd (commit-send air K a b cells i j n w one two)
+comes-once air K (Commit a b cells) (Take i p c good) one two = absurd (commit-take air K a b cells i p c good one two)
+comes-once air K (Send i j n w) (Commit a b cells) one two = absurd (commit-send air K a b cells i j n w two one)
+comes-once air K (Send i j n w) (Send k l m v) one two = send-once air K i j n w k l m v one two
+comes-once air K (Send i j n w) (Take a p c good) one two = absurd (send-take air K i j n w a p c good one two)
+comes-once air K (Take i p c good) (Commit a b cells) one two = absurd (commit-take air K a b cells i p c good two one)
+comes-once air K (Take i p c good) (Send k l m v) one two = absurd (send-take air K k l m v i p c good two one)
+comes-once air K (Take i p c good) (Take k q d fine) one two = take-once air K i p c k q d good fine one two
 
 -- ---- so journals in order differ by their length alone
 
-pub in_order_before : (air : Air) (x : Entry) (K : List Entry) → IsInOrder air (x ∷ K) → IsInOrder air K
-in_order_before air x K (followed o n) = o
+pub in-order-before : (air : Air) (x : Entry) (K : List Entry) → IsInOrder air (x ∷ K) → IsInOrder air K
+in-order-before air x K (followed o n) = o
 
-pub in_order_next : (air : Air) (x : Entry) (K : List Entry) → IsInOrder air (x ∷ K) → ComesNext air K x
-in_order_next air x K (followed o n) = n
+pub in-order-next : (air : Air) (x : Entry) (K : List Entry) → IsInOrder air (x ∷ K) → ComesNext air K x
+in-order-next air x K (followed o n) = n
 
-pub in_order_begins : (air : Air) (K J : List Entry) → Begins K J → IsInOrder air J → IsInOrder air K
-in_order_begins air K J whole o = o
-in_order_begins air K J (more {entry = x} {journal = L} b) o = in_order_begins air K L b (in_order_before air x L o)
+pub in-order-begins : (air : Air) (K J : List Entry) → Begins K J → IsInOrder air J → IsInOrder air K
+in-order-begins air K J whole o = o
+in-order-begins air K J (more {entry = x} {journal = L} b) o = in-order-begins air K L b (in-order-before air x L o)
 
-same_length : (air : Air) (J L : List Entry) → IsInOrder air J → IsInOrder air L → length J ≡ length L → J ≡ L
-same_length air [] [] o p e = refl
-same_length air [] (y ∷ L) o p e = absurd (omega arith)
-same_length air (x ∷ J) [] o p e = absurd (omega arith)
-same_length air (x ∷ J) (y ∷ L) o p e =
-    let rest : J ≡ L = same_length air J L (in_order_before air x J o) (in_order_before air y L p) (omega arith) in
-    let first : x ≡ y = comes_once air J x y (in_order_next air x J o) (subst (λ (K : List Entry). ComesNext air K y) (sym rest) (in_order_next air y L p)) in
+same-length : (air : Air) (J L : List Entry) → IsInOrder air J → IsInOrder air L → length J ≡ length L → J ≡ L
+same-length air [] [] o p e = refl
+same-length air [] (y ∷ L) o p e = absurd (omega arith)
+same-length air (x ∷ J) [] o p e = absurd (omega arith)
+same-length air (x ∷ J) (y ∷ L) o p e =
+    let rest : J ≡ L = same-length air J L (in-order-before air x J o) (in-order-before air y L p) (omega arith) in
+    let first : x ≡ y = comes-once air J x y (in-order-next air x J o) (subst (λ (K : List Entry). ComesNext air K y) (sym rest) (in-order-next air y L p)) in
     λ t. first t ∷ rest t
 
 -- The entry at a position, with the journal before it.
@@ -128,13 +128,13 @@ placed (x ∷ L) n h =
       | inr ne ↦ let p = ih (omega arith) in record { entry = p.entry; before = p.before; there = more p.there; position = p.position }
     ]
 
-no_longer : (air : Air) (J L : List Entry) → IsSerial air J → IsSerial air L → length J < length L → ⊥
-no_longer air J L one two h =
+no-longer : (air : Air) (J L : List Entry) → IsSerial air J → IsSerial air L → length J < length L → ⊥
+no-longer air J L one two h =
     let p = placed L (length J) h in
-    let o = in_order_begins air (p.entry ∷ p.before) L p.there two.in_order in
-    let same : p.before ≡ J = same_length air p.before J (in_order_before air p.entry p.before o) one.in_order p.position in
-    one.ended p.entry (subst (λ (K : List Entry). ComesNext air K p.entry) same (in_order_next air p.entry p.before o))
+    let o = in-order-begins air (p.entry ∷ p.before) L p.there two.in_order in
+    let same : p.before ≡ J = same-length air p.before J (in-order-before air p.entry p.before o) one.in_order p.position in
+    one.ended p.entry (subst (λ (K : List Entry). ComesNext air K p.entry) same (in-order-next air p.entry p.before o))
 
-pub only_serial : (air : Air) (J L : List Entry) → IsSerial air J → IsSerial air L → J ≡ L
-only_serial air J L one two =
-    same_length air J L one.in_order two.in_order (neither (length J) (length L) (no_longer air J L one two) (no_longer air L J two one))
+pub only-serial : (air : Air) (J L : List Entry) → IsSerial air J → IsSerial air L → J ≡ L
+only-serial air J L one two =
+    same-length air J L one.in_order two.in_order (neither (length J) (length L) (no-longer air J L one two) (no-longer air L J two one))

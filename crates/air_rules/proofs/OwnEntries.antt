@@ -12,11 +12,11 @@ use Rattle.air_rules.specs.Owed.{has_many_threats, said}
 use Rattle.air_rules.specs.Own.{AddsToOwn, CompletesByOwn, DependsOnOwn, KeepsOthers, LeavesOthers}
 use Rattle.air_rules.specs.Takes.{complement_read}
 
-pub keeps_others : KeepsOthers
-keeps_others x K i n = cond-false (eqb (owner_of x) i) _ _ (ne_eqb (owner_of x) i n)
+pub keeps-others : KeepsOthers
+keeps-others x K i n = cond-false (eqb (owner_of x) i) _ _ (ne_eqb (owner_of x) i n)
 
-pub adds_to_own : AddsToOwn
-adds_to_own x K = cond-true (eqb (owner_of x) (owner_of x)) _ _ (eq-eqb (owner_of x) (owner_of x) refl)
+pub adds-to-own : AddsToOwn
+adds-to-own x K = cond-true (eqb (owner_of x) (owner_of x)) _ _ (eq-eqb (owner_of x) (owner_of x) refl)
 
 -- A function of the journal that no entry of another aircraft changes, and to which the earlier entries matter only by
 -- its value.
@@ -24,50 +24,50 @@ record ByOwn (X : Type 0) (f : List Entry → X) (i : ℕ) : Type 0 where
   skips : (x : Entry) (K : List Entry) → eqb (owner_of x) i ≡ false → f (x ∷ K) ≡ f K
   follows : (x : Entry) (K M : List Entry) → f K ≡ f M → f (x ∷ K) ≡ f (x ∷ M)
 
-by_own : (X : Type 0) (f : List Entry → X) (i : ℕ) → ByOwn X f i → (K : List Entry) → f (entries_of K i) ≡ f K
-by_own X f i b [] = refl
-by_own X f i b (x ∷ K) =
-    let ih = by_own X f i b K in
+by-own : (X : Type 0) (f : List Entry → X) (i : ℕ) → ByOwn X f i → (K : List Entry) → f (entries_of K i) ≡ f K
+by-own X f i b [] = refl
+by-own X f i b (x ∷ K) =
+    let ih = by-own X f i b K in
     elim (cases_Bool (eqb (owner_of x) i)) [
       | inl y ↦ ap f (cond-true (eqb (owner_of x) i) (x ∷ entries_of K i) (entries_of K i) y) ∙ b.follows x (entries_of K i) K ih
       | inr n ↦ ap f (cond-false (eqb (owner_of x) i) (x ∷ entries_of K i) (entries_of K i) n) ∙ ih ∙ sym (b.skips x K n)
     ]
 
-count_own : (test : Entry → Bool) (i : ℕ) → ((x : Entry) → eqb (owner_of x) i ≡ false → test x ≡ false) → ByOwn ℕ (count_of test) i
-count_own test i none = record {
+count-own : (test : Entry → Bool) (i : ℕ) → ((x : Entry) → eqb (owner_of x) i ≡ false → test x ≡ false) → ByOwn ℕ (count_of test) i
+count-own test i none = record {
   skips = λ x K n. cond-false (test x) _ _ (none x n);
   follows = λ x K M e. ap (λ (n : ℕ). cond (test x) (n + 1) n) e;
 }
 
-no_commit : (i : ℕ) (x : Entry) → eqb (owner_of x) i ≡ false → is_commit_of i x ≡ false
-no_commit i (Commit own cycle cells) n = n
-no_commit i (Send own target number word) n = refl
-no_commit i (Take own send copy good) n = refl
+no-commit : (i : ℕ) (x : Entry) → eqb (owner_of x) i ≡ false → is_commit_of i x ≡ false
+no-commit i (Commit own cycle cells) n = n
+no-commit i (Send own target number word) n = refl
+no-commit i (Take own send copy good) n = refl
 
-no_send : (i j : ℕ) (x : Entry) → eqb (owner_of x) i ≡ false → is_send_of i j x ≡ false
-no_send i j (Commit own cycle cells) n = refl
-no_send i j (Send own target number word) n = and_left (eqb own i) _ n
-no_send i j (Take own send copy good) n = refl
+no-send : (i j : ℕ) (x : Entry) → eqb (owner_of x) i ≡ false → is_send_of i j x ≡ false
+no-send i j (Commit own cycle cells) n = refl
+no-send i j (Send own target number word) n = and_left (eqb own i) _ n
+no-send i j (Take own send copy good) n = refl
 
-no_take : (i p c : ℕ) (x : Entry) → eqb (owner_of x) i ≡ false → is_take_of i p c x ≡ false
-no_take i p c (Commit own cycle cells) n = refl
-no_take i p c (Send own target number word) n = refl
-no_take i p c (Take own send copy good) n = and_left (eqb own i) _ n
+no-take : (i p c : ℕ) (x : Entry) → eqb (owner_of x) i ≡ false → is_take_of i p c x ≡ false
+no-take i p c (Commit own cycle cells) n = refl
+no-take i p c (Send own target number word) n = refl
+no-take i p c (Take own send copy good) n = and_left (eqb own i) _ n
 
-commits_own : (i : ℕ) → ByOwn ℕ (λ K. commits K i) i
-commits_own i = count_own (is_commit_of i) i (no_commit i)
+commits-own : (i : ℕ) → ByOwn ℕ (λ K. commits K i) i
+commits-own i = count-own (is_commit_of i) i (no-commit i)
 
-sends_own : (i j : ℕ) → ByOwn ℕ (λ K. sends K i j) i
-sends_own i j = count_own (is_send_of i j) i (no_send i j)
+sends-own : (i j : ℕ) → ByOwn ℕ (λ K. sends K i j) i
+sends-own i j = count-own (is_send_of i j) i (no-send i j)
 
-taken_own : (i p c : ℕ) → ByOwn Bool (λ K. was_taken K i p c) i
-taken_own i p c = record {
-  skips = λ x K n. ap (λ (b : Bool). b || was_taken K i p c) (no_take i p c x n);
+taken-own : (i p c : ℕ) → ByOwn Bool (λ K. was_taken K i p c) i
+taken-own i p c = record {
+  skips = λ x K n. ap (λ (b : Bool). b || was_taken K i p c) (no-take i p c x n);
   follows = λ x K M e. ap (λ (b : Bool). is_take_of i p c x || b) e;
 }
 
-last_cell_own : (i j : ℕ) → ByOwn Cell (λ K. last_cell K i j) i
-last_cell_own i j = record { skips = skips; follows = follows }
+last-cell-own : (i j : ℕ) → ByOwn Cell (λ K. last_cell K i j) i
+last-cell-own i j = record { skips = skips; follows = follows }
   where
     skips : (x : Entry) (K : List Entry) → eqb (owner_of x) i ≡ false → last_cell (x ∷ K) i j ≡ last_cell K i j
     skips (Commit own cycle cells) K n = cond-false (eqb own i) _ _ n
@@ -79,8 +79,8 @@ last_cell_own i j = record { skips = skips; follows = follows }
     follows (Send own target number word) K M e = e
     follows (Take own send copy good) K M e = e
 
-said_own : (air : Air) (i j : ℕ) → ByOwn Vrc (λ K. said air K i j) i
-said_own air i j = record { skips = skips; follows = follows }
+said-own : (air : Air) (i j : ℕ) → ByOwn Vrc (λ K. said air K i j) i
+said-own air i j = record { skips = skips; follows = follows }
   where
     skips : (x : Entry) (K : List Entry) → eqb (owner_of x) i ≡ false → said air (x ∷ K) i j ≡ said air K i j
     skips (Commit own cycle cells) K n = refl
@@ -92,8 +92,8 @@ said_own air i j = record { skips = skips; follows = follows }
     follows (Send own target number word) K M e = ap (λ (v : Vrc). cond (eqb own i && eqb target j) (complement_read (air.read word)) v) e
     follows (Take own send copy good) K M e = e
 
-many_own : (i : ℕ) → ByOwn Bool (λ K. has_many_threats K i) i
-many_own i = record { skips = skips; follows = follows }
+many-own : (i : ℕ) → ByOwn Bool (λ K. has_many_threats K i) i
+many-own i = record { skips = skips; follows = follows }
   where
     skips : (x : Entry) (K : List Entry) → eqb (owner_of x) i ≡ false → has_many_threats (x ∷ K) i ≡ has_many_threats K i
     skips (Commit own cycle cells) K n = cond-false (eqb own i) _ _ n
@@ -105,8 +105,8 @@ many_own i = record { skips = skips; follows = follows }
     follows (Send own target number word) K M e = e
     follows (Take own send copy good) K M e = e
 
-has_sent_own : (i j : ℕ) → ByOwn Bool (λ K. has_sent K i j) i
-has_sent_own i j = record { skips = skips; follows = follows }
+has-sent-own : (i j : ℕ) → ByOwn Bool (λ K. has_sent K i j) i
+has-sent-own i j = record { skips = skips; follows = follows }
   where
     skips : (x : Entry) (K : List Entry) → eqb (owner_of x) i ≡ false → has_sent (x ∷ K) i j ≡ has_sent K i j
     skips (Commit own cycle cells) K n = cond-false (eqb own i) _ _ n
@@ -119,30 +119,30 @@ has_sent_own i j = record { skips = skips; follows = follows }
     follows (Take own send copy good) K M e = e
 
 -- The same of two journals with the same entries of i.
-same_by : (X : Type 0) (f : List Entry → X) (i : ℕ) → ByOwn X f i → (K M : List Entry) → entries_of K i ≡ entries_of M i → f K ≡ f M
-same_by X f i b K M e = sym (by_own X f i b K) ∙ ap f e ∙ by_own X f i b M
+same-by : (X : Type 0) (f : List Entry → X) (i : ℕ) → ByOwn X f i → (K M : List Entry) → entries_of K i ≡ entries_of M i → f K ≡ f M
+same-by X f i b K M e = sym (by-own X f i b K) ∙ ap f e ∙ by-own X f i b M
 
-pub depends_on_own : (air : Air) → DependsOnOwn air
-depends_on_own air K M i e =
-    let cell = λ (j : ℕ). same_by Cell (λ J. last_cell J i j) i (last_cell_own i j) K M e in
-    let say = λ (j : ℕ). same_by Vrc (λ J. said air J i j) i (said_own air i j) K M e in
-    let sent = λ (j : ℕ). same_by Bool (λ J. has_sent J i j) i (has_sent_own i j) K M e in
-    let many = same_by Bool (λ J. has_many_threats J i) i (many_own i) K M e in
+pub depends-on-own : (air : Air) → DependsOnOwn air
+depends-on-own air K M i e =
+    let cell = λ (j : ℕ). same-by Cell (λ J. last_cell J i j) i (last-cell-own i j) K M e in
+    let say = λ (j : ℕ). same-by Vrc (λ J. said air J i j) i (said-own air i j) K M e in
+    let sent = λ (j : ℕ). same-by Bool (λ J. has_sent J i j) i (has-sent-own i j) K M e in
+    let many = same-by Bool (λ J. has_many_threats J i) i (many-own i) K M e in
     record {
-      commits_are = same_by ℕ (λ J. commits J i) i (commits_own i) K M e;
+      commits_are = same-by ℕ (λ J. commits J i) i (commits-own i) K M e;
       cells_are = cell;
-      sends_are = λ j. same_by ℕ (λ J. sends J i j) i (sends_own i j) K M e;
+      sends_are = λ j. same-by ℕ (λ J. sends J i j) i (sends-own i j) K M e;
       said_is = say;
       has_sent_is = sent;
-      takes_are = λ p c. same_by Bool (λ J. was_taken J i p c) i (taken_own i p c) K M e;
+      takes_are = λ p c. same-by Bool (λ J. was_taken J i p c) i (taken-own i p c) K M e;
       owed_is = λ j. λ t. cond (is_ra air i && (is_ra air j && (not (eqb i j) && not (sent j t)))) (message_for (cell j t) (say j t) (many t) (air.address i)) None;
     }
 
-pub leaves_others : (air : Air) → LeavesOthers air
-leaves_others air x K i n = depends_on_own air (x ∷ K) K i (keeps_others x K i n)
+pub leaves-others : (air : Air) → LeavesOthers air
+leaves-others air x K i n = depends-on-own air (x ∷ K) K i (keeps-others x K i n)
 
-pub completes_by_own : (air : Air) → CompletesByOwn air
-completes_by_own air J somewhere i a =
+pub completes-by-own : (air : Air) → CompletesByOwn air
+completes-by-own air J somewhere i a =
     let s = somewhere i a in
-    let same = depends_on_own air s.front J i s.same in
+    let same = depends-on-own air s.front J i s.same in
     record { all_cycles = sym same.commits_are ∙ s.done.all_cycles; owes_nothing = λ j. sym (same.owed_is j) ∙ s.done.owes_nothing j }

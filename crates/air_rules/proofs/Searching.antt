@@ -11,9 +11,9 @@ pub record IsFirst (P Q : ℕ → Type 0) (k : ℕ) : Type 0 where
 abbrev pub AllBelow : (ℕ → Type 0) → ℕ → Type 0
 AllBelow Q n = (m : ℕ) → m < n → Q m
 
-pub first_of_all : (P Q : ℕ → Type 0) → ((k : ℕ) → P k ⊎ Q k) → (n : ℕ) → ((k : ℕ) × IsFirst P Q k) ⊎ AllBelow Q n
-first_of_all P Q d zero = inr (λ m h. absurd (omega arith))
-first_of_all P Q d (suc n) = go (first_of_all P Q d n) (d n)
+pub first-of-all : (P Q : ℕ → Type 0) → ((k : ℕ) → P k ⊎ Q k) → (n : ℕ) → ((k : ℕ) × IsFirst P Q k) ⊎ AllBelow Q n
+first-of-all P Q d zero = inr (λ m h. absurd (omega arith))
+first-of-all P Q d (suc n) = go (first-of-all P Q d n) (d n)
   where
     go : ((k : ℕ) × IsFirst P Q k) ⊎ AllBelow Q n → P n ⊎ Q n → ((k : ℕ) × IsFirst P Q k) ⊎ AllBelow Q (suc n)
     go (inl f) x = inl f
@@ -26,9 +26,9 @@ pub record IsLeast (f : ℕ → ℕ) (test : ℕ → Bool) (n k : ℕ) : Type 0 
   pub least : (m : ℕ) → m < n → test m ≡ true → f k ≤ f m
   pub first : (m : ℕ) → m < k → test m ≡ true → f k < f m
 
-pub least_of : (f : ℕ → ℕ) (test : ℕ → Bool) (n : ℕ) → ((k : ℕ) × IsLeast f test n k) ⊎ AllBelow (λ m. test m ≡ false) n
-least_of f test zero = inr (λ m h. absurd (omega arith))
-least_of f test (suc n) = go (least_of f test n) (cases_Bool (test n))
+pub least-of : (f : ℕ → ℕ) (test : ℕ → Bool) (n : ℕ) → ((k : ℕ) × IsLeast f test n k) ⊎ AllBelow (λ m. test m ≡ false) n
+least-of f test zero = inr (λ m h. absurd (omega arith))
+least-of f test (suc n) = go (least-of f test n) (cases_Bool (test n))
   where
     go : ((k : ℕ) × IsLeast f test n k) ⊎ AllBelow (λ m. test m ≡ false) n → (test n ≡ true) ⊎ (test n ≡ false) → ((k : ℕ) × IsLeast f test (suc n) k) ⊎ AllBelow (λ m. test m ≡ false) (suc n)
     go (inl (k, l)) (inr fails) = inl (
@@ -79,6 +79,6 @@ least_of f test (suc n) = go (least_of f test n) (cases_Bool (test n))
     )
     go (inr none) (inr fails) = inr (λ m h. elim (cases_eq m n) [ inl e ↦ subst (λ (x : ℕ). test x ≡ false) (sym e) fails | inr ne ↦ none m (omega arith) ])
 
-pub some_or_none : {X : Type 0} (o : Option X) → ((x : X) × (o ≡ Some x)) ⊎ (o ≡ None)
-some_or_none None = inr refl
-some_or_none (Some x) = inl (x, refl)
+pub some-or-none : {X : Type 0} (o : Option X) → ((x : X) × (o ≡ Some x)) ⊎ (o ≡ None)
+some-or-none None = inr refl
+some-or-none (Some x) = inl (x, refl)

@@ -5,7 +5,7 @@ use Rattle.acas_base.specs.declared.advisory.ResMsg.{ResMsg}
 use Rattle.acas_base.specs.declared.advisory.Sense.TheVariants.{Down, Up}
 use Rattle.acas_base.specs.declared.link.CopyPlan.{CopyPlan}
 use Rattle.acas_base.specs.declared.view.View.{View}
-use Rattle.air_rules.proofs.Deciding.{legal_by, serial_by}
+use Rattle.air_rules.proofs.Deciding.{legal-by, serial-by}
 use Rattle.air_rules.proofs.ExampleWords.{IsSender, apart, reads}
 use Rattle.air_rules.proofs.Legal.{allowed}
 use Rattle.air_rules.specs.Air.{IsMessageOf, IsSound, is_active, is_ra}
@@ -37,28 +37,28 @@ counted (suc (suc (suc n))) e = absurd (cc)
 abbrev Threatens : View → Type 0
 Threatens view = view.threat ≡ true → view.resolves ≡ true
 
-no_threat : (view : View) → view.threat ≡ false → Threatens view
-no_threat view none e = absurd (let f : true ≡ false = sym e ∙ none in cc)
+no-threat : (view : View) → view.threat ≡ false → Threatens view
+no-threat view none e = absurd (let f : true ≡ false = sym e ∙ none in cc)
 
-threat_ends : (cycle : ℕ) → Threatens (ends_in_three cycle)
-threat_ends cycle =
+threat-ends : (cycle : ℕ) → Threatens (ends_in_three cycle)
+threat-ends cycle =
     either Threatens (eqb cycle 2) (threat Up) (cond (eqb cycle 3) near quiet) (λ e. refl)
-    (either Threatens (eqb cycle 3) near quiet (no_threat near refl) (no_threat quiet refl))
+    (either Threatens (eqb cycle 3) near quiet (no-threat near refl) (no-threat quiet refl))
 
-threat_starts : (cycle : ℕ) → Threatens (starts_in_two cycle)
-threat_starts cycle = either Threatens (eqb cycle 1) quiet (threat Down) (no_threat quiet refl) (λ e. refl)
+threat-starts : (cycle : ℕ) → Threatens (starts_in_two cycle)
+threat-starts cycle = either Threatens (eqb cycle 1) quiet (threat Down) (no-threat quiet refl) (λ e. refl)
 
-threat_starts_later : (cycle : ℕ) → Threatens (starts_in_three cycle)
-threat_starts_later cycle =
-    either Threatens (eqb cycle 1) quiet (cond (eqb cycle 2) near (threat Up)) (no_threat quiet refl)
-    (either Threatens (eqb cycle 2) near (threat Up) (no_threat near refl) (λ e. refl))
+threat-starts-later : (cycle : ℕ) → Threatens (starts_in_three cycle)
+threat-starts-later cycle =
+    either Threatens (eqb cycle 1) quiet (cond (eqb cycle 2) near (threat Up)) (no-threat quiet refl)
+    (either Threatens (eqb cycle 2) near (threat Up) (no-threat near refl) (λ e. refl))
 
 threatens : (own other cycle : ℕ) → Threatens (view_of own other cycle)
 threatens zero other cycle =
-    either Threatens (eqb other 1) (ends_in_three cycle) (cond (eqb other 2) (starts_in_two cycle) quiet) (threat_ends cycle)
-    (either Threatens (eqb other 2) (starts_in_two cycle) quiet (threat_starts cycle) (no_threat quiet refl))
-threatens (suc zero) other cycle = either Threatens (eqb other 0) (starts_in_three cycle) quiet (threat_starts_later cycle) (no_threat quiet refl)
-threatens (suc (suc own)) other cycle = no_threat quiet refl
+    either Threatens (eqb other 1) (ends_in_three cycle) (cond (eqb other 2) (starts_in_two cycle) quiet) (threat-ends cycle)
+    (either Threatens (eqb other 2) (starts_in_two cycle) quiet (threat-starts cycle) (no-threat quiet refl))
+threatens (suc zero) other cycle = either Threatens (eqb other 0) (starts_in_three cycle) quiet (threat-starts-later cycle) (no-threat quiet refl)
+threatens (suc (suc own)) other cycle = no-threat quiet refl
 
 resolves : (own other cycle : ℕ) → (view_of own other cycle).resolves ≡ true → is_ra three own ≡ true
 resolves zero other cycle e = refl
@@ -72,8 +72,8 @@ sender (suc zero) m is = inr (inr is.sender)
 sender (suc (suc zero)) m is = inl is.sender
 sender (suc (suc (suc n))) m is = absurd (let e = is.resolves in cc)
 
-pub three_sound : IsSound three
-three_sound = record {
+pub three-sound : IsSound three
+three-sound = record {
   few = few;
   counted = counted;
   threatens = threatens;
@@ -83,14 +83,14 @@ three_sound = record {
   apart = λ own sent copy plan message read is e r. apart message read plan.mask (sender own message is) r;
 }
 
-pub three_serial : IsSerial three worked
-three_serial = serial_by three three_sound worked refl refl refl
+pub three-serial : IsSerial three worked
+three-serial = serial-by three three-sound worked refl refl refl
 
-pub ahead_legal : IsLegal three goes_ahead
-ahead_legal = legal_by three three_sound goes_ahead refl refl
+pub ahead-legal : IsLegal three goes_ahead
+ahead-legal = legal-by three three-sound goes_ahead refl refl
 
-pub refuses_others : RefusesOthers
-refuses_others = record {
+pub refuses-others : RefusesOthers
+refuses-others = record {
   order_of_sends = λ l. let e = (allowed l).first_owed.first 1 (omega arith) in cc;
   sent_twice = λ l. let e = (allowed l).first_owed.owes in cc;
   cancelled_twice = λ l. let e = (allowed l).first_owed.owes in cc;

@@ -7,10 +7,10 @@ use Rattle.acas_base.specs.declared.entry.Entry.{Entry}
 use Rattle.acas_base.specs.declared.entry.Entry.TheVariants.{Commit, Send, Take}
 use Rattle.acas_base.specs.declared.link.CopyPlan.{CopyPlan}
 use Rattle.air_rules.proofs.Legal.{allowed, earlier}
-use Rattle.air_rules.proofs.Pace.{active_ra, count_no, count_yes}
-use Rattle.air_rules.proofs.Positions.{sent_within}
-use Rattle.air_rules.proofs.Running.{owed_message}
-use Rattle.air_rules.proofs.Searching.{AllBelow, IsFirst, IsLeast, first_of_all, least_of, some_or_none}
+use Rattle.air_rules.proofs.Pace.{active-ra, count-no, count-yes}
+use Rattle.air_rules.proofs.Positions.{sent-within}
+use Rattle.air_rules.proofs.Running.{owed-message}
+use Rattle.air_rules.proofs.Searching.{AllBelow, IsFirst, IsLeast, first-of-all, least-of, some-or-none}
 use Rattle.air_rules.specs.Air.{Air, IsSound, copy_plan, is_active, is_ra}
 use Rattle.air_rules.specs.Due.{NobodyIsDue, NothingDue, is_copy_due, is_due, is_free}
 use Rattle.air_rules.specs.Journal.{Sent, commits, entries_after, is_commit_of, sent_at}
@@ -24,11 +24,11 @@ pub record IsOwedWithin (air : Air) (i j : ℕ) : Type 0 where
   pub receiver : j < air.count
   pub active : is_active air i ≡ true
 
-pub owed_within : (air : Air) → IsSound air → (J : List Entry) (i j : ℕ) (m : ResMsg) → owed air J i j ≡ Some m → IsOwedWithin air i j
-owed_within air sound J i j m e =
-    let parts = and_parts (is_ra air i) _ (owed_message air J i j m e).0 in
-    let ai = active_ra air i parts.0 in
-    let aj = active_ra air j (and_parts (is_ra air j) _ parts.1).0 in
+pub owed-within : (air : Air) → IsSound air → (J : List Entry) (i j : ℕ) (m : ResMsg) → owed air J i j ≡ Some m → IsOwedWithin air i j
+owed-within air sound J i j m e =
+    let parts = and_parts (is_ra air i) _ (owed-message air J i j m e).0 in
+    let ai = active-ra air i parts.0 in
+    let aj = active-ra air j (and_parts (is_ra air j) _ parts.1).0 in
     record { sender = sound.counted i ai; receiver = sound.counted j aj; active = ai }
 
 -- The first message that an aircraft owes.
@@ -38,34 +38,34 @@ pub record Owing (air : Air) (J : List Entry) (i : ℕ) : Type 0 where
   pub first : IsFirstOwed air J i target message
 
 pub owing : (air : Air) → IsSound air → (J : List Entry) (i : ℕ) → Owing air J i ⊎ OwesNothing air J i
-owing air sound J i = go (first_of_all (λ j. (m : ResMsg) × (owed air J i j ≡ Some m)) (λ j. owed air J i j ≡ None) (λ j. some_or_none (owed air J i j)) air.count)
+owing air sound J i = go (first-of-all (λ j. (m : ResMsg) × (owed air J i j ≡ Some m)) (λ j. owed air J i j ≡ None) (λ j. some-or-none (owed air J i j)) air.count)
   where
     go : ((k : ℕ) × IsFirst (λ j. (m : ResMsg) × (owed air J i j ≡ Some m)) (λ j. owed air J i j ≡ None) k) ⊎ AllBelow (λ j. owed air J i j ≡ None) air.count → Owing air J i ⊎ OwesNothing air J i
     go (inl (k, f)) = inl (record { target = k; message = f.holds.0; first = record { owes = f.holds.1; first = f.before } })
     go (inr none) = inr (λ j. elim (cases_lt j air.count) [
       | inl h ↦ none j h
-      | inr h ↦ elim (some_or_none (owed air J i j)) [
-        | inl (m, e) ↦ absurd (let x : j < air.count = (owed_within air sound J i j m e).receiver in omega arith)
+      | inr h ↦ elim (some-or-none (owed air J i j)) [
+        | inl (m, e) ↦ absurd (let x : j < air.count = (owed-within air sound J i j m e).receiver in omega arith)
         | inr n ↦ n
       ]
     ])
 
 -- The first aircraft that owes a message, where somebody does.
-pub nobody_owes : (air : Air) → IsSound air → (J : List Entry) → AllBelow (λ i. OwesNothing air J i) air.count → NobodyOwes air J
-nobody_owes air sound J none i j = elim (some_or_none (owed air J i j)) [
-  | inl (m, e) ↦ none i (owed_within air sound J i j m e).sender j
+pub nobody-owes : (air : Air) → IsSound air → (J : List Entry) → AllBelow (λ i. OwesNothing air J i) air.count → NobodyOwes air J
+nobody-owes air sound J none i j = elim (some-or-none (owed air J i j)) [
+  | inl (m, e) ↦ none i (owed-within air sound J i j m e).sender j
   | inr n ↦ n
 ]
 
 abbrev pub FirstOwing : Air → List Entry → ℕ → Type 0
 FirstOwing air J i = IsFirst (λ i. Owing air J i) (λ i. OwesNothing air J i) i
 
-pub first_owing : (air : Air) → IsSound air → (J : List Entry) → ((i : ℕ) × FirstOwing air J i) ⊎ NobodyOwes air J
-first_owing air sound J = go (first_of_all (λ i. Owing air J i) (λ i. OwesNothing air J i) (λ i. owing air sound J i) air.count)
+pub first-owing : (air : Air) → IsSound air → (J : List Entry) → ((i : ℕ) × FirstOwing air J i) ⊎ NobodyOwes air J
+first-owing air sound J = go (first-of-all (λ i. Owing air J i) (λ i. OwesNothing air J i) (λ i. owing air sound J i) air.count)
   where
     go : ((i : ℕ) × FirstOwing air J i) ⊎ AllBelow (λ i. OwesNothing air J i) air.count → ((i : ℕ) × FirstOwing air J i) ⊎ NobodyOwes air J
     go (inl f) = inl f
-    go (inr none) = inr (nobody_owes air sound J none)
+    go (inr none) = inr (nobody-owes air sound J none)
 
 -- The first copy, by position and copy, that is due to an aircraft.
 pub record HasDue (air : Air) (J : List Entry) (i : ℕ) : Type 0 where
@@ -78,9 +78,9 @@ pub record HasDue (air : Air) (J : List Entry) (i : ℕ) : Type 0 where
 abbrev FirstCopy : Air → List Entry → Option Sent → ℕ → ℕ → ℕ → Type 0
 FirstCopy air J o i p c = IsFirst (λ c. is_copy_due air J o i p c ≡ true) (λ c. is_copy_due air J o i p c ≡ false) c
 
-due_copies : (air : Air) (J : List Entry) (i p : ℕ) (o : Option Sent) → ((c : ℕ) × FirstCopy air J o i p c) ⊎ ((c : ℕ) → is_copy_due air J o i p c ≡ false)
-due_copies air J i p None = inr (λ c. refl)
-due_copies air J i p (Some S) = go (first_of_all (λ c. is_copy_due air J (Some S) i p c ≡ true) (λ c. is_copy_due air J (Some S) i p c ≡ false) (λ c. cases_Bool (is_copy_due air J (Some S) i p c)) (length copies))
+due-copies : (air : Air) (J : List Entry) (i p : ℕ) (o : Option Sent) → ((c : ℕ) × FirstCopy air J o i p c) ⊎ ((c : ℕ) → is_copy_due air J o i p c ≡ false)
+due-copies air J i p None = inr (λ c. refl)
+due-copies air J i p (Some S) = go (first-of-all (λ c. is_copy_due air J (Some S) i p c ≡ true) (λ c. is_copy_due air J (Some S) i p c ≡ false) (λ c. cases_Bool (is_copy_due air J (Some S) i p c)) (length copies))
   where
     copies : List CopyPlan
     copies = air.copies S.sender S.receiver S.number
@@ -101,12 +101,12 @@ DueAt air J i p = (c : ℕ) × FirstCopy air J (sent_at J p) i p c
 abbrev NoneDueAt : Air → List Entry → ℕ → ℕ → Type 0
 NoneDueAt air J i p = (c : ℕ) → is_due air J i p c ≡ false
 
-pub due_to : (air : Air) (J : List Entry) (i : ℕ) → HasDue air J i ⊎ NothingDue air J i
-due_to air J i = go (first_of_all (λ p. DueAt air J i p) (λ p. NoneDueAt air J i p) (λ p. due_copies air J i p (sent_at J p)) (length J))
+pub due-to : (air : Air) (J : List Entry) (i : ℕ) → HasDue air J i ⊎ NothingDue air J i
+due-to air J i = go (first-of-all (λ p. DueAt air J i p) (λ p. NoneDueAt air J i p) (λ p. due-copies air J i p (sent_at J p)) (length J))
   where
     past : (p : ℕ) → length J ≤ p → NoneDueAt air J i p
-    past p h c = elim (some_or_none (sent_at J p)) [
-      | inl (S, e) ↦ absurd (let x : p < length J = sent_within J p S e in omega arith)
+    past p h c = elim (some-or-none (sent_at J p)) [
+      | inl (S, e) ↦ absurd (let x : p < length J = sent-within J p S e in omega arith)
       | inr n ↦ ap (λ o. is_copy_due air J o i p c) n
     ]
 
@@ -125,13 +125,13 @@ NoneDueTo air J i = is_active air i ≡ true → NothingDue air J i
 abbrev pub FirstDueTo : Air → List Entry → ℕ → Type 0
 FirstDueTo air J i = IsFirst (λ i. IsDueTo air J i) (λ i. is_active air i ≡ true → NothingDue air J i) i
 
-pub first_due_to : (air : Air) → IsSound air → (J : List Entry) → ((i : ℕ) × FirstDueTo air J i) ⊎ NobodyIsDue air J
-first_due_to air sound J = go (first_of_all (λ i. IsDueTo air J i) (λ i. NoneDueTo air J i) of air.count)
+pub first-due-to : (air : Air) → IsSound air → (J : List Entry) → ((i : ℕ) × FirstDueTo air J i) ⊎ NobodyIsDue air J
+first-due-to air sound J = go (first-of-all (λ i. IsDueTo air J i) (λ i. NoneDueTo air J i) of air.count)
   where
     of : (i : ℕ) → IsDueTo air J i ⊎ NoneDueTo air J i
     of i = elim (cases_Bool (is_active air i)) [
       | inr n ↦ inr (λ a. absurd (let x : false ≡ true = sym n ∙ a in cc))
-      | inl a ↦ elim (due_to air J i) [ inl d ↦ inl (record { active = a; due = d }) | inr n ↦ inr (λ _. n) ]
+      | inl a ↦ elim (due-to air J i) [ inl d ↦ inl (record { active = a; due = d }) | inr n ↦ inr (λ _. n) ]
     ]
 
     go : ((i : ℕ) × FirstDueTo air J i) ⊎ AllBelow (λ i. NoneDueTo air J i) air.count → ((i : ℕ) × FirstDueTo air J i) ⊎ NobodyIsDue air J
@@ -139,25 +139,25 @@ first_due_to air sound J = go (first_of_all (λ i. IsDueTo air J i) (λ i. NoneD
     go (inr none) = inr (λ i a. none i (sound.counted i a) a)
 
 -- No aircraft commits more cycles than there are.
-pub commits_within : (air : Air) (J : List Entry) → IsLegal air J → (i : ℕ) → commits J i ≤ air.cycles
-commits_within air [] l i = zero-le
-commits_within air (Commit own cycle cells ∷ K) l i =
+pub commits-within : (air : Air) (J : List Entry) → IsLegal air J → (i : ℕ) → commits J i ≤ air.cycles
+commits-within air [] l i = zero-le
+commits-within air (Commit own cycle cells ∷ K) l i =
     let x = Commit own cycle cells in
-    let ih : commits K i ≤ air.cycles = commits_within air K (earlier l) i in
+    let ih : commits K i ≤ air.cycles = commits-within air K (earlier l) i in
     elim (cases_Bool (eqb own i)) [
       | inl y ↦
-          let e : commits (x ∷ K) i ≡ commits K i + 1 = count_yes (is_commit_of i) x K y in
+          let e : commits (x ∷ K) i ≡ commits K i + 1 = count-yes (is_commit_of i) x K y in
           let f : cycle ≡ commits K i + 1 = (allowed l).cycle_is ∙ ap (λ k. commits K k + 1) (eqb-true own i y) in
           let g : cycle ≤ air.cycles = (allowed l).in_run in
           omega arith
-      | inr n ↦ let e : commits (x ∷ K) i ≡ commits K i = count_no (is_commit_of i) x K n in omega arith
+      | inr n ↦ let e : commits (x ∷ K) i ≡ commits K i = count-no (is_commit_of i) x K n in omega arith
     ]
-commits_within air (Send own target number word ∷ K) l i = commits_within air K (earlier l) i
-commits_within air (Take own p c good ∷ K) l i = commits_within air K (earlier l) i
+commits-within air (Send own target number word ∷ K) l i = commits-within air K (earlier l) i
+commits-within air (Take own p c good ∷ K) l i = commits-within air K (earlier l) i
 
 -- The first of the aircraft with the fewest commits.
 pub slowest : (air : Air) → IsSound air → (J : List Entry) → ((k : ℕ) × IsSlowest air J k) ⊎ ((i : ℕ) → is_active air i ≡ true → ⊥)
-slowest air sound J = go (least_of (λ i. commits J i) (λ i. is_active air i) air.count)
+slowest air sound J = go (least-of (λ i. commits J i) (λ i. is_active air i) air.count)
   where
     go : ((k : ℕ) × IsLeast (λ i. commits J i) (λ i. is_active air i) air.count k) ⊎ AllBelow (λ m. is_active air m ≡ false) air.count → ((k : ℕ) × IsSlowest air J k) ⊎ ((i : ℕ) → is_active air i ≡ true → ⊥)
     go (inl (k, l)) = inl (k, record { active = l.passes; fewest = λ j a. l.least j (sound.counted j a) a; first = λ j a h. l.first j h a })

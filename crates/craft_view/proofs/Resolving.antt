@@ -24,9 +24,9 @@ pub see-nothing : (e : Parts) (own target cycle : ℕ) → SeesNothing e own tar
 unfolding view_in
 see-nothing e own target cycle none = rw none refl
 
-threat_by : (me : OwnAircraft) (mine : TrackState) (tracks : Tracks) → (view_by me mine tracks).threat ≡ true → IsSeenAsThreat (view_by me mine tracks)
+threat-by : (me : OwnAircraft) (mine : TrackState) (tracks : Tracks) → (view_by me mine tracks).threat ≡ true → IsSeenAsThreat (view_by me mine tracks)
 unfolding view_by
-threat_by me mine tracks h = by_motion (motion_of mine tracks) h
+threat-by me mine tracks h = by_motion (motion_of mine tracks) h
   where
     by_row : (m : Motion) (row : Option Row) → (option_map_or (resolving_view me m) row (plain_view true (is_hit m me.traffic) false)).threat ≡ true
         → IsSeenAsThreat (option_map_or (resolving_view me m) row (plain_view true (is_hit m me.traffic) false))
@@ -46,11 +46,11 @@ threatens e own target cycle h = by_craft (other_craft e own target) h
         → (option_map_or (λ (k : Other). view_by (own_of (sight_of e own cycle)) (own_track (sight_of e own cycle)) (tracks_by e.range e.altitude k.seen)) (option_map (known_of e own cycle target) o) no_view).threat ≡ true
         → IsSeenAsThreat (option_map_or (λ (k : Other). view_by (own_of (sight_of e own cycle)) (own_track (sight_of e own cycle)) (tracks_by e.range e.altitude k.seen)) (option_map (known_of e own cycle target) o) no_view)
     by_craft None t = absurd (search rules)
-    by_craft (Some craft) t = threat_by _ _ _ t
+    by_craft (Some craft) t = threat-by _ _ _ t
 
-resolves_by : (me : OwnAircraft) (mine : TrackState) (tracks : Tracks) → (view_by me mine tracks).resolves ≡ is_some me.resolution
+resolves-by : (me : OwnAircraft) (mine : TrackState) (tracks : Tracks) → (view_by me mine tracks).resolves ≡ is_some me.resolution
 unfolding view_by
-resolves_by me mine tracks = by_motion (motion_of mine tracks)
+resolves-by me mine tracks = by_motion (motion_of mine tracks)
   where
     by_row : (m : Motion) (row : Option Row) → (option_map_or (resolving_view me m) row (plain_view true (is_hit m me.traffic) false)).resolves ≡ is_some row
     by_row m None = refl
@@ -68,39 +68,39 @@ abbrev AreRegular : List table.Band → Type 0
 AreRegular [] = Unit {0}
 AreRegular (b ∷ bs) = IsRegular b.level × AreRegular bs
 
-regular_in : (bands : List table.Band) (above : Level) (n : ℤ) → AreRegular bands → IsRegular above → IsRegular (table.level_in bands above n)
-regular_in [] above n all last = last
-regular_in (b ∷ bs) above n all last = by_test (int_lt n b.end) (regular_in bs above n all.1 last)
+regular-in : (bands : List table.Band) (above : Level) (n : ℤ) → AreRegular bands → IsRegular above → IsRegular (table.level_in bands above n)
+regular-in [] above n all last = last
+regular-in (b ∷ bs) above n all last = by_test (int_lt n b.end) (regular-in bs above n all.1 last)
   where
     by_test : (t : Bool) → IsRegular (table.level_in bs above n) → IsRegular (unwrap_or (option_map (λ (b' : table.Band). b'.level) (cond t (Some b) (find (λ (b' : table.Band). int_lt n b'.end) bs))) above)
     by_test true rest = all.0
     by_test false rest = rest
 
 regular : (altitude height : ℤ) → IsRegular (table.level_at altitude height)
-regular altitude height = regular_in table.height_bands (table.level_in table.altitude_bands table.highest altitude) height (refl, (refl, tt))
-    (regular_in table.altitude_bands table.highest altitude (refl, (refl, (refl, (refl, tt)))) refl)
+regular altitude height = regular-in table.height_bands (table.level_in table.altitude_bands table.highest altitude) height (refl, (refl, tt))
+    (regular-in table.altitude_bands table.highest altitude (refl, (refl, (refl, (refl, tt)))) refl)
 
-row_by : (kind : Option Kind) (level : Level) → IsRegular level → IsTrue (is_some (resolution_row kind level)) ↔ ((kind ≡ Some Ra) × (3 ≤ level.sl))
-row_by None level is = (λ h. absurd (search rules), λ p. absurd (search rules))
-row_by (Some Ra) level is = (λ h. (refl, leb-true 3 level.sl (sym is ∙ h)), λ p. is ∙ le-leb 3 level.sl p.1)
-row_by (Some Ta) level is = (λ h. absurd (search rules), λ p. absurd (search rules))
-row_by (Some Xpdr) level is = (λ h. absurd (search rules), λ p. absurd (search rules))
+row-by : (kind : Option Kind) (level : Level) → IsRegular level → IsTrue (is_some (resolution_row kind level)) ↔ ((kind ≡ Some Ra) × (3 ≤ level.sl))
+row-by None level is = (λ h. absurd (search rules), λ p. absurd (search rules))
+row-by (Some Ra) level is = (λ h. (refl, leb-true 3 level.sl (sym is ∙ h)), λ p. is ∙ le-leb 3 level.sl p.1)
+row-by (Some Ta) level is = (λ h. absurd (search rules), λ p. absurd (search rules))
+row-by (Some Xpdr) level is = (λ h. absurd (search rules), λ p. absurd (search rules))
 
-own_by : (e : Parts) (own cycle : ℕ) → IsTrue (is_some (own_of (sight_of e own cycle)).resolution) ↔ Resolves e own cycle
+own-by : (e : Parts) (own cycle : ℕ) → IsTrue (is_some (own_of (sight_of e own cycle)).resolution) ↔ Resolves e own cycle
 unfolding own_of
-own_by e own cycle =
-    let both = row_by (option_map (λ (craft : CraftSpec). craft.kind) (slice_get e.crafts own)) (level_in e own cycle)
+own-by e own cycle =
+    let both = row-by (option_map (λ (craft : CraftSpec). craft.kind) (slice_get e.crafts own)) (level_in e own cycle)
     (regular (newest_altitude (sight_of e own cycle)) (newest_altitude (sight_of e own cycle) -ℤ e.elevation)) in
     (λ h. let p = both.0 h in record { kind = p.0; level = p.1 }, λ r. both.1 (r.kind, r.level))
 
-pub resolves-as_own : (e : Parts) (own target cycle : ℕ) → ResolvesAsOwn e own target cycle
+pub resolves-as-own : (e : Parts) (own target cycle : ℕ) → ResolvesAsOwn e own target cycle
 unfolding view_in
-resolves-as_own e own target cycle h = by_craft (other_craft e own target) h
+resolves-as-own e own target cycle h = by_craft (other_craft e own target) h
   where
     by_craft : (o : Option CraftSpec) → IsTrue (is_some o)
         → IsTrue (option_map_or (λ (k : Other). view_by (own_of (sight_of e own cycle)) (own_track (sight_of e own cycle)) (tracks_by e.range e.altitude k.seen)) (option_map (known_of e own cycle target) o) no_view).resolves
         ↔ Resolves e own cycle
     by_craft None some = absurd (search rules)
     by_craft (Some craft) some =
-        let same = resolves_by (own_of (sight_of e own cycle)) (own_track (sight_of e own cycle)) (tracks_by e.range e.altitude (known_of e own cycle target craft).seen) in
-        (λ r. (own_by e own cycle).0 (sym same ∙ r), λ r. same ∙ (own_by e own cycle).1 r)
+        let same = resolves-by (own_of (sight_of e own cycle)) (own_track (sight_of e own cycle)) (tracks_by e.range e.altitude (known_of e own cycle target craft).seen) in
+        (λ r. (own-by e own cycle).0 (sym same ∙ r), λ r. same ∙ (own-by e own cycle).1 r)

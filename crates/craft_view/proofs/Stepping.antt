@@ -16,8 +16,8 @@ use Rattle.craft_view.specs.declared.tracks.Tracks.{Tracks}
 use Rattle.flight.specs.Measurement.{measurement, own_altitude}
 
 -- The tracks of one cycle, after what is measured in the next, are those of the next.
-then_suc : (e : Parts) (own cycle index : ℕ) → tracks_then e own (suc cycle) index (tracks_of (sight_of e own cycle) index) ≡ tracks_of (sight_of e own (suc cycle)) index
-then_suc e own cycle index = by_craft (other_craft e own index)
+then-suc : (e : Parts) (own cycle index : ℕ) → tracks_then e own (suc cycle) index (tracks_of (sight_of e own cycle) index) ≡ tracks_of (sight_of e own (suc cycle)) index
+then-suc e own cycle index = by_craft (other_craft e own index)
   where
     by_craft : (o : Option CraftSpec)
         → option_map_or (λ (craft : CraftSpec). tracks_after e.range e.altitude (option_map_or (λ (k : Other). tracks_by e.range e.altitude k.seen) (option_map (known_of e own cycle index) o) no_tracks) (measurement e own index (suc cycle))) o
@@ -30,7 +30,7 @@ pub then-next : (e : Parts) (own cycle next index : ℕ) (tracks : Tracks) → n
     → tracks_then e own next index tracks ≡ tracks_of (sight_of e own next) index
 then-next e own cycle next index tracks is from =
     let to : next ≡ suc cycle = is ∙ add-one cycle in
-    rw (to, from) (then_suc e own cycle index)
+    rw (to, from) (then-suc e own cycle index)
 
 -- What is read at an index within a list doesn't depend on what stands for what is past its end.
 pub read-or : {X : Type 0} (xs : List X) (i : ℕ) (x d : X) → i < length xs → x ≡ get_or xs i x → get_or xs i x ≡ get_or xs i d

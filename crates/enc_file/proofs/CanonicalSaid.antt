@@ -26,26 +26,26 @@ abbrev pub begun : Parts → Known
 begun e = record { version = e.version; run = None; gains = None; crafts = []; legs = []; misses = []; plans = []; fates = [] }
 
 -- After the run.
-abbrev pub with_run : Parts → Known
-with_run e = record (begun e) { run = Some (record { cycles = e.cycles; elevation = e.elevation }) }
+abbrev pub with-run : Parts → Known
+with-run e = record (begun e) { run = Some (record { cycles = e.cycles; elevation = e.elevation }) }
 
 -- After the gains and these aircraft.
-abbrev pub with_crafts : Parts → List CraftSpec → Known
-with_crafts e crafts = record (with_run e) { gains = Some (record { range = e.range; altitude = e.altitude }); crafts = crafts }
+abbrev pub with-crafts : Parts → List CraftSpec → Known
+with-crafts e crafts = record (with-run e) { gains = Some (record { range = e.range; altitude = e.altitude }); crafts = crafts }
 
 -- After all aircraft, and these legs, misses, plans and fates.
-abbrev pub with_lists : Parts → List Leg → List Miss → List LinkPlan → List Fate → Known
-with_lists e legs misses plans fates = record (with_crafts e e.crafts) { legs = legs; misses = misses; plans = plans; fates = fates }
+abbrev pub with-lists : Parts → List Leg → List Miss → List LinkPlan → List Fate → Known
+with-lists e legs misses plans fates = record (with-crafts e e.crafts) { legs = legs; misses = misses; plans = plans; fates = fates }
 
-pub goes-run : (e : Parts) → IsEncounter e → Goes (run_record e.cycles e.elevation ∷ []) (begun e) (with_run e)
+pub goes-run : (e : Parts) → IsEncounter e → Goes (run_record e.cycles e.elevation ∷ []) (begun e) (with-run e)
 goes-run e h =
-    goes-one (run_record e.cycles e.elevation) (said.Run (record { cycles = e.cycles; elevation = e.elevation })) (begun e) (with_run e)
+    goes-one (run_record e.cycles e.elevation) (said.Run (record { cycles = e.cycles; elevation = e.elevation })) (begun e) (with-run e)
     (run-said e.version e.cycles e.elevation h.run.length h.run.terrain) (run-follows (begun e) (record { cycles = e.cycles; elevation = e.elevation }) refl)
 
-pub goes-gains : (e : Parts) → IsEncounter e → Goes (gains_record e.range e.altitude ∷ []) (with_run e) (with_crafts e [])
+pub goes-gains : (e : Parts) → IsEncounter e → Goes (gains_record e.range e.altitude ∷ []) (with-run e) (with-crafts e [])
 goes-gains e h =
-    goes-one (gains_record e.range e.altitude) (said.Gains (record { range = e.range; altitude = e.altitude })) (with_run e) (with_crafts e [])
-    (gains-said e.version e.range e.altitude h.range h.altitude) (gains-follow (with_run e) (record { range = e.range; altitude = e.altitude }) refl)
+    goes-one (gains_record e.range e.altitude) (said.Gains (record { range = e.range; altitude = e.altitude })) (with-run e) (with-crafts e [])
+    (gains-said e.version e.range e.altitude h.range h.altitude) (gains-follow (with-run e) (record { range = e.range; altitude = e.altitude }) refl)
 
 -- Aircraft.
 
@@ -59,19 +59,19 @@ all-crafts e h = recursion_from_All IsCraft e.crafts h.crafts.ranges
 pub all-differ : (e : Parts) → IsEncounter e → Pairs Differ e.crafts
 all-differ e h = apart-differ e.crafts h.crafts.addresses
 
-pub goes-crafts : (e : Parts) → IsEncounter e → Goes (map craft_record e.crafts) (with_crafts e []) (with_crafts e (map unlimited e.crafts))
-goes-crafts e h = goes-map craft_record e.crafts (λ done _. with_crafts e (map unlimited done)) step where
+pub goes-crafts : (e : Parts) → IsEncounter e → Goes (map craft_record e.crafts) (with-crafts e []) (with-crafts e (map unlimited e.crafts))
+goes-crafts e h = goes-map craft_record e.crafts (λ done _. with-crafts e (map unlimited done)) step where
   step : (done : List CraftSpec) (x : CraftSpec) (rest : List CraftSpec) → done ++ x ∷ rest ≡ e.crafts
-      → Goes (craft_record x ∷ []) (with_crafts e (map unlimited done)) (with_crafts e (map unlimited (done ++ x ∷ [])))
+      → Goes (craft_record x ∷ []) (with-crafts e (map unlimited done)) (with-crafts e (map unlimited (done ++ x ∷ [])))
   step done x rest w =
       let is = all-here IsCraft e.crafts done x rest w (all-crafts e h) in
       let other = others-unlimited x.address done (pairs-before Differ e.crafts done x rest w (all-differ e h)) in
       let long : length e.crafts ≡ length done + length (x ∷ rest) = ap length (sym w) ∙ length-append done (x ∷ rest) in
       let room : length (map unlimited done) < most_crafts e.version = rw length-map (omega (arith, h.crafts.few)) in
-      let follows = craft-follows (with_crafts e (map unlimited done)) (unlimited x) other room in
+      let follows = craft-follows (with-crafts e (map unlimited done)) (unlimited x) other room in
       let more : map unlimited done ++ unlimited x ∷ [] ≡ map unlimited (done ++ x ∷ []) = sym (map-append unlimited done (x ∷ [])) in
-      subst (λ crafts. Goes (craft_record x ∷ []) (with_crafts e (map unlimited done)) (with_crafts e crafts)) more
-      (goes-one (craft_record x) (said.Craft (unlimited x)) (with_crafts e (map unlimited done)) (with_crafts e (map unlimited done ++ unlimited x ∷ [])) (craft-said e.version x is) follows)
+      subst (λ crafts. Goes (craft_record x ∷ []) (with-crafts e (map unlimited done)) (with-crafts e crafts)) more
+      (goes-one (craft_record x) (said.Craft (unlimited x)) (with-crafts e (map unlimited done)) (with-crafts e (map unlimited done ++ unlimited x ∷ [])) (craft-said e.version x is) follows)
 
 -- Ceilings.
 
@@ -104,13 +104,13 @@ ceilings-after done x rest limit same before behind =
 
 -- The aircraft up to this one have their ceilings.
 abbrev limited : Parts → List CraftSpec → List CraftSpec → Known
-limited e done rest = with_crafts e (done ++ map unlimited rest)
+limited e done rest = with-crafts e (done ++ map unlimited rest)
 
 no-climb : (e : Parts) (done : List CraftSpec) (x : CraftSpec) (rest : List CraftSpec) → x.ceiling ≡ None → Goes [] (limited e done (x ∷ rest)) (limited e (done ++ x ∷ []) rest)
 no-climb e done x rest none =
     let same : unlimited x ≡ x = ap (λ (o : Option ℤ). record x { ceiling = o }) (sym none) in
     let whole : done ++ unlimited x ∷ map unlimited rest ≡ (done ++ x ∷ []) ++ map unlimited rest = ap (λ y. done ++ y ∷ map unlimited rest) same ∙ sym (append_assoc done (x ∷ []) (map unlimited rest)) in
-    subst (λ crafts. Goes [] (limited e done (x ∷ rest)) (with_crafts e crafts)) whole (goes-none (limited e done (x ∷ rest)))
+    subst (λ crafts. Goes [] (limited e done (x ∷ rest)) (with-crafts e crafts)) whole (goes-none (limited e done (x ∷ rest)))
 
 one-climb : (e : Parts) → IsEncounter e → (done : List CraftSpec) (x : CraftSpec) (rest : List CraftSpec) → done ++ x ∷ rest ≡ e.crafts → (limit : ℤ) → x.ceiling ≡ Some limit → e.version ≡ 2
     → Goes (climb_record x.address limit ∷ []) (limited e done (x ∷ rest)) (limited e (done ++ x ∷ []) rest)
@@ -123,9 +123,9 @@ one-climb e h done x rest w limit same two =
     let found = index-here done (unlimited x) (map unlimited rest) x.address before refl in
     let none : has_ceiling crafts (length done) ≡ false = rw (get-here done (unlimited x) (map unlimited rest)) refl in
     let says : record_of e.version (climb_record x.address limit) ≡ Ok (said.Climb x.address limit) = ap (λ version. record_of version (climb_record x.address limit)) two ∙ climb-said x.address limit is.address within in
-    subst (λ after. Goes (climb_record x.address limit ∷ []) (limited e done (x ∷ rest)) (with_crafts e after)) (ceilings-after done x rest limit same before behind)
-    (goes-one (climb_record x.address limit) (said.Climb x.address limit) (with_crafts e crafts) (with_crafts e (map (with_ceiling x.address limit) crafts)) says
-    (climb-follows (with_crafts e crafts) x.address limit (length done) found none))
+    subst (λ after. Goes (climb_record x.address limit ∷ []) (limited e done (x ∷ rest)) (with-crafts e after)) (ceilings-after done x rest limit same before behind)
+    (goes-one (climb_record x.address limit) (said.Climb x.address limit) (with-crafts e crafts) (with-crafts e (map (with_ceiling x.address limit) crafts)) says
+    (climb-follows (with-crafts e crafts) x.address limit (length done) found none))
 
 has-format-2 : (e : Parts) → IsEncounter e → (done : List CraftSpec) (x : CraftSpec) (rest : List CraftSpec) → done ++ x ∷ rest ≡ e.crafts → (limit : ℤ) → x.ceiling ≡ Some limit → e.version ≡ 2
 has-format-2 e h done x rest w limit same = is-two e.version h.run.format first where
@@ -139,7 +139,7 @@ climb-each : (e : Parts) → IsEncounter e → (done : List CraftSpec) (x : Craf
 climb-each e h done x rest w None same = no-climb e done x rest same
 climb-each e h done x rest w (Some limit) same = one-climb e h done x rest w limit same (has-format-2 e h done x rest w limit same)
 
-pub goes-climbs : (e : Parts) → IsEncounter e → Goes (flat_map climb_records e.crafts) (with_crafts e (map unlimited e.crafts)) (with_crafts e e.crafts)
+pub goes-climbs : (e : Parts) → IsEncounter e → Goes (flat_map climb_records e.crafts) (with-crafts e (map unlimited e.crafts)) (with-crafts e e.crafts)
 goes-climbs e h =
-    subst (λ crafts. Goes (flat_map climb_records e.crafts) (with_crafts e (map unlimited e.crafts)) (with_crafts e crafts)) (append-nil e.crafts)
+    subst (λ crafts. Goes (flat_map climb_records e.crafts) (with-crafts e (map unlimited e.crafts)) (with-crafts e crafts)) (append-nil e.crafts)
     (goes-each climb_records e.crafts (limited e) (λ done x rest w. climb-each e h done x rest w x.ceiling refl) [] e.crafts refl)

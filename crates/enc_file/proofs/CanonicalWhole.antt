@@ -22,7 +22,7 @@ use Rattle.enc_file.specs.declared.refusal.Code.{Code}
 use Rattle.enc_file.specs.declared.refusal.Code.TheVariants as code
 use Rattle.enc_file.proofs.CanonicalLists.{fates-own, goes-fates, goes-legs, goes-misses, goes-plans, legs-own, misses-own, plans-own}
 use Rattle.enc_file.proofs.CanonicalRead.{records-of-canonical}
-use Rattle.enc_file.proofs.CanonicalSaid.{begun, goes-climbs, goes-crafts, goes-gains, goes-run, with_crafts, with_lists, with_run}
+use Rattle.enc_file.proofs.CanonicalSaid.{begun, goes-climbs, goes-crafts, goes-gains, goes-run, with-crafts, with-lists, with-run}
 use Rattle.enc_file.proofs.ReadBack.{Gives, Goes, Known, gives-known, goes-join, goes-next, goes-none, step-on}
 use Rattle.enc_file.proofs.SaidByLines.{end-said, header-said}
 
@@ -33,19 +33,19 @@ middle e =
     ++ map (leg_record e.crafts) e.legs ++ map (miss_record e.crafts) e.misses ++ map (plan_record e.crafts) e.plans ++ map (fate_record e.crafts) e.fates
 
 abbrev whole : Parts → Known
-whole e = with_lists e e.legs e.misses e.plans e.fates
+whole e = with-lists e e.legs e.misses e.plans e.fates
 
 goes-middle : (e : Parts) → IsEncounter e → Goes (middle e) (begun e) (whole e)
 unfolding middle
 goes-middle e h =
-    let crafts = goes-join [] _ (with_crafts e []) (with_crafts e []) _ (goes-none (with_crafts e [])) (goes-crafts e h) in
-    let climbs = goes-join _ _ (with_crafts e []) _ _ crafts (goes-climbs e h) in
-    let legs = goes-join _ _ (with_crafts e []) _ _ climbs (goes-legs e h) in
-    let misses = goes-join _ _ (with_crafts e []) _ _ legs (goes-misses e h) in
-    let plans = goes-join _ _ (with_crafts e []) _ _ misses (goes-plans e h) in
-    let fates = goes-join _ _ (with_crafts e []) _ _ plans (goes-fates e h) in
-    goes-join (run_record e.cycles e.elevation ∷ []) _ (begun e) (with_run e) (whole e) (goes-run e h)
-    (goes-join (gains_record e.range e.altitude ∷ []) _ (with_run e) (with_crafts e []) (whole e) (goes-gains e h) fates)
+    let crafts = goes-join [] _ (with-crafts e []) (with-crafts e []) _ (goes-none (with-crafts e [])) (goes-crafts e h) in
+    let climbs = goes-join _ _ (with-crafts e []) _ _ crafts (goes-climbs e h) in
+    let legs = goes-join _ _ (with-crafts e []) _ _ climbs (goes-legs e h) in
+    let misses = goes-join _ _ (with-crafts e []) _ _ legs (goes-misses e h) in
+    let plans = goes-join _ _ (with-crafts e []) _ _ misses (goes-plans e h) in
+    let fates = goes-join _ _ (with-crafts e []) _ _ plans (goes-fates e h) in
+    goes-join (run_record e.cycles e.elevation ∷ []) _ (begun e) (with-run e) (whole e) (goes-run e h)
+    (goes-join (gains_record e.range e.altitude ∷ []) _ (with-run e) (with-crafts e []) (whole e) (goes-gains e h) fates)
 
 -- The encounter that the records say.
 

@@ -24,7 +24,7 @@ use Rattle.enc_file.specs.declared.record.Course.{Course}
 use Rattle.enc_file.specs.declared.record.Record.{Record}
 use Rattle.enc_file.specs.declared.record.Record.TheVariants as said
 use Rattle.enc_file.proofs.Faultless.{by-read, faultless}
-use Rattle.enc_file.proofs.Named.{for-pair-by, index-within, pair-known, pair_of}
+use Rattle.enc_file.proofs.Named.{for-pair-by, index-within, pair-known, pair-of}
 
 -- Each fits, and each two of one group stand in order.
 abbrev pub AreInOrder : {X : Type 0} → (X → Type 0) → (X → ℕ) → (X → X → Bool) → List X → Type 0
@@ -68,7 +68,7 @@ pair-add : {X : Type 0} (crafts : List CraftSpec) (pair : Addresses) (Fits : X �
 pair-add crafts pair Fits group below f xs before fits new =
     let P : Option _ → Type 0 = λ o. AreInOrder Fits group below (xs ++ option_to_list o) in
     subst P (sym (for-pair-by crafts pair f))
-    (list-add Fits group below (λ (p : ℕ × ℕ). f p.0 p.1) (pair_of crafts pair) xs before
+    (list-add Fits group below (λ (p : ℕ × ℕ). f p.0 p.1) (pair-of crafts pair) xs before
     (λ p is. fits p.0 p.1 (pair-known crafts pair p is))
     (sym (ap holds (for-pair-by crafts pair (λ i j. comes_late group below xs (f i j)))) ∙ new))
 

@@ -12,8 +12,8 @@ use Rattle.enc_file.specs.Earlier.{for_pair, index_of}
 use Rattle.enc_file.specs.declared.record.Addresses.{Addresses}
 
 -- The indices of two aircraft.
-abbrev pub pair_of : List CraftSpec → Addresses → Option (ℕ × ℕ)
-pair_of crafts pair = for_pair crafts pair (λ first second. (first, second))
+abbrev pub pair-of : List CraftSpec → Addresses → Option (ℕ × ℕ)
+pair-of crafts pair = for_pair crafts pair (λ first second. (first, second))
 
 pair-by : {X : Type 0} (f : ℕ → ℕ → X) (same : Bool) (one two : Option ℕ)
     → (if same then None else option_and_then (λ first. option_map (λ second. f first second) two) one)
@@ -24,7 +24,7 @@ pair-by f false (Some first) None = refl
 pair-by f false (Some first) (Some second) = refl
 
 -- What two aircraft give is made of their indices.
-pub for-pair-by : {X : Type 0} (crafts : List CraftSpec) (pair : Addresses) (f : ℕ → ℕ → X) → for_pair crafts pair f ≡ option_map (λ (p : ℕ × ℕ). f p.0 p.1) (pair_of crafts pair)
+pub for-pair-by : {X : Type 0} (crafts : List CraftSpec) (pair : Addresses) (f : ℕ → ℕ → X) → for_pair crafts pair f ≡ option_map (λ (p : ℕ × ℕ). f p.0 p.1) (pair-of crafts pair)
 for-pair-by crafts pair f = pair-by f (pair.first == pair.second) (index_of crafts pair.first) (index_of crafts pair.second)
 
 pair-parts : (same : Bool) (one two : Option ℕ) (p : ℕ × ℕ) → (if same then None else option_and_then (λ first. option_map (λ second. (first, second)) two) one) ≡ Some p
@@ -49,7 +49,7 @@ index-address crafts address i d is =
     eqb-true (get_or crafts i d).address address (position-Some (λ (craft : CraftSpec). craft.address == address) crafts i d is).1
 
 -- They are two of the aircraft.
-pub pair-known : (crafts : List CraftSpec) (pair : Addresses) (p : ℕ × ℕ) → pair_of crafts pair ≡ Some p → IsPair (length crafts) p.0 p.1
+pub pair-known : (crafts : List CraftSpec) (pair : Addresses) (p : ℕ × ℕ) → pair-of crafts pair ≡ Some p → IsPair (length crafts) p.0 p.1
 pair-known [] pair p is =
     let parts = pair-parts (pair.first == pair.second) (index_of [] pair.first) (index_of [] pair.second) p is in
     absurd (none-some p.0 parts.1)
@@ -64,8 +64,8 @@ pair-known (craft ∷ crafts) pair p is =
     }
 
 -- What is made of the indices, where both aircraft were given, and where they weren't.
-pub for-pair-some : {X : Type 0} (crafts : List CraftSpec) (pair : Addresses) (f : ℕ → ℕ → X) (p : ℕ × ℕ) → pair_of crafts pair ≡ Some p → for_pair crafts pair f ≡ Some (f p.0 p.1)
+pub for-pair-some : {X : Type 0} (crafts : List CraftSpec) (pair : Addresses) (f : ℕ → ℕ → X) (p : ℕ × ℕ) → pair-of crafts pair ≡ Some p → for_pair crafts pair f ≡ Some (f p.0 p.1)
 for-pair-some crafts pair f p is = for-pair-by crafts pair f ∙ ap (option_map (λ (q : ℕ × ℕ). f q.0 q.1)) is
 
-pub for-pair-none : {X : Type 0} (crafts : List CraftSpec) (pair : Addresses) (f : ℕ → ℕ → X) → pair_of crafts pair ≡ None → for_pair crafts pair f ≡ None
+pub for-pair-none : {X : Type 0} (crafts : List CraftSpec) (pair : Addresses) (f : ℕ → ℕ → X) → pair-of crafts pair ≡ None → for_pair crafts pair f ≡ None
 for-pair-none crafts pair f is = for-pair-by crafts pair f ∙ ap (option_map (λ (q : ℕ × ℕ). f q.0 q.1)) is

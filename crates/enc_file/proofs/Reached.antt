@@ -25,38 +25,38 @@ once-choice false x y h k = k
 once-open : (s : State) (a : Action) → is_end a ≡ false → EndsOnce (s, a)
 once-open s a e = record { once = λ t. absurd (false≢true (sym e ∙ t)) }
 
-after_end-once : (t : Terminator) (c : ℕ) → ends_at_end (after_end t c) ≡ false
-after_end-once term.CRLF c = at (c == carriage_return) where
+after-end-once : (t : Terminator) (c : ℕ) → ends_at_end (after_end t c) ≡ false
+after-end-once term.CRLF c = at (c == carriage_return) where
   at : (b : Bool) → ends_at_end (cond b st.AfterCr st.StartRecord) ≡ false
   at true = refl
   at false = refl
-after_end-once (term.Any t) c = refl
+after-end-once (term.Any t) c = refl
 
-in_field-once : (cfg : Config) (c : ℕ) → EndsOnce (in_field cfg c)
-in_field-once cfg c =
+in-field-once : (cfg : Config) (c : ℕ) → EndsOnce (in_field cfg c)
+in-field-once cfg c =
     once-choice (c == cfg.delimiter) (st.StartField, act.EndField) _ (once-open _ _ refl)
-    (once-choice (ends_with cfg.terminator c) (after_end cfg.terminator c, act.EndRecord) (st.InField, act.Copy) (record { once = λ _. after_end-once cfg.terminator c }) (once-open _ _ refl))
+    (once-choice (ends_with cfg.terminator c) (after_end cfg.terminator c, act.EndRecord) (st.InField, act.Copy) (record { once = λ _. after-end-once cfg.terminator c }) (once-open _ _ refl))
 
-start_field-once : (cfg : Config) (c : ℕ) → EndsOnce (start_field cfg c)
-start_field-once cfg c = once-choice (cfg.quoting && (c == cfg.quote)) (st.InQuoted, act.Skip) _ (once-open _ _ refl) (in_field-once cfg c)
+start-field-once : (cfg : Config) (c : ℕ) → EndsOnce (start_field cfg c)
+start-field-once cfg c = once-choice (cfg.quoting && (c == cfg.quote)) (st.InQuoted, act.Skip) _ (once-open _ _ refl) (in-field-once cfg c)
 
-start_record-once : (cfg : Config) (c : ℕ) → EndsOnce (start_record cfg c)
-start_record-once cfg c =
+start-record-once : (cfg : Config) (c : ℕ) → EndsOnce (start_record cfg c)
+start-record-once cfg c =
     once-choice (ends_with cfg.terminator c) (st.StartRecord, act.Skip) _ (once-open _ _ refl)
-    (once-choice (is_byte cfg.comment c) (st.InComment, act.Skip) _ (once-open _ _ refl) (start_field-once cfg c))
+    (once-choice (is_byte cfg.comment c) (st.InComment, act.Skip) _ (once-open _ _ refl) (start-field-once cfg c))
 
 step-once : (cfg : Config) (s : State) (c : ℕ) → EndsOnce (step cfg s c)
-step-once cfg st.StartRecord c = start_record-once cfg c
-step-once cfg st.StartField c = start_field-once cfg c
-step-once cfg st.InField c = in_field-once cfg c
+step-once cfg st.StartRecord c = start-record-once cfg c
+step-once cfg st.StartField c = start-field-once cfg c
+step-once cfg st.InField c = in-field-once cfg c
 step-once cfg st.InQuoted c =
     once-choice (cfg.quoting && (c == cfg.quote)) (st.AfterQuote, act.Skip) _ (once-open _ _ refl)
     (once-choice (cfg.quoting && is_byte cfg.escape c) (st.InEscape, act.Skip) (st.InQuoted, act.Copy) (once-open _ _ refl) (once-open _ _ refl))
 step-once cfg st.InEscape c = once-open _ _ refl
 step-once cfg st.AfterQuote c =
-    once-choice (cfg.quoting && cfg.double_quote && (c == cfg.quote)) (st.InQuoted, act.Copy) _ (once-open _ _ refl) (in_field-once cfg c)
+    once-choice (cfg.quoting && cfg.double_quote && (c == cfg.quote)) (st.InQuoted, act.Copy) _ (once-open _ _ refl) (in-field-once cfg c)
 step-once cfg st.InComment c = once-choice (c == line_feed) (st.StartRecord, act.Skip) (st.InComment, act.Skip) (once-open _ _ refl) (once-open _ _ refl)
-step-once cfg st.AfterCr c = once-choice (c == line_feed) (st.StartRecord, act.Skip) _ (once-open _ _ refl) (start_record-once cfg c)
+step-once cfg st.AfterCr c = once-choice (c == line_feed) (st.StartRecord, act.Skip) _ (once-open _ _ refl) (start-record-once cfg c)
 
 -- How many records more than bytes a text may have from a state: one where its end ends a record.
 abbrev spare : State → ℕ

@@ -38,8 +38,8 @@ pub record Gives (earlier : List Record) (known : Known) : Type 0 where
   pub plans : plans_of earlier ≡ known.plans
   pub fates : fates_of earlier ≡ known.fates
 
-abbrev pub known_by : List Record → Known
-known_by earlier = record {
+abbrev pub known-by : List Record → Known
+known-by earlier = record {
   version = version_of earlier;
   run = run_of earlier;
   gains = gains_of earlier;
@@ -50,10 +50,10 @@ known_by earlier = record {
   fates = fates_of earlier;
 }
 
-known-given : (earlier : List Record) (known : Known) → Gives earlier known → known_by earlier ≡ known
+known-given : (earlier : List Record) (known : Known) → Gives earlier known → known-by earlier ≡ known
 known-given earlier known g = rw (g.version, g.run, g.gains, g.crafts, g.legs, g.misses, g.plans, g.fates) refl
 
-pub gives-known : (last : Record) (earlier : List Record) (known : Known) → has_ended (last ∷ earlier) ≡ false → known_by (last ∷ earlier) ≡ known → Gives (last ∷ earlier) known
+pub gives-known : (last : Record) (earlier : List Record) (known : Known) → has_ended (last ∷ earlier) ≡ false → known-by (last ∷ earlier) ≡ known → Gives (last ∷ earlier) known
 gives-known last earlier known unended e = record {
   begun = λ row. refl;
   unended = unended;
@@ -88,7 +88,7 @@ goes-join one two a b c first second = record { goes = go } where
 pub record Follows (now : Record) (before after : Known) : Type 0 where
   pub sound : (earlier : List Record) → Gives earlier before → fault_of earlier now ≡ None
   pub adds : Known → Known
-  pub is : (earlier : List Record) → known_by (now ∷ earlier) ≡ adds (known_by earlier)
+  pub is : (earlier : List Record) → known-by (now ∷ earlier) ≡ adds (known-by earlier)
   pub unended : (earlier : List Record) → has_ended (now ∷ earlier) ≡ has_ended earlier
   pub gives : adds before ≡ after
 

@@ -21,7 +21,7 @@ use Rattle.enc_file.specs.declared.record.TrackGains.{TrackGains}
 use Rattle.enc_file.proofs.AircraftFound.{ArePair, IsOther, index-none}
 use Rattle.enc_file.proofs.Pairwise.{any-fails}
 use Rattle.enc_file.proofs.ReadBack.{Follows, Known}
-use Rattle.enc_file.proofs.SaidByLines.{course_of, fate_copies, plan_copies}
+use Rattle.enc_file.proofs.SaidByLines.{course-of, fate-copies, plan-copies}
 
 pub run-follows : (known : Known) (run : Run) → known.run ≡ None → Follows (said.Run run) known (record known { run = Some run })
 run-follows known run none = record {
@@ -75,10 +75,10 @@ not-late group below x xs h =
 
 -- A leg that begins after those of its aircraft.
 pub leg-follows : (known : Known) (n : ℕ) (leg : Leg) → index_of known.crafts n ≡ Some leg.craft → AllByRecursion (λ other. leg_below other leg ≡ true) known.legs
-    → Follows (said.Leg n (course_of leg)) known (record known { legs = known.legs ++ leg ∷ [] })
+    → Follows (said.Leg n (course-of leg)) known (record known { legs = known.legs ++ leg ∷ [] })
 leg-follows known n leg found later = record {
   sound = λ earlier g. rw (g.crafts, g.legs, found, not-late leg_group leg_below leg known.legs later) refl;
-  adds = λ k. record k { legs = k.legs ++ option_to_list (for_index k.crafts n (leg_by (course_of leg))) };
+  adds = λ k. record k { legs = k.legs ++ option_to_list (for_index k.crafts n (leg_by (course-of leg))) };
   is = λ earlier. refl;
   unended = λ earlier. refl;
   gives = rw found refl;
@@ -103,12 +103,12 @@ masks-good count one two three h = rw (mask-good one h.first.mask, mask-good two
 
 -- A plan of a pair that has none.
 pub plan-follows : (known : Known) (pair : Addresses) (plan : LinkPlan) → ArePair known.crafts pair plan.sender plan.receiver → AllByRecursion (λ other. plan_below other plan ≡ true) known.plans
-    → AreCopies plan.copies plan.first plan.second plan.third → Follows (said.Plan pair (plan_copies plan)) known (record known { plans = known.plans ++ plan ∷ [] })
+    → AreCopies plan.copies plan.first plan.second plan.third → Follows (said.Plan pair (plan-copies plan)) known (record known { plans = known.plans ++ plan ∷ [] })
 plan-follows known pair plan found later copies =
     let masks = masks-good plan.copies plan.first plan.second plan.third copies in
     record {
       sound = λ earlier g. rw (g.crafts, g.plans, found.apart, found.first, found.second, not-late plan_group plan_below plan known.plans later, masks) refl;
-      adds = λ k. record k { plans = k.plans ++ option_to_list (for_pair k.crafts pair (plan_by (plan_copies plan))) };
+      adds = λ k. record k { plans = k.plans ++ option_to_list (for_pair k.crafts pair (plan_by (plan-copies plan))) };
       is = λ earlier. refl;
       unended = λ earlier. refl;
       gives = rw (found.apart, found.first, found.second) refl;
@@ -116,12 +116,12 @@ plan-follows known pair plan found later copies =
 
 -- A fate of a greater number than those of its pair.
 pub fate-follows : (known : Known) (pair : Addresses) (fate : Fate) → ArePair known.crafts pair fate.sender fate.receiver → AllByRecursion (λ other. fate_below other fate ≡ true) known.fates
-    → AreCopies fate.copies fate.first fate.second fate.third → Follows (said.Fate pair fate.number (fate_copies fate)) known (record known { fates = known.fates ++ fate ∷ [] })
+    → AreCopies fate.copies fate.first fate.second fate.third → Follows (said.Fate pair fate.number (fate-copies fate)) known (record known { fates = known.fates ++ fate ∷ [] })
 fate-follows known pair fate found later copies =
     let masks = masks-good fate.copies fate.first fate.second fate.third copies in
     record {
       sound = λ earlier g. rw (g.crafts, g.fates, found.apart, found.first, found.second, not-late fate_group fate_below fate known.fates later, masks) refl;
-      adds = λ k. record k { fates = k.fates ++ option_to_list (for_pair k.crafts pair (fate_by fate.number (fate_copies fate))) };
+      adds = λ k. record k { fates = k.fates ++ option_to_list (for_pair k.crafts pair (fate_by fate.number (fate-copies fate))) };
       is = λ earlier. refl;
       unended = λ earlier. refl;
       gives = rw (found.apart, found.first, found.second) refl;

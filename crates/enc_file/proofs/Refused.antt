@@ -22,7 +22,7 @@ use Rattle.enc_file.specs.declared.refusal.ReadError.{ReadError}
 use Rattle.enc_file.specs.declared.refusal.ReadError.TheVariants.{OutOfMemory, Refused}
 use Rattle.enc_file.specs.declared.tables.Tables.{Tables}
 use Rattle.flight.proofs.Boxed.{stays-inside}
-use Rattle.enc_file.proofs.Named.{for-pair-none, for-pair-some, pair_of}
+use Rattle.enc_file.proofs.Named.{for-pair-none, for-pair-some, pair-of}
 
 -- The refusal that the tables make is that of the record after the earlier ones.
 pub refuses : (earlier : List Record) (tables : Tables) (P : Code → Type 0) (why : Code) (e : ReadError) → Holds earlier tables → P why → e ≡ Refused (refusal_after tables.count why) → Refuses (length earlier) P e
@@ -72,42 +72,42 @@ pub leg-fault : (earlier : List Record) (address : ℕ) (course : Course) (craft
 leg-fault earlier address course craft at = rw at refl
 
 -- Records of a pair: what they repeat, and that the pair is there.
-pair-repeats : (crafts : List CraftSpec) (pair : Addresses) (f : ℕ → ℕ → Bool) (p : ℕ × ℕ) → pair_of crafts pair ≡ Some p → holds (for_pair crafts pair f) ≡ f p.0 p.1
+pair-repeats : (crafts : List CraftSpec) (pair : Addresses) (f : ℕ → ℕ → Bool) (p : ℕ × ℕ) → pair-of crafts pair ≡ Some p → holds (for_pair crafts pair f) ≡ f p.0 p.1
 pair-repeats crafts pair f p at = ap holds (for-pair-some crafts pair f p at)
 
-pair-none : (crafts : List CraftSpec) (pair : Addresses) (f : ℕ → ℕ → Bool) → pair_of crafts pair ≡ None → holds (for_pair crafts pair f) ≡ false
+pair-none : (crafts : List CraftSpec) (pair : Addresses) (f : ℕ → ℕ → Bool) → pair-of crafts pair ≡ None → holds (for_pair crafts pair f) ≡ false
 pair-none crafts pair f at = ap holds (for-pair-none crafts pair f at)
 
-pair-known : (crafts : List CraftSpec) (pair : Addresses) (p : ℕ × ℕ) → pair_of crafts pair ≡ Some p → is_none (for_pair crafts pair pair_number) ≡ false
+pair-known : (crafts : List CraftSpec) (pair : Addresses) (p : ℕ × ℕ) → pair-of crafts pair ≡ Some p → is_none (for_pair crafts pair pair_number) ≡ false
 pair-known crafts pair p at = ap is_none (for-pair-some crafts pair pair_number p at)
 
-pair-unknown : (crafts : List CraftSpec) (pair : Addresses) → pair_of crafts pair ≡ None → is_none (for_pair crafts pair pair_number) ≡ true
+pair-unknown : (crafts : List CraftSpec) (pair : Addresses) → pair-of crafts pair ≡ None → is_none (for_pair crafts pair pair_number) ≡ true
 pair-unknown crafts pair at = ap is_none (for-pair-none crafts pair pair_number at)
 
 -- A miss.
-pub miss-unknown : (earlier : List Record) (pair : Addresses) (from to : ℕ) → pair_of (crafts_of earlier) pair ≡ None → fault_of earlier (said.Miss pair from to) ≡ Some code.Unknown
+pub miss-unknown : (earlier : List Record) (pair : Addresses) (from to : ℕ) → pair-of (crafts_of earlier) pair ≡ None → fault_of earlier (said.Miss pair from to) ≡ Some code.Unknown
 miss-unknown earlier pair from to at =
     by-unknown earlier (said.Miss pair from to) (pair-none (crafts_of earlier) pair (λ i j. comes_late miss_group miss_below (misses_of earlier) (miss_by from to i j)) at) (pair-unknown (crafts_of earlier) pair at)
 
-pub miss-fault : (earlier : List Record) (pair : Addresses) (from to : ℕ) (p : ℕ × ℕ) → pair_of (crafts_of earlier) pair ≡ Some p
+pub miss-fault : (earlier : List Record) (pair : Addresses) (from to : ℕ) (p : ℕ × ℕ) → pair-of (crafts_of earlier) pair ≡ Some p
     → fault_of earlier (said.Miss pair from to) ≡ (if comes_late miss_group miss_below (misses_of earlier) (miss_by from to p.0 p.1) then Some code.Repeat else None)
 miss-fault earlier pair from to p at = rw (pair-repeats (crafts_of earlier) pair (λ i j. comes_late miss_group miss_below (misses_of earlier) (miss_by from to i j)) p at, pair-known (crafts_of earlier) pair p at) refl
 
 -- A plan.
-pub plan-unknown : (earlier : List Record) (pair : Addresses) (copies : Copies) → pair_of (crafts_of earlier) pair ≡ None → fault_of earlier (said.Plan pair copies) ≡ Some code.Unknown
+pub plan-unknown : (earlier : List Record) (pair : Addresses) (copies : Copies) → pair-of (crafts_of earlier) pair ≡ None → fault_of earlier (said.Plan pair copies) ≡ Some code.Unknown
 plan-unknown earlier pair copies at =
     by-unknown earlier (said.Plan pair copies) (pair-none (crafts_of earlier) pair (λ i j. comes_late plan_group plan_below (plans_of earlier) (plan_by copies i j)) at) (pair-unknown (crafts_of earlier) pair at)
 
-pub plan-fault : (earlier : List Record) (pair : Addresses) (copies : Copies) (p : ℕ × ℕ) → pair_of (crafts_of earlier) pair ≡ Some p
+pub plan-fault : (earlier : List Record) (pair : Addresses) (copies : Copies) (p : ℕ × ℕ) → pair-of (crafts_of earlier) pair ≡ Some p
     → fault_of earlier (said.Plan pair copies) ≡ (if comes_late plan_group plan_below (plans_of earlier) (plan_by copies p.0 p.1) then Some code.Repeat else if are_masks_bad copies.first copies.second copies.third then Some code.Mask else None)
 plan-fault earlier pair copies p at = rw (pair-repeats (crafts_of earlier) pair (λ i j. comes_late plan_group plan_below (plans_of earlier) (plan_by copies i j)) p at, pair-known (crafts_of earlier) pair p at) refl
 
 -- A fate.
-pub fate-unknown : (earlier : List Record) (pair : Addresses) (number : ℕ) (copies : Copies) → pair_of (crafts_of earlier) pair ≡ None → fault_of earlier (said.Fate pair number copies) ≡ Some code.Unknown
+pub fate-unknown : (earlier : List Record) (pair : Addresses) (number : ℕ) (copies : Copies) → pair-of (crafts_of earlier) pair ≡ None → fault_of earlier (said.Fate pair number copies) ≡ Some code.Unknown
 fate-unknown earlier pair number copies at =
     by-unknown earlier (said.Fate pair number copies) (pair-none (crafts_of earlier) pair (λ i j. comes_late fate_group fate_below (fates_of earlier) (fate_by number copies i j)) at) (pair-unknown (crafts_of earlier) pair at)
 
-pub fate-fault : (earlier : List Record) (pair : Addresses) (number : ℕ) (copies : Copies) (p : ℕ × ℕ) → pair_of (crafts_of earlier) pair ≡ Some p
+pub fate-fault : (earlier : List Record) (pair : Addresses) (number : ℕ) (copies : Copies) (p : ℕ × ℕ) → pair-of (crafts_of earlier) pair ≡ Some p
     → fault_of earlier (said.Fate pair number copies) ≡ (if comes_late fate_group fate_below (fates_of earlier) (fate_by number copies p.0 p.1) then Some code.Repeat else if are_masks_bad copies.first copies.second copies.third then Some code.Mask else None)
 fate-fault earlier pair number copies p at = rw (pair-repeats (crafts_of earlier) pair (λ i j. comes_late fate_group fate_below (fates_of earlier) (fate_by number copies i j)) p at, pair-known (crafts_of earlier) pair p at) refl
 

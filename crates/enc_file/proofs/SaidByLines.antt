@@ -62,10 +62,10 @@ pub run-said : (version cycles : ℕ) (elevation : ℤ) → IsCycle cycles → I
 unfolding record_of run_of
 run-said version cycles elevation h k = rw (cycle-is cycles h, number-is 1000 15000 elevation (omega arith) (omega arith) k) refl
 
-abbrev pub course_of : Leg → Course
-course_of leg = record { from = leg.from; vx = leg.vx; vy = leg.vy; vz = leg.vz }
+abbrev pub course-of : Leg → Course
+course-of leg = record { from = leg.from; vx = leg.vx; vy = leg.vy; vz = leg.vz }
 
-pub leg-said : (version n : ℕ) (leg : Leg) → IsAddress n → IsCycle leg.from → AreRates leg → record_of version (leg_fields n leg) ≡ Ok (said.Leg n (course_of leg))
+pub leg-said : (version n : ℕ) (leg : Leg) → IsAddress n → IsCycle leg.from → AreRates leg → record_of version (leg_fields n leg) ≡ Ok (said.Leg n (course-of leg))
 unfolding record_of leg_of
 leg-said version n leg a h rates =
     rw (
@@ -175,22 +175,22 @@ copies-said front (suc (suc (suc zero))) one two three h =
     ) refl
 copies-said front (suc (suc (suc (suc n)))) one two three h = absurd (omega (arith, h.few))
 
-abbrev pub plan_copies : LinkPlan → Copies
-plan_copies plan = record { count = plan.copies; first = plan.first; second = plan.second; third = plan.third }
+abbrev pub plan-copies : LinkPlan → Copies
+plan-copies plan = record { count = plan.copies; first = plan.first; second = plan.second; third = plan.third }
 
 pub plan-said : (first second : ℕ) (plan : LinkPlan) → IsAddress first → IsAddress second → AreCopies plan.copies plan.first plan.second plan.third
-    → record_of 2 (codes "plan" ∷ address first ∷ address second ∷ copies_fields plan.copies plan.first plan.second plan.third) ≡ Ok (said.Plan (record { first = first; second = second }) (plan_copies plan))
+    → record_of 2 (codes "plan" ∷ address first ∷ address second ∷ copies_fields plan.copies plan.first plan.second plan.third) ≡ Ok (said.Plan (record { first = first; second = second }) (plan-copies plan))
 unfolding record_of plan_of
 plan-said first second plan a b h =
     let front = codes "plan" ∷ address first ∷ address second ∷ [] in
     rw (count-said front plan.copies plan.first plan.second plan.third h.few, copies-said front plan.copies plan.first plan.second plan.third h, address-said first a, address-said second b) refl
 
-abbrev pub fate_copies : Fate → Copies
-fate_copies fate = record { count = fate.copies; first = fate.first; second = fate.second; third = fate.third }
+abbrev pub fate-copies : Fate → Copies
+fate-copies fate = record { count = fate.copies; first = fate.first; second = fate.second; third = fate.third }
 
 pub fate-said : (version first second : ℕ) (fate : Fate) → IsAddress first → IsAddress second → IsCycle fate.number → AreCopies fate.copies fate.first fate.second fate.third
     → record_of version (codes "fate" ∷ address first ∷ address second ∷ number fate.number ∷ copies_fields fate.copies fate.first fate.second fate.third)
-    ≡ Ok (said.Fate (record { first = first; second = second }) fate.number (fate_copies fate))
+    ≡ Ok (said.Fate (record { first = first; second = second }) fate.number (fate-copies fate))
 unfolding record_of fate_of
 fate-said version first second fate a b k h =
     let front = codes "fate" ∷ address first ∷ address second ∷ number fate.number ∷ [] in

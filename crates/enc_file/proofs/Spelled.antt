@@ -15,7 +15,7 @@ use Rattle.csv.specs.Records.{field_at}
 use Rattle.acas_base.specs.Ranges.{IsBetween}
 use Rattle.acas_text.specs.Decimal.{IsPlain}
 use Rattle.acas_text.specs.Hex.{hex}
-use Rattle.acas_text.proofs.Digits.{digits_value-hex}
+use Rattle.acas_text.proofs.Digits.{digits-value-hex}
 use Rattle.enc_file.specs.Values.{address_in, if_spelled, mask_in, number_in, passing}
 
 pub field-some : (row : List (List ℕ)) (i : ℕ) (bytes : List ℕ) → field_at row i ≡ Some bytes → bytes ≡ slice_index_or row i []
@@ -89,7 +89,7 @@ number-none low high bytes a b h =
 
 -- A number of so many digits, where it passes.
 hex-spelled : (test : ℕ → Bool) (k n : ℕ) (bytes : List ℕ) → n < 16 ^ k → bytes ≡ hex k n → passing test (if_spelled (hex k) bytes (digits_value 16 bytes)) ≡ passing test (Some n)
-hex-spelled test k n bytes small e = ap (passing test) (spelled-is (hex k) bytes n (digits_value 16 bytes) e (ap (digits_value 16) e ∙ digits_value-hex k n small))
+hex-spelled test k n bytes small e = ap (passing test) (spelled-is (hex k) bytes n (digits_value 16 bytes) e (ap (digits_value 16) e ∙ digits-value-hex k n small))
 
 -- Bytes that spell none.
 hex-unspelled : (test : ℕ → Bool) (k : ℕ) (bytes : List ℕ) → ((n : ℕ) → test n ≡ true → n < 16 ^ k) → ((n : ℕ) → n < 16 ^ k → hex k n ≢ bytes) → passing test (if_spelled (hex k) bytes (digits_value 16 bytes)) ≡ None

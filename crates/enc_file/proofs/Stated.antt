@@ -26,7 +26,7 @@ use Rattle.enc_file.specs.declared.record.Record.TheVariants as said
 use Rattle.enc_file.proofs.AircraftFound.{ArePair, pair-gives}
 use Rattle.enc_file.proofs.Crafted.{apart-climb, apart-push, most-few}
 use Rattle.enc_file.proofs.Faultless.{chain-none}
-use Rattle.enc_file.proofs.Named.{for-pair-by, index-address, index-within, pair-known, pair_of}
+use Rattle.enc_file.proofs.Named.{for-pair-by, index-address, index-within, pair-known, pair-of}
 
 -- Places.
 
@@ -215,24 +215,24 @@ two-apart : (a b c d : ℕ) → (a == b) ≡ false → (not (c == d) && (a == c 
 two-apart a b c d apart = grind (arith, nat_tests)
 
 same-pair : (crafts : List CraftSpec) (known asked : Addresses) (p : ℕ × ℕ) → ArePair crafts known p.0 p.1
-    → holds (option_map (λ (q : ℕ × ℕ). p.0 == q.0 && p.1 == q.1) (pair_of crafts asked)) ≡ is_same_pair known asked
+    → holds (option_map (λ (q : ℕ × ℕ). p.0 == q.0 && p.1 == q.1) (pair-of crafts asked)) ≡ is_same_pair known asked
 same-pair crafts known asked p are =
     pair-parts (asked.first == asked.second) (index_of crafts asked.first) (index_of crafts asked.second) p
     ∙ ap (λ b. not (asked.first == asked.second) && (b && holds (option_map (λ i. p.1 == i) (index_of crafts asked.second)))) (same-index crafts known.first asked.first p.0 are.first)
     ∙ ap (λ b. not (asked.first == asked.second) && (known.first == asked.first && b)) (same-index crafts known.second asked.second p.1 are.second)
     ∙ two-apart known.first known.second asked.first asked.second are.apart
 
-within-tested : (crafts : List CraftSpec) (asked : Addresses) (p : ℕ × ℕ) (f g : ℕ) (o : Option (ℕ × ℕ)) → length crafts ≤ 16 → p.1 < 16 → pair_of crafts asked ≡ o
+within-tested : (crafts : List CraftSpec) (asked : Addresses) (p : ℕ × ℕ) (f g : ℕ) (o : Option (ℕ × ℕ)) → length crafts ≤ 16 → p.1 < 16 → pair-of crafts asked ≡ o
     → holds (option_map (λ (q : ℕ × ℕ). pair_number p.0 p.1 == pair_number q.0 q.1 && not (is_below (p.0, p.1, f) (q.0, q.1, g))) o)
     ≡ holds (option_map (λ (q : ℕ × ℕ). (p.0 == q.0 && p.1 == q.1) && nat_le g f) o)
 within-tested crafts asked p f g None few small is = refl
 within-tested crafts asked p f g (Some q) few small is = pair-test p.0 p.1 f q.0 q.1 g small (omega (arith, few, (pair-known crafts asked q is).second))
 
 pair-stated : (crafts : List CraftSpec) (known asked : Addresses) (p : ℕ × ℕ) (f g : ℕ) → length crafts ≤ 16 → ArePair crafts known p.0 p.1
-    → holds (option_map (λ (q : ℕ × ℕ). pair_number p.0 p.1 == pair_number q.0 q.1 && not (is_below (p.0, p.1, f) (q.0, q.1, g))) (pair_of crafts asked)) ≡ (is_same_pair known asked && nat_le g f)
+    → holds (option_map (λ (q : ℕ × ℕ). pair_number p.0 p.1 == pair_number q.0 q.1 && not (is_below (p.0, p.1, f) (q.0, q.1, g))) (pair-of crafts asked)) ≡ (is_same_pair known asked && nat_le g f)
 pair-stated crafts known asked p f g few are =
-    within-tested crafts asked p f g (pair_of crafts asked) few (omega (arith, few, index-within crafts known.second p.1 are.second)) refl
-    ∙ both-tested (λ (q : ℕ × ℕ). p.0 == q.0 && p.1 == q.1) (nat_le g f) (pair_of crafts asked)
+    within-tested crafts asked p f g (pair-of crafts asked) few (omega (arith, few, index-within crafts known.second p.1 are.second)) refl
+    ∙ both-tested (λ (q : ℕ × ℕ). p.0 == q.0 && p.1 == q.1) (nat_le g f) (pair-of crafts asked)
     ∙ ap (λ b. b && nat_le g f) (same-pair crafts known asked p are)
 
 -- A known pair, among the earlier aircraft and among the later ones.
@@ -257,14 +257,14 @@ pair-more : {X : Type 0} (crafts : List CraftSpec) (known asked : Addresses) (p 
 pair-more crafts known asked p f g late xs more x rest few are one test before =
     ap (λ ys. holds (for_pair crafts asked (λ i j. list_any (late i j) (xs ++ ys)))) one
     ∙ ap holds (for-pair-by crafts asked (λ i j. list_any (late i j) (xs ++ x ∷ [])))
-    ∙ added (λ (q : ℕ × ℕ). late q.0 q.1) xs x (pair_of crafts asked)
-    ∙ ap (λ b. b || holds (option_map (λ (q : ℕ × ℕ). list_any (late q.0 q.1) xs) (pair_of crafts asked)))
-    (tests-same (λ (q : ℕ × ℕ). late q.0 q.1 x) (λ (q : ℕ × ℕ). pair_number p.0 p.1 == pair_number q.0 q.1 && not (is_below (p.0, p.1, f) (q.0, q.1, g))) (pair_of crafts asked) (λ q. test q.0 q.1)
+    ∙ added (λ (q : ℕ × ℕ). late q.0 q.1) xs x (pair-of crafts asked)
+    ∙ ap (λ b. b || holds (option_map (λ (q : ℕ × ℕ). list_any (late q.0 q.1) xs) (pair-of crafts asked)))
+    (tests-same (λ (q : ℕ × ℕ). late q.0 q.1 x) (λ (q : ℕ × ℕ). pair_number p.0 p.1 == pair_number q.0 q.1 && not (is_below (p.0, p.1, f) (q.0, q.1, g))) (pair-of crafts asked) (λ q. test q.0 q.1)
     ∙ pair-stated crafts known asked p f g few are)
     ∙ ap (λ b. (is_same_pair known asked && nat_le g f) || b) (sym (ap holds (for-pair-by crafts asked (λ i j. list_any (late i j) xs))) ∙ before)
 
 nothing-asked : (crafts : List CraftSpec) (asked : Addresses) → holds (for_pair crafts asked (λ i j. false)) ≡ false
-nothing-asked crafts asked = ap holds (for-pair-by crafts asked (λ i j. false)) ∙ none-tested (pair_of crafts asked)
+nothing-asked crafts asked = ap holds (for-pair-by crafts asked (λ i j. false)) ∙ none-tested (pair-of crafts asked)
 
 abbrev late_miss : ℕ → ℕ → ℕ → ℕ → Miss → Bool
 late_miss from to first_craft second_craft last = miss_group last == miss_group (miss_by from to first_craft second_craft) && not (miss_below last (miss_by from to first_craft second_craft))

@@ -50,20 +50,20 @@ fault-unless now None = refl
 fault-unless now (Some why) = refl
 
 -- What a record of a kind says.
-abbrev pub read_by : RecordKind → List (List ℕ) → Result Record Code
-read_by RunKind fields = run_of fields
-read_by GainsKind fields = gains_of fields
-read_by CraftKind fields = craft_of fields
-read_by ClimbKind fields = climb_of fields
-read_by LegKind fields = leg_of fields
-read_by MissKind fields = miss_of fields
-read_by PlanKind fields = plan_of fields
-read_by FateKind fields = fate_of fields
-read_by EndKind fields = end_of fields
+abbrev pub read-by : RecordKind → List (List ℕ) → Result Record Code
+read-by RunKind fields = run_of fields
+read-by GainsKind fields = gains_of fields
+read-by CraftKind fields = craft_of fields
+read-by ClimbKind fields = climb_of fields
+read-by LegKind fields = leg_of fields
+read-by MissKind fields = miss_of fields
+read-by PlanKind fields = plan_of fields
+read-by FateKind fields = fate_of fields
+read-by EndKind fields = end_of fields
 
 -- It is read as it says, and its lowest fault is told.
 abbrev pub IsTold : List Record → RecordKind → List (List ℕ) → Type 0
-IsTold earlier kind fields = fault_in (checked earlier (read_by kind fields)) ≡ lowest_of (fault_by earlier kind fields)
+IsTold earlier kind fields = fault_in (checked earlier (read-by kind fields)) ≡ lowest_of (fault_by earlier kind fields)
 
 run-at : (earlier : List Record) (fits : Bool) (cycles : Option ℕ) (elevation : Option ℤ)
     → fault_in (checked earlier (if fits then needs cycles code.Number (λ c. needs elevation code.Number (λ e. Ok (said.Run (record { cycles = c; elevation = e })))) else Err code.Fields))

@@ -18,7 +18,7 @@ use Rattle.enc_file.specs.declared.refusal.Code.TheVariants as code
 use Rattle.enc_file.specs.declared.refusal.Refusal.{Refusal}
 use Rattle.enc_file.proofs.LowestCode.{is-lowest, is-none, lowest-none, lowest-same, lowest-some, lowest_of, or_else}
 use Rattle.enc_file.proofs.Stated.{AreSound}
-use Rattle.enc_file.proofs.StatedKinds.{fault_by, fault_in, kind-told, read_by}
+use Rattle.enc_file.proofs.StatedKinds.{fault_by, fault_in, kind-told, read-by}
 
 -- A name is a word, or the test of the two fails.
 named-or : (name word : List ℕ) → (name ≡ word) ⊎ (bytes_eq name word ≡ false)
@@ -27,37 +27,37 @@ named-or name word = at (bytes_eq name word) refl where
   at true is = inl ((bytes_eq-Decides name word).0 is)
   at false is = inr refl
 
-abbrev kind_result : Option RecordKind → List (List ℕ) → Result Record Code
-kind_result None fields = Err code.Kind
-kind_result (Some kind) fields = read_by kind fields
+abbrev kind-result : Option RecordKind → List (List ℕ) → Result Record Code
+kind-result None fields = Err code.Kind
+kind-result (Some kind) fields = read-by kind fields
 
-abbrev by_name : Bool → List ℕ → List (List ℕ) → Result Record Code
-by_name second name fields =
-    if bytes_eq name (codes "fate") then read_by FateKind fields else
-    if bytes_eq name (codes "leg") then read_by LegKind fields else
-    if bytes_eq name (codes "miss") then read_by MissKind fields else
-    if bytes_eq name (codes "craft") then read_by CraftKind fields else
-    if bytes_eq name (codes "run") then read_by RunKind fields else
-    if bytes_eq name (codes "gains") then read_by GainsKind fields else
-    if bytes_eq name (codes "end") then read_by EndKind fields else
-    if second && bytes_eq name (codes "climb") then read_by ClimbKind fields else
-    if second && bytes_eq name (codes "plan") then read_by PlanKind fields else Err code.Kind
+abbrev by-name : Bool → List ℕ → List (List ℕ) → Result Record Code
+by-name second name fields =
+    if bytes_eq name (codes "fate") then read-by FateKind fields else
+    if bytes_eq name (codes "leg") then read-by LegKind fields else
+    if bytes_eq name (codes "miss") then read-by MissKind fields else
+    if bytes_eq name (codes "craft") then read-by CraftKind fields else
+    if bytes_eq name (codes "run") then read-by RunKind fields else
+    if bytes_eq name (codes "gains") then read-by GainsKind fields else
+    if bytes_eq name (codes "end") then read-by EndKind fields else
+    if second && bytes_eq name (codes "climb") then read-by ClimbKind fields else
+    if second && bytes_eq name (codes "plan") then read-by PlanKind fields else Err code.Kind
 
 abbrev kind_by : Bool → List ℕ → Option RecordKind
 kind_by second name = find (λ kind. bytes_eq name (kind_word kind)) (RunKind ∷ GainsKind ∷ CraftKind ∷ LegKind ∷ MissKind ∷ FateKind ∷ EndKind ∷ (if second then ClimbKind ∷ PlanKind ∷ [] else []))
 
 -- A name of none of the first seven kinds.
 later-name : (second : Bool) (name : List ℕ) (fields : List (List ℕ))
-    → (if second && bytes_eq name (codes "climb") then read_by ClimbKind fields else if second && bytes_eq name (codes "plan") then read_by PlanKind fields else Err code.Kind)
-    ≡ kind_result (find (λ kind. bytes_eq name (kind_word kind)) (if second then ClimbKind ∷ PlanKind ∷ [] else [])) fields
+    → (if second && bytes_eq name (codes "climb") then read-by ClimbKind fields else if second && bytes_eq name (codes "plan") then read-by PlanKind fields else Err code.Kind)
+    ≡ kind-result (find (λ kind. bytes_eq name (kind_word kind)) (if second then ClimbKind ∷ PlanKind ∷ [] else [])) fields
 later-name false name fields = refl
 later-name true name fields = at (bytes_eq name (codes "climb")) (bytes_eq name (codes "plan")) where
-  at : (a b : Bool) → (if a then read_by ClimbKind fields else if b then read_by PlanKind fields else Err code.Kind) ≡ kind_result (if a then Some ClimbKind else if b then Some PlanKind else None) fields
+  at : (a b : Bool) → (if a then read-by ClimbKind fields else if b then read-by PlanKind fields else Err code.Kind) ≡ kind-result (if a then Some ClimbKind else if b then Some PlanKind else None) fields
   at true b = refl
   at false true = refl
   at false false = refl
 
-name-told : (second : Bool) (name : List ℕ) (fields : List (List ℕ)) → by_name second name fields ≡ kind_result (kind_by second name) fields
+name-told : (second : Bool) (name : List ℕ) (fields : List (List ℕ)) → by-name second name fields ≡ kind-result (kind_by second name) fields
 name-told second name fields = elim (named-or name (codes "fate")) [
   | inl e ↦ rw e refl
   | inr a ↦ elim (named-or name (codes "leg")) [
@@ -81,7 +81,7 @@ name-told second name fields = elim (named-or name (codes "fate")) [
   ]
 ]
 
-record-told : (version : ℕ) (fields : List (List ℕ)) → record_of version fields ≡ kind_result (kind_named version (field fields 0)) fields
+record-told : (version : ℕ) (fields : List (List ℕ)) → record_of version fields ≡ kind-result (kind_named version (field fields 0)) fields
 unfolding record_of
 record-told version fields = name-told (version == 2) (field fields 0) fields
 
@@ -122,7 +122,7 @@ unfolding has_fault
 unnamed-told last before fields unended is = rw (unended, is) refl
 
 going-told : (last : Record) (before : List Record) (fields : List (List ℕ)) (o : Option RecordKind) → AreSound (last ∷ before) → has_ended (last ∷ before) ≡ false
-    → kind_named (version_of (last ∷ before)) (field fields 0) ≡ o → fault_in (checked (last ∷ before) (kind_result o fields)) ≡ lowest_of (has_fault (last ∷ before) (Some fields))
+    → kind_named (version_of (last ∷ before)) (field fields 0) ≡ o → fault_in (checked (last ∷ before) (kind-result o fields)) ≡ lowest_of (has_fault (last ∷ before) (Some fields))
 going-told last before fields None sound unended is = unnamed-told last before fields unended is
 going-told last before fields (Some kind) sound unended is =
     kind-told (last ∷ before) kind fields sound
@@ -268,10 +268,10 @@ faulty-next : (r : Result Record Code) (why : Code) → fault_in r ≡ Some why 
 faulty-next (Ok now) why is = absurd (none-some why is)
 faulty-next (Err other) why is = ap Err (same_Some other why is)
 
-abbrev read_as : Record → Result Record Code
-read_as now = Ok now
+abbrev read-as : Record → Result Record Code
+read-as now = Ok now
 
-ok-same : (a b : Record) → read_as a ≡ read_as b → a ≡ b
+ok-same : (a b : Record) → read-as a ≡ read-as b → a ≡ b
 ok-same a b is = cc is
 
 refusal-is : (refusal : Refusal) (count : ℕ) → refusal.at ≡ count + 1 → refusal_after count refusal.code ≡ refusal

@@ -39,7 +39,7 @@ use Rattle.enc_file.proofs.Orders.{pair-within}
 use Rattle.enc_file.proofs.Refused.{fate-fault, leg-fault, miss-fault, plan-fault, refuses}
 use Rattle.enc_file.proofs.Repeated.{fate-late, leg-late, miss-late, plan-late}
 use Rattle.enc_file.proofs.Spelled.{fits-between}
-use Rattle.enc_file.proofs.Named.{for-pair-some, index-within, pair-known, pair_of}
+use Rattle.enc_file.proofs.Named.{for-pair-some, index-within, pair-known, pair-of}
 
 read-more : (earlier : List Record) (now : Record) → AreRead earlier → 1 ≤ length earlier → IsNext earlier now → AreRead (now ∷ earlier)
 read-more [] now read some next = absurd (omega (arith, some))
@@ -76,12 +76,12 @@ kept-fault group below masked xs lists n x is within late =
 pub craft-within : (earlier : List Record) (address craft : ℕ) → AreRead earlier → index_of (crafts_of earlier) address ≡ Some craft → craft < CRAFTS
 craft-within earlier address craft read at = omega (arith, index-within (crafts_of earlier) address craft at, crafts-few earlier read)
 
-pub pair-in : (earlier : List Record) (pair : Addresses) (p : ℕ × ℕ) → AreRead earlier → pair_of (crafts_of earlier) pair ≡ Some p → (p.0 < CRAFTS) × (p.1 < CRAFTS)
+pub pair-in : (earlier : List Record) (pair : Addresses) (p : ℕ × ℕ) → AreRead earlier → pair-of (crafts_of earlier) pair ≡ Some p → (p.0 < CRAFTS) × (p.1 < CRAFTS)
 pair-in earlier pair p read at =
     let known = pair-known (crafts_of earlier) pair p at in
     (omega (arith, known.first, crafts-few earlier read), omega (arith, known.second, crafts-few earlier read))
 
-pub number-within : (earlier : List Record) (pair : Addresses) (p : ℕ × ℕ) → AreRead earlier → pair_of (crafts_of earlier) pair ≡ Some p → pair_number p.0 p.1 < CRAFTS * CRAFTS
+pub number-within : (earlier : List Record) (pair : Addresses) (p : ℕ × ℕ) → AreRead earlier → pair-of (crafts_of earlier) pair ≡ Some p → pair_number p.0 p.1 < CRAFTS * CRAFTS
 number-within earlier pair p read at = pair-within (length (crafts_of earlier)) p.0 p.1 (crafts-few earlier read) (pair-known (crafts_of earlier) pair p at)
 
 -- What was settled is an answer on the record, if the fault is its fault, and without one the tables hold it.
@@ -106,19 +106,19 @@ leg-kept earlier tables address course craft h at =
     let x = leg_by course craft in
     kept-fault leg_group leg_below leg_masked (legs_of earlier) tables.legs CRAFTS x h.legs (craft-within earlier address craft h.read at) (leg-late earlier h.read x) ∙ sym (leg-fault earlier address course craft at)
 
-pub miss-kept : (earlier : List Record) (tables : Tables) (pair : Addresses) (from to : ℕ) (p : ℕ × ℕ) → Holds earlier tables → pair_of (crafts_of earlier) pair ≡ Some p
+pub miss-kept : (earlier : List Record) (tables : Tables) (pair : Addresses) (from to : ℕ) (p : ℕ × ℕ) → Holds earlier tables → pair-of (crafts_of earlier) pair ≡ Some p
     → listed_fault miss_below miss_masked (last_of (group_at tables.misses (pair_number p.0 p.1))) (miss_by from to p.0 p.1) ≡ fault_of earlier (said.Miss pair from to)
 miss-kept earlier tables pair from to p h at =
     let x = miss_by from to p.0 p.1 in
     kept-fault miss_group miss_below miss_masked (misses_of earlier) tables.misses (CRAFTS * CRAFTS) x h.misses (number-within earlier pair p h.read at) (miss-late earlier h.read x) ∙ sym (miss-fault earlier pair from to p at)
 
-pub plan-kept : (earlier : List Record) (tables : Tables) (pair : Addresses) (copies : Copies) (p : ℕ × ℕ) → Holds earlier tables → pair_of (crafts_of earlier) pair ≡ Some p
+pub plan-kept : (earlier : List Record) (tables : Tables) (pair : Addresses) (copies : Copies) (p : ℕ × ℕ) → Holds earlier tables → pair-of (crafts_of earlier) pair ≡ Some p
     → listed_fault plan_below plan_masked (last_of (group_at tables.plans (pair_number p.0 p.1))) (plan_by copies p.0 p.1) ≡ fault_of earlier (said.Plan pair copies)
 plan-kept earlier tables pair copies p h at =
     let x = plan_by copies p.0 p.1 in
     kept-fault plan_group plan_below plan_masked (plans_of earlier) tables.plans (CRAFTS * CRAFTS) x h.plans (number-within earlier pair p h.read at) (plan-late earlier h.read x) ∙ sym (plan-fault earlier pair copies p at)
 
-pub fate-kept : (earlier : List Record) (tables : Tables) (pair : Addresses) (number : ℕ) (copies : Copies) (p : ℕ × ℕ) → Holds earlier tables → pair_of (crafts_of earlier) pair ≡ Some p
+pub fate-kept : (earlier : List Record) (tables : Tables) (pair : Addresses) (number : ℕ) (copies : Copies) (p : ℕ × ℕ) → Holds earlier tables → pair-of (crafts_of earlier) pair ≡ Some p
     → listed_fault fate_below fate_masked (last_of (group_at tables.fates (pair_number p.0 p.1))) (fate_by number copies p.0 p.1) ≡ fault_of earlier (said.Fate pair number copies)
 fate-kept earlier tables pair number copies p h at =
     let x = fate_by number copies p.0 p.1 in
@@ -149,7 +149,7 @@ held-leg earlier tables address course craft legs h going fine at new = record {
 }
 
 pub held-miss : (earlier : List Record) (tables : Tables) (pair : Addresses) (from to : ℕ) (p : ℕ × ℕ) (misses : List (List Miss))
-    → Holds earlier tables → AreGoing earlier → IsFine earlier (said.Miss pair from to) → pair_of (crafts_of earlier) pair ≡ Some p
+    → Holds earlier tables → AreGoing earlier → IsFine earlier (said.Miss pair from to) → pair-of (crafts_of earlier) pair ≡ Some p
     → misses ≡ set tables.misses (pair_number p.0 p.1) (group_at tables.misses (pair_number p.0 p.1) ++ miss_by from to p.0 p.1 ∷ [])
     → Holds (said.Miss pair from to ∷ earlier) (record tables { misses = misses; count = tables.count + 1 })
 held-miss earlier tables pair from to p misses h going fine at new = record {
@@ -167,7 +167,7 @@ held-miss earlier tables pair from to p misses h going fine at new = record {
 }
 
 pub held-plan : (earlier : List Record) (tables : Tables) (pair : Addresses) (copies : Copies) (p : ℕ × ℕ) (plans : List (List LinkPlan))
-    → Holds earlier tables → AreGoing earlier → IsFine earlier (said.Plan pair copies) → pair_of (crafts_of earlier) pair ≡ Some p
+    → Holds earlier tables → AreGoing earlier → IsFine earlier (said.Plan pair copies) → pair-of (crafts_of earlier) pair ≡ Some p
     → plans ≡ set tables.plans (pair_number p.0 p.1) (group_at tables.plans (pair_number p.0 p.1) ++ plan_by copies p.0 p.1 ∷ [])
     → Holds (said.Plan pair copies ∷ earlier) (record tables { plans = plans; count = tables.count + 1 })
 held-plan earlier tables pair copies p plans h going fine at new = record {
@@ -185,7 +185,7 @@ held-plan earlier tables pair copies p plans h going fine at new = record {
 }
 
 pub held-fate : (earlier : List Record) (tables : Tables) (pair : Addresses) (number : ℕ) (copies : Copies) (p : ℕ × ℕ) (fates : List (List Fate))
-    → Holds earlier tables → AreGoing earlier → IsFine earlier (said.Fate pair number copies) → pair_of (crafts_of earlier) pair ≡ Some p
+    → Holds earlier tables → AreGoing earlier → IsFine earlier (said.Fate pair number copies) → pair-of (crafts_of earlier) pair ≡ Some p
     → fates ≡ set tables.fates (pair_number p.0 p.1) (group_at tables.fates (pair_number p.0 p.1) ++ fate_by number copies p.0 p.1 ∷ [])
     → Holds (said.Fate pair number copies ∷ earlier) (record tables { fates = fates; count = tables.count + 1 })
 held-fate earlier tables pair number copies p fates h going fine at new = record {

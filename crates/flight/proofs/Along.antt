@@ -27,15 +27,15 @@ along-one start rate legs index cycle k d course within some low high =
     assoc : (a b c : ℤ) → a +ℤ (b +ℤ c) ≡ (a +ℤ b) +ℤ c
     assoc a b c = omega (arith, ints)
 
-same_place : (p q : Place) → p.x ≡ q.x → p.y ≡ q.y → p.z ≡ q.z → p ≡ q
-same_place p q x y z = grind arith
+same-place : (p q : Place) → p.x ≡ q.x → p.y ≡ q.y → p.z ≡ q.z → p ≡ q
+same-place p q x y z = grind arith
 
 -- Some way along a leg.
 pub along : (start : Place) (legs : List Leg) (index cycle k : ℕ) (d : Leg) → IsCourse legs → index < length legs → 1 ≤ cycle
     → begins legs index cycle ≤ k → k ≤ begins legs (index + 1) cycle
     → place_in start legs k ≡ flown (place_in start legs (begins legs index cycle)) (get_or legs index d) (k - begins legs index cycle)
 along start legs index cycle k d course within some low high =
-    same_place (place_in start legs k) (flown (place_in start legs (begins legs index cycle)) (get_or legs index d) (k - begins legs index cycle))
+    same-place (place_in start legs k) (flown (place_in start legs (begins legs index cycle)) (get_or legs index d) (k - begins legs index cycle))
     (along-one start.x (λ (leg : Leg). leg.vx) legs index cycle k d course within some low high)
     (along-one start.y (λ (leg : Leg). leg.vy) legs index cycle k d course within some low high)
     (along-one start.z (λ (leg : Leg). leg.vz) legs index cycle k d course within some low high)
@@ -57,7 +57,7 @@ still-one start rate legs cycle k course some early =
 -- At the start until the first leg begins.
 pub still : (start : Place) (legs : List Leg) (cycle k : ℕ) → IsCourse legs → 1 ≤ k → k ≤ begins legs 0 cycle → place_in start legs k ≡ start
 still start legs cycle k course some early =
-    same_place (place_in start legs k) start
+    same-place (place_in start legs k) start
     (still-one start.x (λ (leg : Leg). leg.vx) legs cycle k course some early)
     (still-one start.y (λ (leg : Leg). leg.vy) legs cycle k course some early)
     (still-one start.z (λ (leg : Leg). leg.vz) legs cycle k course some early)

@@ -20,8 +20,8 @@ times-more : (v : ℤ) (n : ℕ) → (v *ℤ pos n) +ℤ v ≡ v *ℤ pos (suc n
 times-more (pos w) n = omega (arith, ints)
 times-more (negsuc w) n = omega (arith, ints)
 
-plus_assoc : (a b c : ℤ) → (a +ℤ b) +ℤ c ≡ a +ℤ (b +ℤ c)
-plus_assoc a b c = omega (arith, ints)
+plus-assoc : (a b c : ℤ) → (a +ℤ b) +ℤ c ≡ a +ℤ (b +ℤ c)
+plus-assoc a b c = omega (arith, ints)
 
 -- Over cycles of one rate.
 pub carried-along : (rate : Leg → ℤ) (legs : List Leg) (a n : ℕ) (v : ℤ) → ((c : ℕ) → a < c → c ≤ a + n → rate_in rate legs c ≡ v)
@@ -32,7 +32,7 @@ carried-along rate legs a (suc n) v same =
     let next : a + suc n ≡ suc (a + n) = omega arith in
     let earlier = carried-along rate legs a n v (λ c h g. same c h (omega arith)) in
     let here : rate_in rate legs (suc (a + n)) ≡ v = same (suc (a + n)) (omega arith) (omega arith) in
-    rw (next, here, earlier) (plus_assoc (carried rate legs a) (v *ℤ pos n) v ∙ ap (λ s. carried rate legs a +ℤ s) (times-more v n))
+    rw (next, here, earlier) (plus-assoc (carried rate legs a) (v *ℤ pos n) v ∙ ap (λ s. carried rate legs a +ℤ s) (times-more v n))
 
 rate-bound : (rate : Leg → ℤ) (size : ℕ) (leg : Option Leg) → IfSome leg (λ l. unsigned_abs (rate l) ≤ size) → unsigned_abs (option_map_or rate leg (pos 0)) ≤ size
 rate-bound rate size None h = omega arith

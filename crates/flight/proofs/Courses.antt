@@ -74,12 +74,12 @@ past : (a b : ℕ) → nat_lt a (b + 1) ≡ false → (a == b) ≡ false
 past a b h = grind (arith, nat_tests)
 
 -- A leg where one is asked for that no fact speaks of.
-abbrev pub any_leg : Leg
-any_leg = record { craft = 0; from = 0; vx = pos 0; vy = pos 0; vz = pos 0 }
+abbrev pub any-leg : Leg
+any-leg = record { craft = 0; from = 0; vx = pos 0; vy = pos 0; vz = pos 0 }
 
 pub in-order : (legs : List Leg) (craft a b : ℕ) → PartedAt legs craft a → PartedAt legs (craft + 1) b → a ≤ length legs → a ≤ b
 in-order legs craft a b one two size = elim (cases_lt b a) [
-  | inl h ↦ absurd (never (get_or legs b any_leg).craft craft (one.0 b any_leg (omega arith) (omega arith)) (two.1 b any_leg (omega arith) (omega arith)))
+  | inl h ↦ absurd (never (get_or legs b any-leg).craft craft (one.0 b any-leg (omega arith) (omega arith)) (two.1 b any-leg (omega arith) (omega arith)))
   | inr h ↦ omega arith
 ]
 

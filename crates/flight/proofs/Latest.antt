@@ -6,25 +6,25 @@ use Rattle.std.proofs.lemmas.Bool.Decides.{nat_tests}
 use Rattle.std.proofs.lemmas.List.Elements.{All-filter}
 use Rattle.std.proofs.lemmas.Option.{slice_get-get_or, slice_get_past}
 use Rattle.acas_base.specs.declared.craft.Leg.{Leg}
-use Rattle.flight.proofs.Courses.{any_leg}
+use Rattle.flight.proofs.Courses.{any-leg}
 use Rattle.flight.specs.Bounds.{IsCourse, begins}
 use Rattle.flight.specs.Flight.{later, leg_in}
 
-is_le : (a b : ℕ) → a ≤ b → nat_le a b ≡ true
-is_le a b h = grind (arith, nat_tests)
+is-le : (a b : ℕ) → a ≤ b → nat_le a b ≡ true
+is-le a b h = grind (arith, nat_tests)
 
-is_gt : (a b : ℕ) → b < a → nat_le a b ≡ false
-is_gt a b h = grind (arith, nat_tests)
+is-gt : (a b : ℕ) → b < a → nat_le a b ≡ false
+is-gt a b h = grind (arith, nat_tests)
 
-is_lt : (a b : ℕ) → a < b → nat_lt a b ≡ true
-is_lt a b h = grind (arith, nat_tests)
+is-lt : (a b : ℕ) → a < b → nat_lt a b ≡ true
+is-lt a b h = grind (arith, nat_tests)
 
 -- None of the legs has begun.
 none-begun : (cycle : ℕ) (xs : List Leg) (best : Option Leg) → ((k : ℕ) (d : Leg) → k < length xs → cycle < (get_or xs k d).from)
     → fold later best (filter (λ (leg : Leg). nat_le leg.from cycle) xs) ≡ best
 none-begun cycle [] best none = refl
 none-begun cycle (x ∷ xs) best none =
-    rw (is_gt x.from cycle (none 0 x (omega arith))) (none-begun cycle xs best (λ k d h. none (suc k) d (omega arith)))
+    rw (is-gt x.from cycle (none 0 x (omega arith))) (none-begun cycle xs best (λ k d h. none (suc k) d (omega arith)))
 
 -- The best so far begins before a leg.
 abbrev Precedes : Option Leg → Leg → Type 0
@@ -33,7 +33,7 @@ Precedes (Some best) leg = best.from < leg.from
 
 later-takes : (best : Option Leg) (leg : Leg) → Precedes best leg → later best leg ≡ Some leg
 later-takes None leg h = refl
-later-takes (Some best) leg h = rw (is_lt best.from leg.from h) refl
+later-takes (Some best) leg h = rw (is-lt best.from leg.from h) refl
 
 abbrev Rises : List Leg → Type 0
 Rises legs = (i j : ℕ) (d : Leg) → i < j → j < length legs → (get_or legs i d).from < (get_or legs j d).from
@@ -44,11 +44,11 @@ last-begun : (cycle : ℕ) (xs : List Leg) (m : ℕ) (d : Leg) (best : Option Le
     → fold later best (filter (λ (leg : Leg). nat_le leg.from cycle) xs) ≡ Some (get_or xs m d)
 last-begun cycle [] m d best within rises precedes begun behind = absurd (omega arith)
 last-begun cycle (x ∷ xs) zero d best within rises precedes begun behind =
-    rw (is_le x.from cycle begun)
+    rw (is-le x.from cycle begun)
     (ap (λ b. fold later b (filter (λ (leg : Leg). nat_le leg.from cycle) xs)) (later-takes best x precedes) ∙ none-begun cycle xs (Some x) (λ k d h. behind (suc k) d (omega arith) (omega arith)))
 last-begun cycle (x ∷ xs) (suc m) d best within rises precedes begun behind =
     let first : x.from < (get_or xs m d).from = rises 0 (suc m) d (omega arith) within in
-    rw (is_le x.from cycle (omega arith))
+    rw (is-le x.from cycle (omega arith))
     (ap (λ b. fold later b (filter (λ (leg : Leg). nat_le leg.from cycle) xs)) (later-takes best x precedes) ∙ last-begun cycle xs m d (Some x) (omega arith) (λ i j d h g. rises (suc i) (suc j) d (omega arith) (omega arith))
     (rises 0 1 d (omega arith) (omega arith)) begun (λ k d h g. behind (suc k) d (omega arith) (omega arith)))
 
@@ -60,13 +60,13 @@ begins-past legs index cycle past = rw (slice_get_past legs index past) refl
 
 pub begins-le : (legs : List Leg) (index cycle : ℕ) → begins legs index cycle ≤ cycle
 begins-le legs index cycle = elim (cases_lt index (length legs)) [
-  | inl h ↦ omega (arith, begins-at legs index cycle any_leg h)
+  | inl h ↦ omega (arith, begins-at legs index cycle any-leg h)
   | inr h ↦ omega (arith, begins-past legs index cycle h)
 ]
 
 pub begins-some : (legs : List Leg) (index cycle : ℕ) → IsCourse legs → 1 ≤ cycle → 1 ≤ begins legs index cycle
 begins-some legs index cycle course some = elim (cases_lt index (length legs)) [
-  | inl h ↦ let from = course.from index any_leg h in omega (arith, from.0, begins-at legs index cycle any_leg h)
+  | inl h ↦ let from = course.from index any-leg h in omega (arith, from.0, begins-at legs index cycle any-leg h)
   | inr h ↦ omega (arith, begins-past legs index cycle h)
 ]
 
@@ -74,9 +74,9 @@ begins-some legs index cycle course some = elim (cases_lt index (length legs)) [
 pub begins-more : (legs : List Leg) (index cycle : ℕ) → IsCourse legs → index < length legs → begins legs index cycle ≤ begins legs (index + 1) cycle
 begins-more legs index cycle course within = elim (cases_lt (index + 1) (length legs)) [
   | inl h ↦
-      let rises = course.rising index (index + 1) any_leg (omega arith) h in
-      omega (arith, rises, begins-at legs index cycle any_leg within, begins-at legs (index + 1) cycle any_leg h)
-  | inr h ↦ omega (arith, begins-at legs index cycle any_leg within, begins-past legs (index + 1) cycle h)
+      let rises = course.rising index (index + 1) any-leg (omega arith) h in
+      omega (arith, rises, begins-at legs index cycle any-leg within, begins-at legs (index + 1) cycle any-leg h)
+  | inr h ↦ omega (arith, begins-at legs index cycle any-leg within, begins-past legs (index + 1) cycle h)
 ]
 
 -- A later leg begins no earlier than the next one does.

@@ -6,25 +6,25 @@ use Rattle.std.specs.Prelude.{int_le}
 use Rattle.std.specs.Int.{int_min, int_max}
 use Rattle.project.specs.Projection.{rate_at, rates}
 use Rattle.project.specs.Gained.{gain, gains, toward}
-use Rattle.project.proofs.Closed.{gain_below}
+use Rattle.project.proofs.Closed.{gain-below}
 
--- from a rate to its goal
+-- From a rate to its goal.
 abbrev distance : ℤ → ℤ → ℕ
 distance v goal = unsigned_abs (v -ℤ goal)
 
--- so much up, or down
+-- So much up, or down.
 abbrev signed : Bool → ℕ → ℤ
 signed up a = cond up (pos a) (neg_ℤ (pos a))
 
-signed_sum : (up : Bool) (a b : ℕ) → signed up (a + b) ≡ signed up a +ℤ signed up b
-signed_sum true a b = omega (arith, ints)
-signed_sum false a b = omega (arith, ints)
+signed-sum : (up : Bool) (a b : ℕ) → signed up (a + b) ≡ signed up a +ℤ signed up b
+signed-sum true a b = omega (arith, ints)
+signed-sum false a b = omega (arith, ints)
 
-signed_none : (up : Bool) → signed up 0 ≡ pos 0
-signed_none true = refl
-signed_none false = refl
+signed-none : (up : Bool) → signed up 0 ≡ pos 0
+signed-none true = refl
+signed-none false = refl
 
--- a rate that moves by a and stops at its goal has moved by a, or by the distance
+-- a rate that moves by a and stops at its goal has moved by a, or by the distance.
 moved : (v goal : ℤ) (a : ℕ) (up : Bool) → int_le v goal ≡ up →
     cond up (int_min (v +ℤ pos a) goal) (int_max (v -ℤ pos a) goal) ≡ v +ℤ signed up (cond (leb a (distance v goal)) a (distance v goal))
 moved v goal a true e =
@@ -36,34 +36,34 @@ moved v goal a false e =
     (λ t. let l = leb-true _ _ t in omega (arith, ints, clamps, e))
     (λ t. let l = leb-false _ _ t in omega (arith, ints, clamps, e))
 
--- from here on the way of the goal is a parameter
+-- From here on the way of the goal is a parameter.
 
-gain_none : (d step : ℕ) → gain d step 0 ≡ 0
-gain_none d step = let g = gain_below d step 0 (omega arith) in omega arith
+gain-none : (d step : ℕ) → gain d step 0 ≡ 0
+gain-none d step = let g = gain-below d step 0 (omega arith) in omega arith
 
-plus_none : (v t : ℤ) → t ≡ pos 0 → v ≡ v +ℤ t
-plus_none v t e = omega (arith, ints)
+plus-none : (v t : ℤ) → t ≡ pos 0 → v ≡ v +ℤ t
+plus-none v t e = omega (arith, ints)
 
--- the rate of a half-second is own rate and what its steps gain
-rate_is : (v goal : ℤ) (delay step h : ℕ) → rate_at v goal delay (pos step) h ≡ v +ℤ toward v goal (gain (distance v goal) step (h - delay))
-rate_is v goal delay step h =
+-- The rate of a half-second is own rate and what its steps gain.
+rate-is : (v goal : ℤ) (delay step h : ℕ) → rate_at v goal delay (pos step) h ≡ v +ℤ toward v goal (gain (distance v goal) step (h - delay))
+rate-is v goal delay step h =
     cond_both (leb h delay) v (cond (int_le v goal) (int_min (v +ℤ pos ((h - delay) * step)) goal) (int_max (v -ℤ pos ((h - delay) * step)) goal))
     (λ x. x ≡ v +ℤ toward v goal (gain (distance v goal) step (h - delay)))
     (λ t.
     let l = leb-true _ _ t in
     let none : h - delay ≡ 0 = omega arith in
-    plus_none v (toward v goal (gain (distance v goal) step (h - delay)))
-    (ap (λ k. toward v goal (gain (distance v goal) step k)) none ∙ ap (toward v goal) (gain_none (distance v goal) step) ∙ signed_none (int_le v goal)))
+    plus-none v (toward v goal (gain (distance v goal) step (h - delay)))
+    (ap (λ k. toward v goal (gain (distance v goal) step k)) none ∙ ap (toward v goal) (gain-none (distance v goal) step) ∙ signed-none (int_le v goal)))
     (λ _. moved v goal ((h - delay) * step) (int_le v goal) refl)
 
--- one more half-second gains what its steps do, also in the delay
-gains_more : (d step delay n : ℕ) → gains d step (suc n - delay) ≡ gains d step (n - delay) + gain d step (suc n - delay)
-gains_more d step delay n =
+-- One more half-second gains what its steps do, also in the delay.
+gains-more : (d step delay n : ℕ) → gains d step (suc n - delay) ≡ gains d step (n - delay) + gain d step (suc n - delay)
+gains-more d step delay n =
     elim (cases_lt n delay) [
       | inl l ↦
           let before : n - delay ≡ 0 = omega arith in
           let now : suc n - delay ≡ 0 = omega arith in
-          let g = gain_none d step in
+          let g = gain-none d step in
           rw (before, now) (omega arith)
       | inr l ↦ let now : suc n - delay ≡ suc (n - delay) = omega arith in rw now refl
     ]
@@ -71,30 +71,30 @@ gains_more d step delay n =
 regroup : (v t u : ℤ) (n : ℕ) → (pos n *ℤ v +ℤ t) +ℤ (v +ℤ u) ≡ pos (suc n) *ℤ v +ℤ (t +ℤ u)
 regroup v t u n = omega (arith, ints)
 
-none_yet : (v t : ℤ) → t ≡ pos 0 → pos 0 ≡ pos 0 *ℤ v +ℤ t
-none_yet v t e = omega (arith, ints)
+none-yet : (v t : ℤ) → t ≡ pos 0 → pos 0 ≡ pos 0 *ℤ v +ℤ t
+none-yet v t e = omega (arith, ints)
 
-rates_is : (v goal : ℤ) (delay step n : ℕ) → rates v goal delay (pos step) n ≡ pos n *ℤ v +ℤ toward v goal (gains (distance v goal) step (n - delay))
-rates_is v goal delay step zero =
+rates-is : (v goal : ℤ) (delay step n : ℕ) → rates v goal delay (pos step) n ≡ pos n *ℤ v +ℤ toward v goal (gains (distance v goal) step (n - delay))
+rates-is v goal delay step zero =
     let none : 0 - delay ≡ 0 = omega arith in
-    none_yet v (toward v goal (gains (distance v goal) step (0 - delay)))
-    (ap (λ k. toward v goal (gains (distance v goal) step k)) none ∙ signed_none (int_le v goal))
-rates_is v goal delay step (suc n) =
+    none-yet v (toward v goal (gains (distance v goal) step (0 - delay)))
+    (ap (λ k. toward v goal (gains (distance v goal) step k)) none ∙ signed-none (int_le v goal))
+rates-is v goal delay step (suc n) =
     let before = gains (distance v goal) step (n - delay) in
     let more = gain (distance v goal) step (suc n - delay) in
-    ap₂ (λ (x y : ℤ). x +ℤ y) (rates_is v goal delay step n) (rate_is v goal delay step (suc n))
+    ap₂ (λ (x y : ℤ). x +ℤ y) (rates-is v goal delay step n) (rate-is v goal delay step (suc n))
     ∙ regroup v (toward v goal before) (toward v goal more) n
     ∙ ap (λ (x : ℤ). pos (suc n) *ℤ v +ℤ x) (
-    sym (signed_sum (int_le v goal) before more)
-    ∙ ap (toward v goal) (sym (gains_more (distance v goal) step delay n))
+    sym (signed-sum (int_le v goal) before more)
+    ∙ ap (toward v goal) (sym (gains-more (distance v goal) step delay n))
     )
 
-pos_abs : (z : ℤ) → pos 1 ≤ℤ z → pos (unsigned_abs z) ≡ z
-pos_abs (pos n) h = refl
-pos_abs (negsuc n) h = absurd (omega (arith, ints))
+pos-abs : (z : ℤ) → pos 1 ≤ℤ z → pos (unsigned_abs z) ≡ z
+pos-abs (pos n) h = refl
+pos-abs (negsuc n) h = absurd (omega (arith, ints))
 
--- the sum of the rates, as the code has it
-pub unmoved_and_gained : (v goal step : ℤ) (delay n : ℕ) → pos 1 ≤ℤ step →
+-- The sum of the rates, as the code has it.
+pub unmoved-and-gained : (v goal step : ℤ) (delay n : ℕ) → pos 1 ≤ℤ step →
     pos n *ℤ v +ℤ toward v goal (gains (unsigned_abs (v -ℤ goal)) (unsigned_abs step) (n - delay)) ≡ rates v goal delay step n
-unmoved_and_gained v goal step delay n forward =
-    sym (rates_is v goal delay (unsigned_abs step) n) ∙ ap (λ (x : ℤ). rates v goal delay x n) (pos_abs step forward)
+unmoved-and-gained v goal step delay n forward =
+    sym (rates-is v goal delay (unsigned_abs step) n) ∙ ap (λ (x : ℤ). rates v goal delay x n) (pos-abs step forward)

@@ -3,18 +3,18 @@
 use Rattle.std.specs.Prelude.{ℕ, zero, suc, ◌-◌, if◌then◌else◌, nat_le, ℤ, pos, ◌+ℤ◌, ◌-ℤ◌, ◌*ℤ◌, int_le}
 use Rattle.std.specs.Int.{int_min, int_max, int_div_euclid}
 
--- the rate of the half-second h: own rate v in the delay, and after it one step more towards the goal in each, not past it
+-- The rate of the half-second h: own rate v in the delay, and after it one step more towards the goal in each, not past it.
 abbrev pub rate_at : ℤ → ℤ → ℕ → ℤ → ℕ → ℤ
 rate_at v goal delay step h =
     if nat_le h delay then v
     else if int_le v goal then int_min (v +ℤ (pos (h - delay) *ℤ step)) goal
     else int_max (v -ℤ (pos (h - delay) *ℤ step)) goal
 
--- the sum of the rates of the half-seconds 1 to n
+-- The sum of the rates of the half-seconds 1 to n.
 abbrev pub rates : ℤ → ℤ → ℕ → ℤ → ℕ → ℤ
 rates v goal delay step zero = pos 0
 rates v goal delay step (suc n) = rates v goal delay step n +ℤ rate_at v goal delay step (suc n)
 
--- the altitude after n half-seconds: z and half of that sum, rounded down once
+-- The altitude after n half-seconds: z and half of that sum, rounded down once.
 abbrev pub projected : ℤ → ℤ → ℤ → ℕ → ℤ → ℕ → ℤ
 projected z v goal delay step n = z +ℤ int_div_euclid (rates v goal delay step n) (pos 2)

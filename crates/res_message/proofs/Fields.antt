@@ -7,29 +7,29 @@ use Rattle.acas_base.specs.declared.advisory.Vrc.{Vrc}
 use Rattle.acas_base.specs.declared.advisory.Vrc.TheVariants.{Nil, NotBelow, NotAbove}
 use Rattle.res_message.specs.Words.{code_of, bit_of, parity_of, Word, word_of, complement_at, message_at, read_word}
 
-pub code_small : (v : Vrc) → code_of v < 3
-code_small Nil = lit< tt
-code_small NotBelow = lit< tt
-code_small NotAbove = lit< tt
+pub code-small : (v : Vrc) → code_of v < 3
+code-small Nil = lit< tt
+code-small NotBelow = lit< tt
+code-small NotAbove = lit< tt
 
-pub parity_small : (c v : Vrc) → parity_of c v < 16
-parity_small Nil Nil = lit< tt
-parity_small Nil NotBelow = lit< tt
-parity_small Nil NotAbove = lit< tt
-parity_small NotBelow Nil = lit< tt
-parity_small NotBelow NotBelow = lit< tt
-parity_small NotBelow NotAbove = lit< tt
-parity_small NotAbove Nil = lit< tt
-parity_small NotAbove NotBelow = lit< tt
-parity_small NotAbove NotAbove = lit< tt
+pub parity-small : (c v : Vrc) → parity_of c v < 16
+parity-small Nil Nil = lit< tt
+parity-small Nil NotBelow = lit< tt
+parity-small Nil NotAbove = lit< tt
+parity-small NotBelow Nil = lit< tt
+parity-small NotBelow NotBelow = lit< tt
+parity-small NotBelow NotAbove = lit< tt
+parity-small NotAbove Nil = lit< tt
+parity-small NotAbove NotBelow = lit< tt
+parity-small NotAbove NotAbove = lit< tt
 
-pub bit_small : (b : Bool) → bit_of b < 2
-bit_small true = lit< tt
-bit_small false = lit< tt
+pub bit-small : (b : Bool) → bit_of b < 2
+bit-small true = lit< tt
+bit-small false = lit< tt
 
--- each field of a sum of fields
-pub is_word : (m : ResMsg) → IsAddress m.sender → Word m (word_of m)
-is_word m a = made (word_of m) (bit_small m.many) (code_small m.cancel) (code_small m.vrc) (parity_small m.cancel m.vrc) refl
+-- Each field of a sum of fields.
+pub is-word : (m : ResMsg) → IsAddress m.sender → Word m (word_of m)
+is-word m a = made (word_of m) (bit-small m.many) (code-small m.cancel) (code-small m.vrc) (parity-small m.cancel m.vrc) refl
   where
     made : (w : ℕ) → bit_of m.many < 2 → code_of m.cancel < 3 → code_of m.vrc < 3 → parity_of m.cancel m.vrc < 16 → w ≡ word_of m → Word m w
     made w hb hc hv hp e = record {
@@ -49,33 +49,33 @@ is_word m a = made (word_of m) (bit_small m.many) (code_small m.cancel) (code_sm
       address = a;
     }
 
--- the word that the fields make up
-pub only_word : (m : ResMsg) (w : ℕ) → Word m w → w ≡ word_of m
-only_word m w h = omega (arith, h.whole, h.uds1, h.uds2, h.spare_41, h.mtb, h.cvc, h.vrc, h.chc, h.hrc, h.spare_53, h.hsb, h.vsb, h.mid)
+-- The word that the fields make up.
+pub only-word : (m : ResMsg) (w : ℕ) → Word m w → w ≡ word_of m
+only-word m w h = omega (arith, h.whole, h.uds1, h.uds2, h.spare_41, h.mtb, h.cvc, h.vrc, h.chc, h.hrc, h.spare_53, h.hsb, h.vsb, h.mid)
 
-pub bits_same : (a b : Bool) → bit_of a ≡ bit_of b → a ≡ b
-bits_same true true e = refl
-bits_same false false e = refl
-bits_same true false e = absurd (omega arith)
-bits_same false true e = absurd (omega arith)
+pub bits-same : (a b : Bool) → bit_of a ≡ bit_of b → a ≡ b
+bits-same true true e = refl
+bits-same false false e = refl
+bits-same true false e = absurd (omega arith)
+bits-same false true e = absurd (omega arith)
 
-pub same_message : (m n : ResMsg) → m.many ≡ n.many → m.cancel ≡ n.cancel → m.vrc ≡ n.vrc → m.sender ≡ n.sender → m ≡ n
-same_message m n a b d e = λ t. record { many = a t; cancel = b t; vrc = d t; sender = e t }
+pub same-message : (m n : ResMsg) → m.many ≡ n.many → m.cancel ≡ n.cancel → m.vrc ≡ n.vrc → m.sender ≡ n.sender → m ≡ n
+same-message m n a b d e = λ t. record { many = a t; cancel = b t; vrc = d t; sender = e t }
 
--- what the fields of a message's word tell
-many_at : (b : Bool) → (bit_of b == 1) ≡ b
-many_at true = refl
-many_at false = refl
+-- What the fields of a message's word tell.
+many-at : (b : Bool) → (bit_of b == 1) ≡ b
+many-at true = refl
+many-at false = refl
 
-complement_told : (v : Vrc) → complement_at (code_of v) ≡ v
-complement_told Nil = refl
-complement_told NotBelow = refl
-complement_told NotAbove = refl
+complement-told : (v : Vrc) → complement_at (code_of v) ≡ v
+complement-told Nil = refl
+complement-told NotBelow = refl
+complement-told NotAbove = refl
 
 told : (m : ResMsg) (w : ℕ) → Word m w → message_at w ≡ m
-told m w h = same_message (message_at w) m (ap (λ (k : ℕ). k == 1) h.mtb ∙ many_at m.many) (ap complement_at h.cvc ∙ complement_told m.cancel) (ap complement_at h.vrc ∙ complement_told m.vrc) h.mid
+told m w h = same-message (message_at w) m (ap (λ (k : ℕ). k == 1) h.mtb ∙ many-at m.many) (ap complement_at h.cvc ∙ complement-told m.cancel) (ap complement_at h.vrc ∙ complement-told m.vrc) h.mid
 
--- a message is read where it is the one that the fields tell, and its word is this
+-- a message is read where it is the one that the fields tell, and its word is this.
 abbrev has_word : ℕ → ResMsg → Bool
 has_word w m = nat_le 1 m.sender && (nat_le m.sender 16777214 && word_of m == w)
 
@@ -83,7 +83,7 @@ suits : (m : ResMsg) (w : ℕ) → IsAddress m.sender → word_of m ≡ w → ha
 suits m w a e = grind (arith, a, e)
 
 pub reads : (m : ResMsg) (w : ℕ) → Word m w → read_word w ≡ Some m
-reads m w h = ap (λ (n : ResMsg). cond (has_word w n) (Some n) None) (told m w h) ∙ ap (λ (b : Bool). cond b (Some m) None) (suits m w h.address (sym (only_word m w h)))
+reads m w h = ap (λ (n : ResMsg). cond (has_word w n) (Some n) None) (told m w h) ∙ ap (λ (b : Bool). cond b (Some m) None) (suits m w h.address (sym (only-word m w h)))
 
 suited : (w : ℕ) (n : ResMsg) → has_word w n ≡ true → IsAddress n.sender × (word_of n ≡ w)
 suited w n e = grind (arith, e)
@@ -92,6 +92,6 @@ chosen : (b : Bool) (n : ResMsg) (P : ResMsg → Type 0) → (b ≡ true → P n
 chosen true n P f = f refl
 chosen false n P f = tt
 
--- what is read has this word
-pub is_read : (w : ℕ) (P : ResMsg → Type 0) → ((n : ResMsg) → IsAddress n.sender → word_of n ≡ w → P n) → IfSome (read_word w) P
-is_read w P f = chosen (has_word w (message_at w)) (message_at w) P (λ e. let s = suited w (message_at w) e in f (message_at w) s.0 s.1)
+-- What is read has this word.
+pub is-read : (w : ℕ) (P : ResMsg → Type 0) → ((n : ResMsg) → IsAddress n.sender → word_of n ≡ w → P n) → IfSome (read_word w) P
+is-read w P f = chosen (has_word w (message_at w)) (message_at w) P (λ e. let s = suited w (message_at w) e in f (message_at w) s.0 s.1)

@@ -9,19 +9,19 @@ use Rattle.air_journal.specs.Airs.{air_of}
 use Rattle.air_rules.specs.Air.{is_active}
 use Rattle.craft_view.specs.Kept.{IsActive}
 
-same_active : (e : Parts) (own : ℕ) → option_map_or is_active_craft (slice_get e.crafts own) false ≡ is_active (air_of e) own
-same_active e own = by_craft (slice_get e.crafts own)
+same-active : (e : Parts) (own : ℕ) → option_map_or is_active_craft (slice_get e.crafts own) false ≡ is_active (air_of e) own
+same-active e own = by_craft (slice_get e.crafts own)
   where
     by_craft : (o : Option CraftSpec) → option_map_or is_active_craft o false ≡ option_map_or is_active_kind (option_map (λ (craft : CraftSpec). craft.kind) o) false
     by_craft None = refl
     by_craft (Some craft) = refl
 
-pub to_active : (e : Parts) (own : ℕ) → is_active (air_of e) own ≡ true → IsActive e own
-to_active e own a = same_active e own ∙ a
+pub to-active : (e : Parts) (own : ℕ) → is_active (air_of e) own ≡ true → IsActive e own
+to-active e own a = same-active e own ∙ a
 
-pub told_active : (e : Parts) (own : ℕ) (b : Bool) → (IsTrue b ↔ IsActive e own) → is_active (air_of e) own ≡ b
-told_active e own true iff = sym (same_active e own) ∙ iff.0 refl
-told_active e own false iff = elim (cases_Bool (is_active (air_of e) own)) [
-  | inl y ↦ absurd (let z : false ≡ true = iff.1 (to_active e own y) in cc)
+pub told-active : (e : Parts) (own : ℕ) (b : Bool) → (IsTrue b ↔ IsActive e own) → is_active (air_of e) own ≡ b
+told-active e own true iff = sym (same-active e own) ∙ iff.0 refl
+told-active e own false iff = elim (cases_Bool (is_active (air_of e) own)) [
+  | inl y ↦ absurd (let z : false ≡ true = iff.1 (to-active e own y) in cc)
   | inr n ↦ n
 ]

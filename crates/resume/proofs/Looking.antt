@@ -4,7 +4,7 @@ use Rattle.acas_base.specs.Encounter.{Parts}
 use Rattle.acas_base.specs.declared.TheConstants.{CRAFTS}
 use Rattle.acas_base.specs.declared.entry.Entry.{Entry}
 use Rattle.acas_base.specs.declared.view.Picture.{Picture}
-use Rattle.air_journal.proofs.Bounds.{active_is}
+use Rattle.air_journal.proofs.Bounds.{active-is}
 use Rattle.air_journal.specs.Airs.{air_of}
 use Rattle.air_journal.specs.Calls.{Committed}
 use Rattle.air_rules.specs.Air.{is_active}
@@ -12,16 +12,16 @@ use Rattle.air_rules.specs.Journal.{commits}
 use Rattle.craft_view.specs.Kept.{IsActive, Kept}
 use Rattle.craft_view.specs.Views.{picture_of}
 use Rattle.flight.specs.Flight.{Moment}
-use Rattle.resume.proofs.Readying.{ready_commit}
+use Rattle.resume.proofs.Readying.{ready-commit}
 use Rattle.resume.specs.Crews.{AreReady, HasLooked, IsReady, Looked, LookedOn, LooksNext, MayLook}
 
 abbrev pub moment : Parts → ℕ → Moment
 moment e cycle = record { encounter = e; cycle = cycle }
 
 -- Who is ready after its commits may look in the next cycle.
-pub may_look : (e : Parts) (K : List Entry) (crafts : List (Option Kept)) (own looks : ℕ) (m : Moment) → m ≡ moment e (looks + 1) → own < CRAFTS → AreReady e K crafts → (is_active (air_of e) own ≡ true → commits K own ≡ looks) → MayLook m own (get_or crafts own None)
+pub may-look : (e : Parts) (K : List Entry) (crafts : List (Option Kept)) (own looks : ℕ) (m : Moment) → m ≡ moment e (looks + 1) → own < CRAFTS → AreReady e K crafts → (is_active (air_of e) own ≡ true → commits K own ≡ looks) → MayLook m own (get_or crafts own None)
 unfolding IsReady
-may_look e K crafts own looks m em ho r same = go (get_or crafts own None) (r own ho)
+may-look e K crafts own looks m em ho r same = go (get_or crafts own None) (r own ho)
   where
     go : (o : Option Kept) → IsReady e own (commits K own) o → MayLook m own o
     go None h = tt
@@ -32,12 +32,12 @@ may_look e K crafts own looks m em ho r same = go (get_or crafts own None) (r ow
     })
       where
         sits : HasLooked e own (commits K own) craft → is_active (air_of e) own ≡ true
-        sits h = active_is e own (subst (IsActive e) h.own_is h.belongs.active)
+        sits h = active-is e own (subst (IsActive e) h.own_is h.belongs.active)
 
 -- An active aircraft is there.
-pub looked_some : (e : Parts) (K : List Entry) (old new : List (Option Kept)) (own : ℕ) (m : Moment) → own < CRAFTS → AreReady e K old → is_active (air_of e) own ≡ true → Looked m own old new None → ⊥
+pub looked-some : (e : Parts) (K : List Entry) (old new : List (Option Kept)) (own : ℕ) (m : Moment) → own < CRAFTS → AreReady e K old → is_active (air_of e) own ≡ true → Looked m own old new None → ⊥
 unfolding IsReady
-looked_some e K old new own m ho r a l = subst (IsReady e own (commits K own)) l.0 (r own ho) a
+looked-some e K old new own m ho r a l = subst (IsReady e own (commits K own)) l.0 (r own ho) a
 
 within : (xs : List (Option Kept)) (k : ℕ) (x : Kept) → get_or xs k None ≡ Some x → k < length xs
 within [] k x e = absurd (cc)
@@ -45,18 +45,18 @@ within (y ∷ ys) zero x e = omega arith
 within (y ∷ ys) (suc k) x e = let h : k < length ys = within ys k x e in omega arith
 
 -- Who looked is active.
-pub looked_active : (e : Parts) (own cycle : ℕ) (old new : List (Option Kept)) (picture : Picture) (m : Moment) → m ≡ moment e cycle → LookedOn m own old new picture → is_active (air_of e) own ≡ true
-looked_active e own cycle old new picture m em l =
+pub looked-active : (e : Parts) (own cycle : ℕ) (old new : List (Option Kept)) (picture : Picture) (m : Moment) → m ≡ moment e cycle → LookedOn m own old new picture → is_active (air_of e) own ≡ true
+looked-active e own cycle old new picture m em l =
     let looked : HasLooked e own cycle l.craft = subst (λ (x : Moment). HasLooked x.encounter own x.cycle l.craft) em l.looked in
-    active_is e own (subst (IsActive e) looked.own_is looked.belongs.active)
+    active-is e own (subst (IsActive e) looked.own_is looked.belongs.active)
 
 -- After its commit it is ready again.
-pub ready_after : (e : Parts) (K J : List Entry) (old new : List (Option Kept)) (own position : ℕ) (picture : Picture) (m : Moment) → m ≡ moment e (commits K own + 1) → own < CRAFTS → AreReady e K old →
+pub ready-after : (e : Parts) (K J : List Entry) (old new : List (Option Kept)) (own position : ℕ) (picture : Picture) (m : Moment) → m ≡ moment e (commits K own + 1) → own < CRAFTS → AreReady e K old →
     LookedOn m own old new picture → Committed (air_of e) K own J position → AreReady e J new
-ready_after e K J old new own position picture m em ho r l s =
+ready-after e K J old new own position picture m em ho r l s =
     let looked : HasLooked e own (commits K own + 1) l.craft = subst (λ (x : Moment). HasLooked x.encounter own x.cycle l.craft) em l.looked in
     subst (λ (xs : List (Option Kept)). AreReady e J xs) (sym l.new_is)
-    (subst (λ (L : List Entry). AreReady e L (set old own (Some l.craft))) (sym s.new_is) (ready_commit e K old own s.cycle s.cells l.craft (within old own l.before l.was_there) r looked))
+    (subst (λ (L : List Entry). AreReady e L (set old own (Some l.craft))) (sym s.new_is) (ready-commit e K old own s.cycle s.cells l.craft (within old own l.before l.was_there) r looked))
 
-pub picture_after : (e : Parts) (own looks : ℕ) (old new : List (Option Kept)) (picture : Picture) (m : Moment) → m ≡ moment e (looks + 1) → LookedOn m own old new picture → picture ≡ picture_of e own (looks + 1)
-picture_after e own looks old new picture m em l = l.picture_is ∙ ap (λ (x : Moment). picture_of x.encounter own x.cycle) em
+pub picture-after : (e : Parts) (own looks : ℕ) (old new : List (Option Kept)) (picture : Picture) (m : Moment) → m ≡ moment e (looks + 1) → LookedOn m own old new picture → picture ≡ picture_of e own (looks + 1)
+picture-after e own looks old new picture m em l = l.picture_is ∙ ap (λ (x : Moment). picture_of x.encounter own x.cycle) em

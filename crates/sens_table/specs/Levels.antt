@@ -4,19 +4,19 @@ use Rattle.acas_base.specs.declared.level.Level.{Level}
 use Rattle.acas_base.specs.declared.level.Row.{Row}
 use Rattle.acas_base.specs.Ranges.{IsBetween}
 
--- so many feet, in 1/1024 ft
+-- So many feet, in 1/1024 ft.
 abbrev pub feet : ℕ → ℤ
 feet n = pos (n * 1024)
 
--- the thresholds of an advisory: tau in s, DMOD and ZTHR in ft
+-- The thresholds of an advisory: tau in s, DMOD and ZTHR in ft.
 abbrev pub row : ℕ → ℕ → ℕ → Row
 row tau dmod zthr = record { tau = pos tau; dmod = feet dmod; zthr = feet zthr }
 
--- a level's number, its thresholds, and ALIM in ft
+-- a level's number, its thresholds, and ALIM in ft.
 abbrev pub level : ℕ → Row → Option Row → ℕ → Level
 level sl ta ra alim = record { sl = sl; ta = ta; ra = ra; alim = feet alim }
 
--- a level, and the number of feet at which the next band begins: a lower bound belongs to the higher band
+-- a level, and the number of feet at which the next band begins: a lower bound belongs to the higher band.
 pub record Band : Type 0 where
   pub end : ℤ
   pub level : Level
@@ -24,13 +24,13 @@ pub record Band : Type 0 where
 abbrev pub band : ℕ → Level → Band
 band end level = record { end = pos end; level = level }
 
--- the two lowest bands, by own height above the ground
+-- The two lowest bands, by own height above the ground.
 abbrev pub height_bands : List Band
 height_bands =
     band 1000 (level 2 (row 20 1822 850) None 0) ∷
     band 2350 (level 3 (row 25 2005 850) (Some (row 15 1215 600)) 300) ∷ []
 
--- the bands above these, by own altitude, up to the highest one
+-- The bands above these, by own altitude, up to the highest one.
 abbrev pub altitude_bands : List Band
 altitude_bands =
     band 5000 (level 4 (row 30 2916 850) (Some (row 20 2126 600)) 300) ∷
@@ -38,27 +38,27 @@ altitude_bands =
     band 20000 (level 6 (row 45 6076 850) (Some (row 30 4860 600)) 400) ∷
     band 42000 (level 7 (row 48 7898 850) (Some (row 35 6683 700)) 600) ∷ []
 
--- the highest band, which has no end
+-- The highest band, which has no end.
 abbrev pub highest : Level
 highest = level 7 (row 48 7898 1200) (Some (row 35 6683 800)) 700
 
--- the level of the first band that ends above a number of feet, or the level above them all
+-- The level of the first band that ends above a number of feet, or the level above them all.
 abbrev pub level_in : List Band → Level → ℤ → Level
 level_in bands above n = unwrap_or (option_map (λ b. b.level) (find (λ b. int_lt n b.end) bands)) above
 
--- the level at an altitude and a height above the ground: the height is asked first
+-- The level at an altitude and a height above the ground: the height is asked first.
 abbrev pub level_at : ℤ → ℤ → Level
 level_at altitude height = level_in height_bands (level_in altitude_bands highest altitude) height
 
 -- What every row and every level of the table keeps, for those who compute with it.
 
--- at most a minute, 10,000 ft and 2,000 ft
+-- At most a minute, 10,000 ft and 2,000 ft.
 pub record IsTableRow (row : Row) : Type 0 where
   pub tau : IsBetween (pos 1) (pos 60) row.tau
   pub dmod : IsBetween (feet 1) (feet 10000) row.dmod
   pub zthr : IsBetween (feet 1) (feet 2000) row.zthr
 
--- level 2 alone has no resolution advisories; ALIM is at most 1,000 ft
+-- Level 2 alone has no resolution advisories; ALIM is at most 1,000 ft.
 pub record IsLevel (level : Level) : Type 0 where
   pub ta : IsTableRow level.ta
   pub ra : MatchOption level.ra (level.sl ≡ 2) (λ row. (3 ≤ level.sl) × IsTableRow row)

@@ -19,29 +19,29 @@ passes e = e
 fails : {b : Bool} → b ≡ false → ¬ IsTrue b
 fails e t = true≢false (sym t ∙ e)
 
--- what fails at each place below n passes nowhere below n
-none_below : (test : Strength → Bool) (n : ℕ) → (0 < n → test Limit2000 ≡ false) → (1 < n → test Limit1000 ≡ false) → (2 < n → test Limit500 ≡ false) → (3 < n → test Level ≡ false) → (4 < n → test Positive ≡ false) → (5 < n → test Increase ≡ false) →
+-- What fails at each place below n passes nowhere below n.
+none-below : (test : Strength → Bool) (n : ℕ) → (0 < n → test Limit2000 ≡ false) → (1 < n → test Limit1000 ≡ false) → (2 < n → test Limit500 ≡ false) → (3 < n → test Level ≡ false) → (4 < n → test Positive ≡ false) → (5 < n → test Increase ≡ false) →
     (other : Strength) → place_of other < n → ¬ Passes test other
-none_below test n a b d e f g Limit2000 h = fails (a h)
-none_below test n a b d e f g Limit1000 h = fails (b h)
-none_below test n a b d e f g Limit500 h = fails (d h)
-none_below test n a b d e f g Level h = fails (e h)
-none_below test n a b d e f g Positive h = fails (f h)
-none_below test n a b d e f g Increase h = fails (g h)
+none-below test n a b d e f g Limit2000 h = fails (a h)
+none-below test n a b d e f g Limit1000 h = fails (b h)
+none-below test n a b d e f g Limit500 h = fails (d h)
+none-below test n a b d e f g Level h = fails (e h)
+none-below test n a b d e f g Positive h = fails (f h)
+none-below test n a b d e f g Increase h = fails (g h)
 
--- the first that passes, weakest first
+-- The first that passes, weakest first.
 abbrev Found : (Strength → Bool) → Strength → Strength → Type 0
 Found test otherwise found = IsWeakest (Passes test) found ⊎ (((other : Strength) → ¬ Passes test other) × (found ≡ otherwise))
 
-by_answers : (test : Strength → Bool) (otherwise : Strength) (a b d e f g : Bool) → test Limit2000 ≡ a → test Limit1000 ≡ b → test Limit500 ≡ d → test Level ≡ e → test Positive ≡ f → test Increase ≡ g →
+by-answers : (test : Strength → Bool) (otherwise : Strength) (a b d e f g : Bool) → test Limit2000 ≡ a → test Limit1000 ≡ b → test Limit500 ≡ d → test Level ≡ e → test Positive ≡ f → test Increase ≡ g →
     Found test otherwise (unwrap_or (cond a (Some Limit2000) (cond b (Some Limit1000) (cond d (Some Limit500) (cond e (Some Level) (cond f (Some Positive) (cond g (Some Increase) None)))))) otherwise)
-by_answers test o true b d e f g ha hb hd he hf hg = inl (passes ha, none_below test 0 (λ h. absurd (omega arith)) (λ h. absurd (omega arith)) (λ h. absurd (omega arith)) (λ h. absurd (omega arith)) (λ h. absurd (omega arith)) (λ h. absurd (omega arith)))
-by_answers test o false true d e f g ha hb hd he hf hg = inl (passes hb, none_below test 1 (λ h. ha) (λ h. absurd (omega arith)) (λ h. absurd (omega arith)) (λ h. absurd (omega arith)) (λ h. absurd (omega arith)) (λ h. absurd (omega arith)))
-by_answers test o false false true e f g ha hb hd he hf hg = inl (passes hd, none_below test 2 (λ h. ha) (λ h. hb) (λ h. absurd (omega arith)) (λ h. absurd (omega arith)) (λ h. absurd (omega arith)) (λ h. absurd (omega arith)))
-by_answers test o false false false true f g ha hb hd he hf hg = inl (passes he, none_below test 3 (λ h. ha) (λ h. hb) (λ h. hd) (λ h. absurd (omega arith)) (λ h. absurd (omega arith)) (λ h. absurd (omega arith)))
-by_answers test o false false false false true g ha hb hd he hf hg = inl (passes hf, none_below test 4 (λ h. ha) (λ h. hb) (λ h. hd) (λ h. he) (λ h. absurd (omega arith)) (λ h. absurd (omega arith)))
-by_answers test o false false false false false true ha hb hd he hf hg = inl (passes hg, none_below test 5 (λ h. ha) (λ h. hb) (λ h. hd) (λ h. he) (λ h. hf) (λ h. absurd (omega arith)))
-by_answers test o false false false false false false ha hb hd he hf hg = inr ((λ other. none_below test 6 (λ h. ha) (λ h. hb) (λ h. hd) (λ h. he) (λ h. hf) (λ h. hg) other (below_six other)), refl)
+by-answers test o true b d e f g ha hb hd he hf hg = inl (passes ha, none-below test 0 (λ h. absurd (omega arith)) (λ h. absurd (omega arith)) (λ h. absurd (omega arith)) (λ h. absurd (omega arith)) (λ h. absurd (omega arith)) (λ h. absurd (omega arith)))
+by-answers test o false true d e f g ha hb hd he hf hg = inl (passes hb, none-below test 1 (λ h. ha) (λ h. absurd (omega arith)) (λ h. absurd (omega arith)) (λ h. absurd (omega arith)) (λ h. absurd (omega arith)) (λ h. absurd (omega arith)))
+by-answers test o false false true e f g ha hb hd he hf hg = inl (passes hd, none-below test 2 (λ h. ha) (λ h. hb) (λ h. absurd (omega arith)) (λ h. absurd (omega arith)) (λ h. absurd (omega arith)) (λ h. absurd (omega arith)))
+by-answers test o false false false true f g ha hb hd he hf hg = inl (passes he, none-below test 3 (λ h. ha) (λ h. hb) (λ h. hd) (λ h. absurd (omega arith)) (λ h. absurd (omega arith)) (λ h. absurd (omega arith)))
+by-answers test o false false false false true g ha hb hd he hf hg = inl (passes hf, none-below test 4 (λ h. ha) (λ h. hb) (λ h. hd) (λ h. he) (λ h. absurd (omega arith)) (λ h. absurd (omega arith)))
+by-answers test o false false false false false true ha hb hd he hf hg = inl (passes hg, none-below test 5 (λ h. ha) (λ h. hb) (λ h. hd) (λ h. he) (λ h. hf) (λ h. absurd (omega arith)))
+by-answers test o false false false false false false ha hb hd he hf hg = inr ((λ other. none-below test 6 (λ h. ha) (λ h. hb) (λ h. hd) (λ h. he) (λ h. hf) (λ h. hg) other (below_six other)), refl)
   where
     below_six : (other : Strength) → place_of other < 6
     below_six Limit2000 = omega arith
@@ -51,13 +51,13 @@ by_answers test o false false false false false false ha hb hd he hf hg = inr ((
     below_six Positive = omega arith
     below_six Increase = omega arith
 
-pub weakest_found : (test : Strength → Bool) (otherwise : Strength) → Found test otherwise (unwrap_or (find test weakest_first) otherwise)
-weakest_found test otherwise = by_answers test otherwise (test Limit2000) (test Limit1000) (test Limit500) (test Level) (test Positive) (test Increase) refl refl refl refl refl refl
+pub weakest-found : (test : Strength → Bool) (otherwise : Strength) → Found test otherwise (unwrap_or (find test weakest_first) otherwise)
+weakest-found test otherwise = by-answers test otherwise (test Limit2000) (test Limit1000) (test Limit500) (test Level) (test Positive) (test Increase) refl refl refl refl refl refl
 
--- the strongest that a choice may take
-by_two : (view : View) (sense : Sense) (fresh : Bool) (f g : Bool) → is_allowed view sense Positive fresh ≡ f → is_allowed view sense Increase fresh ≡ g →
+-- The strongest that a choice may take.
+by-two : (view : View) (sense : Sense) (fresh : Bool) (f g : Bool) → is_allowed view sense Positive fresh ≡ f → is_allowed view sense Increase fresh ≡ g →
     IsStrongestAllowed view sense fresh (cond g Increase (cond f Positive Level))
-by_two view sense fresh f true hf hg = (passes hg, λ other h. absurd (above other h))
+by-two view sense fresh f true hf hg = (passes hg, λ other h. absurd (above other h))
   where
     above : (other : Strength) → 5 < place_of other → ⊥
     above Limit2000 h = omega arith
@@ -66,7 +66,7 @@ by_two view sense fresh f true hf hg = (passes hg, λ other h. absurd (above oth
     above Level h = omega arith
     above Positive h = omega arith
     above Increase h = omega arith
-by_two view sense fresh true false hf hg = (passes hf, above)
+by-two view sense fresh true false hf hg = (passes hf, above)
   where
     above : (other : Strength) → 4 < place_of other → ¬ IsAllowed view sense fresh other
     above Limit2000 h = absurd (omega arith)
@@ -75,7 +75,7 @@ by_two view sense fresh true false hf hg = (passes hf, above)
     above Level h = absurd (omega arith)
     above Positive h = absurd (omega arith)
     above Increase h = fails hg
-by_two view sense fresh false false hf hg = (refl, above)
+by-two view sense fresh false false hf hg = (refl, above)
   where
     above : (other : Strength) → 3 < place_of other → ¬ IsAllowed view sense fresh other
     above Limit2000 h = absurd (omega arith)
@@ -90,12 +90,12 @@ computed f true rest = refl
 computed true false rest = refl
 computed false false rest = refl
 
-pub strongest_found : (view : View) (sense : Sense) (fresh : Bool) → IsStrongestAllowed view sense fresh (strongest view sense fresh)
-strongest_found view sense fresh =
+pub strongest-found : (view : View) (sense : Sense) (fresh : Bool) → IsStrongestAllowed view sense fresh (strongest view sense fresh)
+strongest-found view sense fresh =
     let f = is_allowed view sense Positive fresh in let g = is_allowed view sense Increase fresh in
-    subst (IsStrongestAllowed view sense fresh) (sym (computed f g None)) (by_two view sense fresh f g refl refl)
+    subst (IsStrongestAllowed view sense fresh) (sym (computed f g None)) (by-two view sense fresh f g refl refl)
 
--- a test of two parts
+-- a test of two parts.
 both : (a b : Bool) → IsTrue (a && b) → IsTrue a × IsTrue b
 both true b t = (refl, t)
 both false b t = absurd (fails refl t)
@@ -104,37 +104,37 @@ joined : (a b : Bool) → IsTrue a → IsTrue b → IsTrue (a && b)
 joined true b t u = u
 joined false b t u = absurd (fails refl t)
 
--- a kind that a test tells
-of_kind : (Is : Strength → Type 0) (test : Strength → Bool) (view : View) (sense : Sense) (fresh : Bool) (found : Strength) →
+-- a kind that a test tells.
+of-kind : (Is : Strength → Type 0) (test : Strength → Bool) (view : View) (sense : Sense) (fresh : Bool) (found : Strength) →
     ((s : Strength) → IsTrue (test s) → Is s) → ((s : Strength) → Is s → IsTrue (test s)) → Found test (strongest view sense fresh) found → IsWeakestOrStrongest Is view sense fresh found
-of_kind Is test view sense fresh found to from (inl w) = inl (to found w.0, λ other h is. w.1 other h (from other is))
-of_kind Is test view sense fresh found to from (inr n) = inr ((λ other is. n.0 other (from other is)), subst (IsStrongestAllowed view sense fresh) (sym n.1) (strongest_found view sense fresh))
+of-kind Is test view sense fresh found to from (inl w) = inl (to found w.0, λ other h is. w.1 other h (from other is))
+of-kind Is test view sense fresh found to from (inr n) = inr ((λ other is. n.0 other (from other is)), subst (IsStrongestAllowed view sense fresh) (sym n.1) (strongest-found view sense fresh))
 
-pub least_found : (view : View) (sense : Sense) (fresh : Bool) → IsLeast view sense fresh (least_strength view sense fresh)
-least_found view sense fresh =
+pub least-found : (view : View) (sense : Sense) (fresh : Bool) → IsLeast view sense fresh (least_strength view sense fresh)
+least-found view sense fresh =
     let test = λ (s : Strength). is_allowed view sense s fresh && gives_alim view sense s fresh in
-    of_kind (Serves view sense fresh) test view sense fresh _ (λ s t. both _ _ t) (λ s is. joined _ _ is.0 is.1) (weakest_found test (strongest view sense fresh))
+    of-kind (Serves view sense fresh) test view sense fresh _ (λ s t. both _ _ t) (λ s is. joined _ _ is.0 is.1) (weakest-found test (strongest view sense fresh))
 
-at_most : (one two : Strength) → IsTrue (is_at_most one two) → place_of one ≤ place_of two
-at_most one two t = leb→le (place_of one) (place_of two) (search (rules, t))
+at-most : (one two : Strength) → IsTrue (is_at_most one two) → place_of one ≤ place_of two
+at-most one two t = leb→le (place_of one) (place_of two) (search (rules, t))
 
-at_most_told : (one two : Strength) → place_of one ≤ place_of two → IsTrue (is_at_most one two)
-at_most_told one two h = search (rules, h)
+at-most-told : (one two : Strength) → place_of one ≤ place_of two → IsTrue (is_at_most one two)
+at-most-told one two h = search (rules, h)
 
 reached : (view : View) (sense : Sense) (fresh : Bool) (one two s : Strength) → IsTrue (reaches_both view sense fresh one two s) → Reaches view sense fresh one two s
 reached view sense fresh one two s t =
     let a = both (is_allowed view sense s fresh) (is_at_most one s && is_at_most two s) t in
     let b = both (is_at_most one s) (is_at_most two s) a.1 in
-    (a.0, at_most one s b.0, at_most two s b.1)
+    (a.0, at-most one s b.0, at-most two s b.1)
 
-reached_told : (view : View) (sense : Sense) (fresh : Bool) (one two s : Strength) → Reaches view sense fresh one two s → IsTrue (reaches_both view sense fresh one two s)
-reached_told view sense fresh one two s is = joined _ _ is.0 (joined _ _ (at_most_told one s is.1) (at_most_told two s is.2))
+reached-told : (view : View) (sense : Sense) (fresh : Bool) (one two s : Strength) → Reaches view sense fresh one two s → IsTrue (reaches_both view sense fresh one two s)
+reached-told view sense fresh one two s is = joined _ _ is.0 (joined _ _ (at-most-told one s is.1) (at-most-told two s is.2))
 
-both_found : (view : View) (sense : Sense) (fresh : Bool) (one two : Strength) → IsWeakestOrStrongest (Reaches view sense fresh one two) view sense fresh (least_of_both view sense fresh one two)
-both_found view sense fresh one two =
-    of_kind (Reaches view sense fresh one two) (reaches_both view sense fresh one two) view sense fresh _ (reached view sense fresh one two) (reached_told view sense fresh one two) (weakest_found (reaches_both view sense fresh one two) (strongest view sense fresh))
+both-found : (view : View) (sense : Sense) (fresh : Bool) (one two : Strength) → IsWeakestOrStrongest (Reaches view sense fresh one two) view sense fresh (least_of_both view sense fresh one two)
+both-found view sense fresh one two =
+    of-kind (Reaches view sense fresh one two) (reaches_both view sense fresh one two) view sense fresh _ (reached view sense fresh one two) (reached-told view sense fresh one two) (weakest-found (reaches_both view sense fresh one two) (strongest view sense fresh))
 
--- what a condition leaves
+-- What a condition leaves.
 otherwise : (b : Bool) (one two : Strength) → IsTrue (not b) → cond b one two ≡ two
 otherwise true one two t = absurd (fails refl t)
 otherwise false one two t = refl
@@ -146,7 +146,7 @@ indeed false one two t = absurd (fails refl t)
 pub weakened : (before : Intent) (view : View) → IsTrue (weakens before view) → strength_after before view ≡ Level
 weakened before view h = indeed (weakens before view) Level _ h
 
-pub next_found : (before : Intent) (view : View) → IsTrue (not (weakens before view)) → IsNext before view (strength_after before view)
-next_found before view h =
+pub next-found : (before : Intent) (view : View) → IsTrue (not (weakens before view)) → IsNext before view (strength_after before view)
+next-found before view h =
     let fresh = is_fresh_after before.strength in let need = least_strength view before.sense fresh in
-    subst (IsNext before view) (sym (otherwise (weakens before view) Level (least_of_both view before.sense fresh before.strength need) h)) (both_found view before.sense fresh before.strength need)
+    subst (IsNext before view) (sym (otherwise (weakens before view) Level (least_of_both view before.sense fresh before.strength need) h)) (both-found view before.sense fresh before.strength need)

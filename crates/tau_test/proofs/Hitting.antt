@@ -4,6 +4,6 @@ use Rattle.std.specs.Prelude.{◌↔◌}
 use Rattle.acas_base.specs.declared.level.Row.{Row}
 use Rattle.tau_test.specs.RangeTest.{IsRangeHit, is_range_hit}
 
-pub hits_range : (r rdot : ℤ) (row : Row) → IsTrue (is_range_hit r rdot row) ↔ IsRangeHit r rdot row
+pub hits-range : (r rdot : ℤ) (row : Row) → IsTrue (is_range_hit r rdot row) ↔ IsRangeHit r rdot row
 unfolding is_range_hit
-hits_range r rdot row = search rules
+hits-range r rdot row = search rules

@@ -4,22 +4,22 @@ use Rattle.std.specs.Prelude.{ℕ, ◌-◌, ◌*◌, ◌≤◌, ◌⊎◌, ◌||
 use Rattle.acas_base.specs.declared.level.Row.{Row}
 use Rattle.acas_num.specs.Seconds.{need}
 
--- modified tau in whole seconds, rounded up: (r * r - dmod * dmod) / (r * rate), for a range beyond DMOD that closes at
--- so great a rate
+-- Modified tau in whole seconds, rounded up: (r * r - dmod * dmod) / (r * rate), for a range beyond DMOD that closes at
+-- so great a rate.
 abbrev pub modified_tau : ℕ → ℕ → ℕ → ℕ
 modified_tau r rate dmod = need (r * r - dmod * dmod) (r * rate)
 
--- beyond DMOD, closing, and with a modified tau of at most TAU
+-- Beyond DMOD, closing, and with a modified tau of at most TAU.
 pub record IsClosingIn (r rdot : ℤ) (row : Row) : Type 0 where
   pub beyond : row.dmod <ℤ r
   pub closing : rdot <ℤ pos 0
   pub soon : modified_tau (unsigned_abs r) (unsigned_abs rdot) (unsigned_abs row.dmod) ≤ unsigned_abs row.tau
 
--- the range test: within DMOD, or closing in
+-- The range test: within DMOD, or closing in.
 abbrev pub IsRangeHit : ℤ → ℤ → Row → Type 0
 IsRangeHit r rdot row = (r ≤ℤ row.dmod) ⊎ IsClosingIn r rdot row
 
--- the same as a truth value, so that what is seen is a function of what is known
+-- The same as a truth value, so that what is seen is a function of what is known.
 unfoldable pub is_range_hit : ℤ → ℤ → Row → Bool
 is_range_hit r rdot row =
     int_le r row.dmod || (int_lt rdot (pos 0) && nat_le (modified_tau (unsigned_abs r) (unsigned_abs rdot) (unsigned_abs row.dmod)) (unsigned_abs row.tau))

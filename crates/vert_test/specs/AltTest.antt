@@ -4,20 +4,20 @@ use Rattle.std.specs.Prelude.{◌≤◌, ◌⊎◌, ◌||◌, ◌&&◌, Bool, na
 use Rattle.acas_base.specs.declared.level.Row.{Row}
 use Rattle.acas_num.specs.Seconds.{need}
 
--- one number is below zero and the other above it
+-- One number is below zero and the other above it.
 abbrev pub AreOpposite : ℤ → ℤ → Type 0
 AreOpposite a b = ((a <ℤ pos 0) × (pos 0 <ℤ b)) ⊎ ((pos 0 <ℤ a) × (b <ℤ pos 0))
 
--- the height shrinks, and the time to the same altitude, in whole seconds, rounded up, is at most TAU
+-- The height shrinks, and the time to the same altitude, in whole seconds, rounded up, is at most TAU.
 pub record IsConvergingIn (dz dzdot : ℤ) (row : Row) : Type 0 where
   pub converging : AreOpposite dz dzdot
   pub soon : need (unsigned_abs dz) (unsigned_abs dzdot) ≤ unsigned_abs row.tau
 
--- the altitude test: within ZTHR, or converging in time
+-- The altitude test: within ZTHR, or converging in time.
 abbrev pub IsAltHit : ℤ → ℤ → Row → Type 0
 IsAltHit dz dzdot row = (unsigned_abs dz ≤ unsigned_abs row.zthr) ⊎ IsConvergingIn dz dzdot row
 
--- the same as a truth value, so that what is seen is a function of what is known
+-- The same as a truth value, so that what is seen is a function of what is known.
 abbrev pub are_opposite : ℤ → ℤ → Bool
 are_opposite a b = (int_lt a (pos 0) && int_lt (pos 0) b) || (int_lt (pos 0) a && int_lt b (pos 0))
 

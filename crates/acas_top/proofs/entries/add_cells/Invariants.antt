@@ -4,7 +4,7 @@ use Rattle.acas_top.specs.Entries.{cell_field}
 use Rattle.acas_top.specs.declared.entries.TheConstants.{CELL_BYTES}
 use Rattle.acas_top.proofs.entries.add_cells.Given as goal
 
--- so many cells were added
+-- So many cells were added.
 abbrev pub invariant-loop-place : goal.invariant-loop-place
 invariant-loop-place l = record {
   written : l.line ≡ l.fn.line ++ flat_map cell_field (take l.place l.cells.list);

@@ -1,5 +1,5 @@
-use Rattle.acas_top.proofs.OneStatus.{one_status}
+use Rattle.acas_top.proofs.OneStatus.{one-status}
 use Rattle.acas_top.proofs.top.one_status_law.Goals as goal
 
 pub returns : goal.returns
-returns c = one_status
+returns c = one-status

@@ -1,13 +1,13 @@
 use Rattle.air_rules.proofs.own.own_law.Goals as goal
-use Rattle.air_rules.proofs.Beginnings.{stays_between}
-use Rattle.air_rules.proofs.OwnEntries.{adds_to_own, keeps_others, depends_on_own, leaves_others, completes_by_own}
+use Rattle.air_rules.proofs.Beginnings.{stays-between}
+use Rattle.air_rules.proofs.OwnEntries.{adds-to-own, keeps-others, depends-on-own, leaves-others, completes-by-own}
 
 pub returns : goal.returns
 returns c = record {
-  adds = adds_to_own;
-  keeps = keeps_others;
-  between = stays_between;
-  depends = depends_on_own;
-  leaves = leaves_others;
-  completes = completes_by_own;
+  adds = adds-to-own;
+  keeps = keeps-others;
+  between = stays-between;
+  depends = depends-on-own;
+  leaves = leaves-others;
+  completes = completes-by-own;
 }

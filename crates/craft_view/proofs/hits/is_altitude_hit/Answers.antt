@@ -1,7 +1,7 @@
 use Rattle.std.proofs.Common.{◌≡◌, ◌-ℤ◌, ◌∙◌, rules, w64, to_z, of_z}
 use Rattle.std.proofs.lemmas.Int.{to_z-of_z}
 use Rattle.std.proofs.lemmas.Bool.Decides.{same_from_decides}
-use Rattle.vert_test.proofs.Hitting.{hits_altitude}
+use Rattle.vert_test.proofs.Hitting.{hits-altitude}
 use Rattle.craft_view.proofs.hits.is_altitude_hit.Goals as goal
 
 pub returns : goal.returns
@@ -12,4 +12,4 @@ returns c =
     let rate : to_z w64 (of_z w64 c.difference-rate.result) ≡ m.target.rate -ℤ m.own.rate =
     to_z-of_z w64 c.difference-rate.result (search rules) ∙ (rw (to_z-of_z w64 m.target.rate (search rules), to_z-of_z w64 m.own.rate (search rules)) at c.difference-rate.ensures) in
     same_from_decides _ _ (rw (height, rate) at c.alt_test.ensures)
-    (hits_altitude (m.target.est -ℤ m.own.est) (m.target.rate -ℤ m.own.rate) c.args.row.now)
+    (hits-altitude (m.target.est -ℤ m.own.est) (m.target.rate -ℤ m.own.rate) c.args.row.now)

@@ -1,9 +1,9 @@
 use Rattle.std.proofs.Common.{◌∙◌, sym}
-use Rattle.project.proofs.Closed.{not_reached, reached}
+use Rattle.project.proofs.Closed.{not-reached, reached}
 use Rattle.project.proofs.gained.sum_gained.Goals as goal
 
 pub returns-then-moves-whole-clause-value : goal.returns-then-moves-whole-clause-value
-returns-then-moves-whole-clause-value c = c.sum_of_steps.ensures.value ∙ sym (not_reached c.args.distance c.args.step c.args.moves c.if-moves-whole.true)
+returns-then-moves-whole-clause-value c = c.sum_of_steps.ensures.value ∙ sym (not-reached c.args.distance c.args.step c.args.moves c.if-moves-whole.true)
 
 pub returns-else-moves-whole-clause-value : goal.returns-else-moves-whole-clause-value
 returns-else-moves-whole-clause-value c =

@@ -1,7 +1,7 @@
 use Rattle.std.proofs.Common.{◌≡◌, ◌-◌, ℤ, ◌+ℤ◌, ◌-ℤ◌, unsigned_abs, rules, w64, ◌∙◌, ap, ap₂}
 use Rattle.std.proofs.lemmas.Int.{to_z-of_z}
 use Rattle.project.specs.Gained.{toward}
-use Rattle.project.proofs.Mirrored.{unmoved_and_gained}
+use Rattle.project.proofs.Mirrored.{unmoved-and-gained}
 use Rattle.project.proofs.projection.sum_of_rates.Goals as goal
 
 pub returns-clause-value : goal.returns-clause-value
@@ -19,4 +19,4 @@ returns-clause-value c =
     sum
     ∙ c.sum.ensures.value
     ∙ ap₂ (λ (x y : ℤ). x +ℤ y) (unmoved ∙ rw v at c.unmoved.ensures.value) (toward_goal ∙ (rw (v, goal_rate) at c.amount_toward.ensures.value) ∙ ap (toward c.args.v c.args.goal) gained)
-    ∙ unmoved_and_gained c.args.v c.args.goal c.args.step c.args.delay c.args.halves c.requires.forward
+    ∙ unmoved-and-gained c.args.v c.args.goal c.args.step c.args.delay c.args.halves c.requires.forward

@@ -1,9 +1,9 @@
 use Rattle.std.proofs.Common.{rules, ◌≡◌, ℕ, ◌<◌, List, Option, None, get_or, set, length, length-set, get_or-set_same, get_or-set_other, below_more, sym, ap, ◌∙◌, subst, arith, inl, inr}
 use Rattle.std.proofs.lemmas.Bool.{cases_lt}
-use Rattle.air_journal.proofs.Bounds.{below, few_crafts}
+use Rattle.air_journal.proofs.Bounds.{below, few-crafts}
 use Rattle.air_rules.specs.Journal.{commits}
 use Rattle.craft_view.specs.Kept.{Kept}
-use Rattle.resume.proofs.Readying.{ready_none}
+use Rattle.resume.proofs.Readying.{ready-none}
 use Rattle.resume.proofs.crew.crew_of.Goals as goal
 use Rattle.resume.specs.Crews.{IsReady}
 
@@ -20,7 +20,7 @@ loop-own-preserved c =
     let xs = c.loop-own.crafts in
     let v = c.craft_at.result in
     let n = c.loop-own.own in
-    let few = few_crafts c.args.enc.now c.crafts.ensures.valid in
+    let few = few-crafts c.args.enc.now c.crafts.ensures.valid in
     let size : length c.crafts.result.now ≡ length c.args.enc.now.crafts = ap length c.crafts.ensures.value in
     let here : n < length xs = omega (arith, i.size) in
     let s : set xs c.from.result v ≡ set xs n v = ap (λ (k : ℕ). set xs k v) c.from.ensures in
@@ -41,5 +41,5 @@ returns c = λ own h.
     elim (cases_lt own c.loop-own.own) [
       | inl lt ↦ i.done own lt
       | inr ge ↦ subst (IsReady e own (commits c.args.state.now.journal own)) (sym (i.rest own ge h))
-          (ready_none e own (commits c.args.state.now.journal own) (λ a. let b = below e c.crafts.ensures.valid own a in omega arith))
+          (ready-none e own (commits c.args.state.now.journal own) (λ a. let b = below e c.crafts.ensures.valid own a in omega arith))
     ]

@@ -7,7 +7,7 @@ use Rattle.air_rules.specs.Length.{most_entries}
 use Rattle.air_rules.specs.Rules.{IsLegal}
 use Rattle.resume.specs.Filling.{Fills, unfilled}
 use Rattle.std.proofs.lemmas.Bool.{MatchBool-at_false, MatchBool-at_true}
-use Rattle.resume.proofs.Filled.{fills_step, legal_step, longer_step}
+use Rattle.resume.proofs.Filled.{fills-step, legal-step, longer-step}
 use Rattle.resume.proofs.filling.catch_up.Goals as goal
 
 pub loop-init : goal.loop-init
@@ -27,9 +27,9 @@ loop-preserved c =
     record {
       same = c.step.ensures.encounter;
       valid = i.valid;
-      legal = legal_step air c.loop.state.journal c.step.new.state.journal i.legal s;
+      legal = legal-step air c.loop.state.journal c.step.new.state.journal i.legal s;
       crew = c.step.ensures.crew;
-      fills = fills_step air c.args.state.now.journal c.loop.state.journal c.step.new.state.journal i.fills s;
+      fills = fills-step air c.args.state.now.journal c.loop.state.journal c.step.new.state.journal i.fills s;
     }
 
 pub loop-smaller : goal.loop-smaller
@@ -37,8 +37,8 @@ loop-smaller c =
     let i = c.loop.invariant in
     let air = air_of c.args.enc.now in
     let s = MatchBool-at_true _ _ c.if-not-step.false c.step.ensures.stepped in
-    let n = longer_step air c.loop.state.journal c.step.new.state.journal s in
-    let few : length c.step.new.state.journal ≤ most_entries air = fits c.args.enc.now c.step.new.state.journal i.valid (legal_step air c.loop.state.journal c.step.new.state.journal i.legal s) in
+    let n = longer-step air c.loop.state.journal c.step.new.state.journal s in
+    let few : length c.step.new.state.journal ≤ most_entries air = fits c.args.enc.now c.step.new.state.journal i.valid (legal-step air c.loop.state.journal c.step.new.state.journal i.legal s) in
     let less : most_entries air - length c.step.new.state.journal < most_entries air - length c.loop.state.journal = omega arith in
     less
 

@@ -1,5 +1,5 @@
 use Rattle.air_journal.specs.Airs.{air_of}
-use Rattle.resume.proofs.Turns.{fills_on}
+use Rattle.resume.proofs.Turns.{fills-on}
 use Rattle.resume.specs.Filling.{unfilled}
 use Rattle.resume.proofs.rounds.all_commits.Goals as goal
 
@@ -9,7 +9,7 @@ loop-own-init c = record { same = c.requires.same; fills = unfilled; crew = c.re
 pub loop-own-preserved : goal.loop-own-preserved
 loop-own-preserved c = record {
   same = c.commit_of.ensures.encounter;
-  fills = fills_on (air_of c.args.enc.now) c.args.state.now.journal c.loop-own.state.journal c.commit_of.new.state.journal c.loop-own.invariant.fills c.commit_of.ensures.fills;
+  fills = fills-on (air_of c.args.enc.now) c.args.state.now.journal c.loop-own.state.journal c.commit_of.new.state.journal c.loop-own.invariant.fills c.commit_of.ensures.fills;
   crew = c.commit_of.ensures.crew;
   before = c.commit_of.ensures.after;
 }

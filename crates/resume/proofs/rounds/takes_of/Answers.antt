@@ -7,8 +7,8 @@ use Rattle.air_journal.specs.declared.answers.Took.TheVariants as took
 use Rattle.air_rules.specs.Length.{most_entries}
 use Rattle.air_rules.specs.Rules.{IsLegal}
 use Rattle.craft_view.specs.Kept.{IsActive}
-use Rattle.resume.proofs.Activity.{to_active, told_active}
-use Rattle.resume.proofs.Turns.{fills_on, taken_all, taken_one, takes_skip}
+use Rattle.resume.proofs.Activity.{to-active, told-active}
+use Rattle.resume.proofs.Turns.{fills-on, taken-all, taken-one, takes-skip}
 use Rattle.resume.specs.Filling.{unfilled}
 use Rattle.resume.proofs.rounds.takes_of.Goals as goal
 
@@ -16,7 +16,7 @@ pub returns-then-not-is_active : goal.returns-then-not-is_active
 returns-then-not-is_active c = record {
   encounter = c.requires.same;
   fills = unfilled;
-  after = takes_skip (air_of c.args.enc.now) c.args.state.now.journal c.args.own c.args.rounds (told_active c.args.enc.now c.args.own c.is_active.result c.is_active.ensures ∙ c.if-not-is_active.true) c.requires.before;
+  after = takes-skip (air_of c.args.enc.now) c.args.state.now.journal c.args.own c.args.rounds (told-active c.args.enc.now c.args.own c.is_active.result c.is_active.ensures ∙ c.if-not-is_active.true) c.requires.before;
 }
 
 pub loop-init : goal.loop-init
@@ -24,7 +24,7 @@ loop-init c = record {
   same = c.requires.same;
   valid = subst IsEncounter c.requires.same c.legal_law.ensures.valid;
   legal = subst (λ (e : Parts). IsLegal (air_of e) c.args.state.now.journal) c.requires.same c.legal_law.ensures.legal;
-  active = to_active c.args.enc.now c.args.own (told_active c.args.enc.now c.args.own c.is_active.result c.is_active.ensures ∙ c.if-not-is_active.false);
+  active = to-active c.args.enc.now c.args.own (told-active c.args.enc.now c.args.own c.is_active.result c.is_active.ensures ∙ c.if-not-is_active.false);
   fills = unfilled;
   before = c.requires.before;
 }
@@ -34,13 +34,13 @@ loop-preserved c =
     let i = c.loop.invariant in
     let air = air_of c.args.enc.now in
     let s = subst (λ (e : Parts). Takes (air_of e) c.loop.state.journal c.args.own c.take.new.self.journal (took.Done c.in-Done.field-0 c.in-Done.field-1)) c.loop.invariant.same c.in-Done.ensures.takes in
-    let g = taken_one air c.loop.state.journal c.take.new.self.journal c.args.own c.args.rounds c.in-Done.field-0 c.in-Done.field-1 i.before s in
+    let g = taken-one air c.loop.state.journal c.take.new.self.journal c.args.own c.args.rounds c.in-Done.field-0 c.in-Done.field-1 i.before s in
     record {
       same = c.in-Done.ensures.encounter ∙ i.same;
       valid = i.valid;
       legal = subst (λ (e : Parts). IsLegal (air_of e) c.take.new.self.journal) (c.in-Done.ensures.encounter ∙ i.same) c.in-Done.ensures.legal;
       active = i.active;
-      fills = fills_on air c.args.state.now.journal c.loop.state.journal c.take.new.self.journal i.fills g.fills;
+      fills = fills-on air c.args.state.now.journal c.loop.state.journal c.take.new.self.journal i.fills g.fills;
       before = g.after;
     }
 
@@ -63,10 +63,10 @@ pub returns-in-Nothing : goal.returns-in-Nothing
 returns-in-Nothing c =
     let i = c.loop.invariant in
     let air = air_of c.args.enc.now in
-    let g = taken_all air c.loop.state.journal c.take.new.self.journal c.args.own c.args.rounds i.before
+    let g = taken-all air c.loop.state.journal c.take.new.self.journal c.args.own c.args.rounds i.before
     (subst (λ (e : Parts). Takes (air_of e) c.loop.state.journal c.args.own c.take.new.self.journal took.Nothing) i.same c.in-Nothing.ensures.takes) in
     record {
       encounter = c.in-Nothing.ensures.encounter ∙ i.same;
-      fills = fills_on air c.args.state.now.journal c.loop.state.journal c.take.new.self.journal i.fills g.fills;
+      fills = fills-on air c.args.state.now.journal c.loop.state.journal c.take.new.self.journal i.fills g.fills;
       after = g.after;
     }

@@ -5,7 +5,7 @@ use Rattle.acas_num.specs.Seconds.{need}
 use Rattle.vert_test.specs.AltTest.{AreOpposite, IsAltHit}
 use Rattle.vert_test.proofs.altitude.alt_test.Goals as goal
 
--- beyond ZTHR and converging, the time alone decides
+-- Beyond ZTHR and converging, the time alone decides.
 beyond : (dz dzdot : ℤ) (row : Row) (b : Bool) → unsigned_abs row.zthr < unsigned_abs dz → AreOpposite dz dzdot →
     (IsTrue b ↔ (need (unsigned_abs dz) (unsigned_abs dzdot) ≤ unsigned_abs row.tau)) → IsTrue b ↔ IsAltHit dz dzdot row
 beyond dz dzdot row b far opposite soon = (
@@ -13,15 +13,15 @@ beyond dz dzdot row b far opposite soon = (
   λ g. elim g [ inl near ↦ absurd (omega arith) | inr k ↦ soon.1 k.soon ],
 )
 
-abs_is : (n : ℕ) (z : ℤ) → FitsSigned w64 z → n ≡ unsigned_abs (to_z w64 (of_z w64 z)) → n ≡ unsigned_abs z
-abs_is n z fits e = e ∙ ap unsigned_abs (to_z-of_z w64 z fits)
+abs-is : (n : ℕ) (z : ℤ) → FitsSigned w64 z → n ≡ unsigned_abs (to_z w64 (of_z w64 z)) → n ≡ unsigned_abs z
+abs-is n z fits e = e ∙ ap unsigned_abs (to_z-of_z w64 z fits)
 
 pub returns-then-are_opposite : goal.returns-then-are_opposite
 returns-then-are_opposite c =
-    let height = abs_is _ c.args.dz c.ranges.dz c.unsigned_abs-height.ensures.value in
-    let rate = abs_is _ c.args.dzdot c.ranges.dzdot c.unsigned_abs-then-are_opposite.ensures.value in
-    let tau = abs_is _ c.args.row.now.tau (search rules) c.unsigned_abs-then-are_opposite-2.ensures.value in
-    let zthr = abs_is _ c.args.row.now.zthr (search rules) c.unsigned_abs.ensures.value in
+    let height = abs-is _ c.args.dz c.ranges.dz c.unsigned_abs-height.ensures.value in
+    let rate = abs-is _ c.args.dzdot c.ranges.dzdot c.unsigned_abs-then-are_opposite.ensures.value in
+    let tau = abs-is _ c.args.row.now.tau (search rules) c.unsigned_abs-then-are_opposite-2.ensures.value in
+    let zthr = abs-is _ c.args.row.now.zthr (search rules) c.unsigned_abs.ensures.value in
     let far : unsigned_abs c.args.row.now.zthr < unsigned_abs c.args.dz = omega arith in
     let opposite : AreOpposite c.args.dz c.args.dzdot = search rules in
     beyond c.args.dz c.args.dzdot c.args.row.now _ far opposite (rw (height, rate, tau) at c.is_soon.ensures)

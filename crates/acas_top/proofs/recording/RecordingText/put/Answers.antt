@@ -1,7 +1,7 @@
 use Rattle.std.proofs.Common.{◌≡◌, ◌∙◌, ◌∷◌, [], List, ap, ap₂, arith, length, map, refl, subst, sym}
 use Rattle.std.specs.Prelude.{◌/◌, codes}
 use Rattle.acas_base.specs.declared.entry.Entry.{Entry}
-use Rattle.acas_top.proofs.Reporting.{active_count, few_entries, recording-from, report_from, whole}
+use Rattle.acas_top.proofs.Reporting.{active-count, few-entries, recording-from, report-from, whole}
 use Rattle.acas_top.proofs.recording.RecordingText.put.Goals as goal
 use Rattle.acas_top.specs.Changes.{changes, shown_before}
 use Rattle.acas_top.specs.Entries.{AreWhole, entry_line}
@@ -13,7 +13,7 @@ use Rattle.enc_file.specs.Canonical.{canonical_lines}
 pub overflow_cast-entries : goal.overflow_cast-entries
 overflow_cast-entries g c =
     let e = c.args.self.now.encounter in
-    omega (arith, few_entries e c.crafts-crafts.ensures.valid, ap length (c.as_slice-entries.ensures.value ∙ c.args.self.now.rounds))
+    omega (arith, few-entries e c.crafts-crafts.ensures.valid, ap length (c.as_slice-entries.ensures.value ∙ c.args.self.now.rounds))
 
 pub put_entries-requires-clause-whole : goal.put_entries-requires-clause-whole
 put_entries-requires-clause-whole g c =
@@ -23,7 +23,7 @@ put_entries-requires-clause-whole g c =
 pub count_report-requires : goal.count_report-requires
 count_report-requires g c =
     let e = c.args.self.now.encounter in
-    omega (arith, few_entries e c.crafts-crafts.ensures.valid, ap length (c.as_slice-entries.ensures.value ∙ c.args.self.now.rounds))
+    omega (arith, few-entries e c.crafts-crafts.ensures.valid, ap length (c.as_slice-entries.ensures.value ∙ c.args.self.now.rounds))
 
 pub returns : goal.returns
 returns g c =
@@ -35,8 +35,8 @@ returns g c =
     let same : journal ≡ all = c.as_slice-entries.ensures.value in
     let rounds : journal ≡ traffic_entries (air_of e) e.cycles = same ∙ c.args.self.now.rounds in
     let cycles : c.from.result ≡ e.cycles = c.from.ensures ∙ c.cycles.ensures.value in
-    let active = ap₂ (λ (J : List Entry) (n : _). length J / n) rounds cycles ∙ active_count (air_of e) e.cycles (omega (arith, c.cycles.ensures.valid.run.length.0)) in
-    let report = report_from e c.crafts-crafts.result.now journal _ crafts rounds active in
+    let active = ap₂ (λ (J : List Entry) (n : _). length J / n) rounds cycles ∙ active-count (air_of e) e.cycles (omega (arith, c.cycles.ensures.valid.run.length.0)) in
+    let report = report-from e c.crafts-crafts.result.now journal _ crafts rounds active in
     let commits = ap (λ n. map (entry_line n) journal) (ap length crafts) in
     let many = c.count_line-2.ensures ∙ ap (count_line (codes "report,")) c.count_report.ensures in
     let put =

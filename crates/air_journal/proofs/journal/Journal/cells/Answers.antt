@@ -1,13 +1,13 @@
 use Rattle.std.proofs.Common.{ℕ, ◌<◌, length, get_or, Some, is_some, sym, ap, ◌∙◌, subst, arith}
 use Rattle.std.proofs.lemmas.List.{get_or_read}
-use Rattle.air_journal.proofs.Writing.{Found, found_some}
+use Rattle.air_journal.proofs.Writing.{Found, found-some}
 use Rattle.air_journal.proofs.journal.Journal.cells.Goals as goal
 use Rattle.air_journal.proofs.journal.Journal.cells.Goals.{After-self}
 use Rattle.air_journal.specs.Cells.{clear_cells, commit_cells, place_of}
 use Rattle.air_journal.specs.Written.{Written}
 
 found : (c : After-self) → Found c.self.inside.cells.items c.self.inside.log.notes c.args.own c.args.cycle
-found c = found_some c.self.inside.cells.items c.self.inside.log.notes c.args.own c.args.cycle c.self.invariant (ap (λ (w : Written). is_some (commit_cells w.entries c.args.own c.args.cycle)) c.self.view_is ∙ c.requires)
+found c = found-some c.self.inside.cells.items c.self.inside.log.notes c.args.own c.args.cycle c.self.invariant (ap (λ (w : Written). is_some (commit_cells w.entries c.args.own c.args.cycle)) c.self.view_is ∙ c.requires)
 
 pub place_of-requires : goal.place_of-requires
 place_of-requires c = (found c).stands.begun

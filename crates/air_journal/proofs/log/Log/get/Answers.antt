@@ -2,12 +2,12 @@ use Rattle.std.proofs.Common.{◌≡◌, ◌/◌, ◌%◌, [], get_or, slice_get
 use Rattle.std.proofs.lemmas.List.{get_or_read}
 use Rattle.std.proofs.lemmas.Option.{slice_get_past}
 use Rattle.air_journal.specs.Pages.{Noted, joined}
-use Rattle.air_journal.proofs.Paging.{paged_length, read, within}
+use Rattle.air_journal.proofs.Paging.{paged-length, read, within}
 use Rattle.air_journal.proofs.log.Log.get.Goals as goal
 
 pub returns-then-at-self : goal.returns-then-at-self
 returns-then-at-self c =
-    let n = paged_length c.self.inside.pages.items c.self.inside.count c.self.invariant.filled in
+    let n = paged-length c.self.inside.pages.items c.self.inside.count c.self.invariant.filled in
     let past : slice_get (joined c.self.inside.pages.items) c.args.at ≡ None = slice_get_past (joined c.self.inside.pages.items) c.args.at (omega arith) in
     sym past ∙ ap (λ (l : Noted). slice_get l.notes c.args.at) c.self.view_is
 

@@ -1,8 +1,8 @@
 use Rattle.std.proofs.Common.{◌≡◌, ℕ, ◌+◌, ◌<◌, ◌≤◌, true, sym, ap, ◌∙◌, subst, arith}
 use Rattle.acas_base.specs.declared.TheConstants.{CRAFTS}
-use Rattle.air_journal.proofs.Adding.{CommitFits, commit_fits, committed_whole, may_commit}
-use Rattle.air_journal.proofs.Bounds.{active_is, below, below_all}
-use Rattle.air_journal.proofs.Telling.{ages, count_is}
+use Rattle.air_journal.proofs.Adding.{CommitFits, commit-fits, committed-whole, may-commit}
+use Rattle.air_journal.proofs.Bounds.{active-is, below, below-all}
+use Rattle.air_journal.proofs.Telling.{ages, count-is}
 use Rattle.air_journal.specs.Airs.{air_of}
 use Rattle.air_journal.specs.Calls.{Committed, IsFree}
 use Rattle.air_journal.specs.Kept.{made_at}
@@ -13,19 +13,19 @@ use Rattle.craft_view.specs.Kept.{IsActive}
 use Rattle.air_journal.proofs.state.AirState.add_commit.Goals as goal
 use Rattle.air_journal.proofs.state.AirState.add_commit.Goals.{After-commit, After-len-position, After-next_cells-cells}
 use Rattle.craft_view.specs.Views.{picture_of}
-use Rattle.air_journal.proofs.Bounds.{fits, most_few}
+use Rattle.air_journal.proofs.Bounds.{fits, most-few}
 
 active : (c : After-len-position) → is_active (air_of c.self.inside.encounter) c.args.own ≡ true
-active c = active_is c.self.inside.encounter c.args.own (subst (λ (s : State). IsActive s.encounter c.args.own) (sym c.self.view_is) c.requires.active)
+active c = active-is c.self.inside.encounter c.args.own (subst (λ (s : State). IsActive s.encounter c.args.own) (sym c.self.view_is) c.requires.active)
 
 own : (c : After-len-position) → c.args.own < CRAFTS
-own c = below_all c.self.inside.encounter c.self.invariant.valid c.args.own (active c)
+own c = below-all c.self.inside.encounter c.self.invariant.valid c.args.own (active c)
 
 free : (c : After-len-position) → IsFree (air_of c.self.inside.encounter) c.self.inside.journal.entries c.args.own
 free c = subst (λ (s : State). IsFree (air_of s.encounter) s.journal c.args.own) (sym c.self.view_is) c.requires.free
 
 count : (c : After-len-position) → (made_at c.self.inside.tables c.args.own).commits ≡ commits c.self.inside.journal.entries c.args.own
-count c = count_is c.self.invariant c.args.own (own c)
+count c = count-is c.self.invariant c.args.own (own c)
 
 few : (c : After-len-position) → (made_at c.self.inside.tables c.args.own).commits < 600
 few c =
@@ -35,12 +35,12 @@ few c =
     omega arith
 
 fit : (c : After-next_cells-cells) → (p : After-len-position) → is_active (air_of c.self.inside.encounter) c.args.own ≡ true → IsFree (air_of c.self.inside.encounter) c.self.inside.journal.entries c.args.own → CommitFits c.self.inside.encounter c.self.inside.journal c.self.inside.tables c.args.own
-fit c p a f = commit_fits c.self.invariant c.args.own c.next_cells-cells.result a f c.next_cells-cells.ensures
+fit c p a f = commit-fits c.self.invariant c.args.own c.next_cells-cells.result a f c.next_cells-cells.ensures
 
 pub overflow_cast-position : goal.overflow_cast-position
 overflow_cast-position c =
     let h = c.self.invariant in
-    omega (arith, fits c.self.inside.encounter c.self.inside.journal.entries h.valid h.legal, most_few c.self.inside.encounter h.valid, c.len-position.ensures)
+    omega (arith, fits c.self.inside.encounter c.self.inside.journal.entries h.valid h.legal, most-few c.self.inside.encounter h.valid, c.len-position.ensures)
 
 pub made-cycle-requires : goal.made-cycle-requires
 made-cycle-requires c = own (goal.at.made-cycle-requires c).After-len-position
@@ -93,7 +93,7 @@ pub commit-requires-clause-size : goal.commit-requires-clause-size
 commit-requires-clause-size c = c.next_cells-cells.ensures.size
 
 whole : (c : After-commit) → is_active (air_of c.self.inside.encounter) c.args.own ≡ true → IsFree (air_of c.self.inside.encounter) c.self.inside.journal.entries c.args.own → IsWhole c.self.inside.encounter c.push_commit.new.self c.commit.new.self
-whole c a f = committed_whole c.self.invariant c.args.own (c.made-cycle.result.commits + 1) c.next_cells-cells.result c.has_many.result a f (ap (λ m. m.commits + 1) c.made-cycle.ensures) c.next_cells-cells.ensures c.has_many.ensures
+whole c a f = committed-whole c.self.invariant c.args.own (c.made-cycle.result.commits + 1) c.next_cells-cells.result c.has_many.result a f (ap (λ m. m.commits + 1) c.made-cycle.ensures) c.next_cells-cells.ensures c.has_many.ensures
     (record { entries = c.push_commit.ensures.entries; room = c.push_commit.ensures.room; places = c.push_commit.ensures.places }) c.commit.ensures
 
 pub invariant_of-self : goal.invariant_of-self
@@ -107,7 +107,7 @@ returns-clause-commits c =
       position_is = c.len-position.ensures;
       cycle = c.made-cycle.result.commits + 1;
       cells = c.next_cells-cells.result;
-      allowed = may_commit c.self.invariant c.args.own (c.made-cycle.result.commits + 1) c.next_cells-cells.result (active p) (free p) (ap (λ m. m.commits + 1) c.made-cycle.ensures) c.next_cells-cells.ensures;
+      allowed = may-commit c.self.invariant c.args.own (c.made-cycle.result.commits + 1) c.next_cells-cells.result (active p) (free p) (ap (λ m. m.commits + 1) c.made-cycle.ensures) c.next_cells-cells.ensures;
       new_is = c.push_commit.ensures.entries;
     })
 

@@ -1,5 +1,5 @@
 use Rattle.std.proofs.Common.{sym, ap, ◌∙◌, arith}
-use Rattle.air_journal.proofs.Bounds.{commits_past}
+use Rattle.air_journal.proofs.Bounds.{commits-past}
 use Rattle.air_journal.proofs.state.AirState.commits.Goals as goal
 use Rattle.air_journal.specs.States.{State}
 use Rattle.air_rules.specs.Journal.{commits}
@@ -7,4 +7,4 @@ use Rattle.air_rules.specs.Journal.{commits}
 pub returns-then-own-count_of : goal.returns-then-own-count_of
 returns-then-own-count_of c =
     let h = c.self.invariant in
-    sym (commits_past c.self.inside.encounter c.self.inside.journal.entries h.valid h.legal c.args.own (omega (arith, c.count_of.ensures.value))) ∙ ap (λ (s : State). commits s.journal c.args.own) c.self.view_is
+    sym (commits-past c.self.inside.encounter c.self.inside.journal.entries h.valid h.legal c.args.own (omega (arith, c.count_of.ensures.value))) ∙ ap (λ (s : State). commits s.journal c.args.own) c.self.view_is

@@ -1,7 +1,7 @@
 use Rattle.std.proofs.Common.{◌≡◌, List, sym, ap, subst, arith}
 use Rattle.acas_base.specs.Encounter.{IsEncounter, Parts}
 use Rattle.acas_base.specs.declared.entry.Entry.{Entry}
-use Rattle.air_journal.proofs.Steps.{blank_kept}
+use Rattle.air_journal.proofs.Steps.{blank-kept}
 use Rattle.air_journal.proofs.state.AirState.new.Goals as goal
 use Rattle.air_journal.specs.Airs.{air_of}
 use Rattle.air_journal.specs.Kept.{IsKept}
@@ -19,7 +19,7 @@ invariant_of-result c =
       valid = subst IsEncounter (sym same) c.cycles.ensures.valid;
       inside = subst IsInside (sym same) c.requires;
       legal = subst (IsLegal (air_of e)) (sym c.in_ok-journal.ensures.entries) empty;
-      kept = subst (λ (J : List Entry). IsKept (air_of e) J c.in_ok-tables.tables) (sym c.in_ok-journal.ensures.entries) (blank_kept (air_of e) c.in_ok-tables.tables c.in_ok-tables.ensures);
+      kept = subst (λ (J : List Entry). IsKept (air_of e) J c.in_ok-tables.tables) (sym c.in_ok-journal.ensures.entries) (blank-kept (air_of e) c.in_ok-tables.tables c.in_ok-tables.ensures);
       room = omega (arith, c.pages_for.ensures.enough, c.in_ok-journal.ensures.room);
       places = omega (arith, c.in_ok-journal.ensures.places, c.from.ensures, c.cycles.ensures.value);
     }

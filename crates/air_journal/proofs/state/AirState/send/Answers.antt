@@ -1,8 +1,8 @@
 use Rattle.std.proofs.Common.{◌≡◌, ℕ, ◌+◌, true, ◌∷◌, sym, ap, ◌∙◌, subst, refl, arith}
 use Rattle.acas_base.specs.declared.entry.Entry.TheVariants as kinds
-use Rattle.air_journal.proofs.Adding.{WritesOn, SendFits, may_send, send_fits, sent_whole}
-use Rattle.air_journal.proofs.Bounds.{active_is, below_all}
-use Rattle.air_journal.proofs.Telling.{owes_nothing}
+use Rattle.air_journal.proofs.Adding.{WritesOn, SendFits, may-send, send-fits, sent-whole}
+use Rattle.air_journal.proofs.Bounds.{active-is, below-all}
+use Rattle.air_journal.proofs.Telling.{owes-nothing}
 use Rattle.air_journal.specs.Airs.{air_of}
 use Rattle.air_journal.specs.Calls.{SentFirst}
 use Rattle.air_journal.specs.States.{IsWhole, State}
@@ -15,10 +15,10 @@ use Rattle.air_journal.proofs.state.AirState.send.Goals.{After-send, In-None, In
 use Rattle.res_message.specs.Words.{word_of}
 
 active : (c : In-Some) → is_active (air_of c.self.inside.encounter) c.args.own ≡ true
-active c = active_is c.self.inside.encounter c.args.own (subst (λ (s : State). IsActive s.encounter c.args.own) (sym c.self.view_is) c.requires)
+active c = active-is c.self.inside.encounter c.args.own (subst (λ (s : State). IsActive s.encounter c.args.own) (sym c.self.view_is) c.requires)
 
 fit : (c : In-Some) → SendFits c.self.inside.encounter c.self.inside.journal c.self.inside.tables c.args.own c.in-Some.owing.target
-fit c = send_fits c.self.invariant c.args.own c.in-Some.owing.target c.in-Some.owing.message (active c) c.in-Some.ensures
+fit c = send-fits c.self.invariant c.args.own c.in-Some.owing.target c.in-Some.owing.message (active c) c.in-Some.ensures
 
 pub overflow_cast-position : goal.overflow_cast-position
 overflow_cast-position c = let f = fit (goal.at.overflow_cast-position c).In-Some in omega (arith, f.position, c.len-position.ensures)
@@ -52,7 +52,7 @@ written c = record {
 }
 
 whole : (c : After-send) → is_active (air_of c.self.inside.encounter) c.args.own ≡ true → IsWhole c.self.inside.encounter c.push_send.new.self c.send.new.self
-whole c active = sent_whole c.self.invariant c.args.own c.in-Some.owing.target (c.link-number.result.sends + 1) c.len-position.result c.in-Some.owing.message (copies_of c.fate-fate.result) active c.in-Some.ensures
+whole c active = sent-whole c.self.invariant c.args.own c.in-Some.owing.target (c.link-number.result.sends + 1) c.len-position.result c.in-Some.owing.message (copies_of c.fate-fate.result) active c.in-Some.ensures
     (ap (λ l. l.sends + 1) c.link-number.ensures) c.len-position.ensures (ap copies_of c.fate-fate.ensures) (written c) c.send.ensures
 
 pub invariant_of-self : goal.invariant_of-self
@@ -61,8 +61,8 @@ invariant_of-self c = whole c (active (goal.at.invariant_of-self c).In-Some)
 pub returns-in-None-clause-sends : goal.returns-in-None-clause-sends
 returns-in-None-clause-sends c =
     let h = c.self.invariant in
-    let a = active_is c.self.inside.encounter c.args.own (subst (λ (s : State). IsActive s.encounter c.args.own) (sym c.self.view_is) c.requires) in
-    (subst (λ (s : State). OwesNothing (air_of s.encounter) s.journal c.args.own) c.self.view_is (owes_nothing h c.args.own (below_all c.self.inside.encounter h.valid c.args.own a) c.in-None.ensures), refl)
+    let a = active-is c.self.inside.encounter c.args.own (subst (λ (s : State). IsActive s.encounter c.args.own) (sym c.self.view_is) c.requires) in
+    (subst (λ (s : State). OwesNothing (air_of s.encounter) s.journal c.args.own) c.self.view_is (owes-nothing h c.args.own (below-all c.self.inside.encounter h.valid c.args.own a) c.in-None.ensures), refl)
 
 pub returns-in-Some-clause-sends : goal.returns-in-Some-clause-sends
 returns-in-Some-clause-sends c =
@@ -73,7 +73,7 @@ returns-in-Some-clause-sends c =
       target = c.in-Some.owing.target;
       number = c.link-number.result.sends + 1;
       word = word_of c.in-Some.owing.message;
-      allowed = may_send h c.args.own c.in-Some.owing.target (c.link-number.result.sends + 1) c.in-Some.owing.message (active (goal.at.returns-in-Some-clause-sends c).In-Some) c.in-Some.ensures (ap (λ l. l.sends + 1) c.link-number.ensures);
+      allowed = may-send h c.args.own c.in-Some.owing.target (c.link-number.result.sends + 1) c.in-Some.owing.message (active (goal.at.returns-in-Some-clause-sends c).In-Some) c.in-Some.ensures (ap (λ l. l.sends + 1) c.link-number.ensures);
       new_is = (written c).entries;
     })
 

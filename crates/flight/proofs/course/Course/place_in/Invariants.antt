@@ -3,6 +3,6 @@ use Rattle.flight.specs.Bounds.{begins}
 use Rattle.flight.specs.Flight.{place_in}
 use Rattle.flight.proofs.course.Course.place_in.Given as goal
 
--- where it is when the next leg begins
+-- Where it is when the next leg begins.
 abbrev pub invariant-loop-index : goal.invariant-loop-index
 invariant-loop-index l = l.place ≡ place_in l.self.start l.self.legs.now (begins l.self.legs.now l.index l.cycle)
