@@ -117,4 +117,4 @@ pub nobody-is-due : (air : Air) (K : List Entry) → AreCommits air K → Nobody
 nobody-is-due air K all own active send copy = ap (λ (o : Option Sent). is_copy_due air K o own send copy) (none-sent air K all send)
 
 pub is-idle : (air : Air) → IsWithoutAdvisories air → (K : List Entry) → AreCommits air K → IsIdle air K
-is-idle air is K all = record { nobody-owes = nobody-owes air is K; nobody-is-due = nobody-is-due air K all }
+is-idle air is K all = record { nobody_owes = nobody-owes air is K; nobody_is_due = nobody-is-due air K all }

@@ -53,7 +53,7 @@ may-send {e} h i j number m active f n =
     record {
       active = active;
       message = m;
-      first-owed = first-owed h i j m hi f;
+      first_owed = first-owed h i j m hi f;
       number_is = n ∙ ap (λ (l : Link). l.sends + 1) (h.kept.link i j hi (omega arith));
       word_is = refl;
     }
@@ -214,7 +214,7 @@ may-commit {e} h i cycle cells active free c next =
       owes_nothing = free.owes_nothing;
       nothing_due = free.nothing_due;
       not_ahead = free.not_ahead;
-      cells-are = cells-are h i cells hi next;
+      cells_are = cells-are h i cells hi next;
     }
 
 pub record CommitFits (e : Parts) (w : Written) (t : Kept) (i : ℕ) : Type 0 where

@@ -217,8 +217,8 @@ allowed-by air sound K (Commit own cycle cells) e f =
       active = active.0;
       cycle_is = sym next;
       in_run = omega arith;
-      owes-nothing = owes-nothing air sound K own owes.0;
-      nothing-due = nothing-due air sound K own due.0;
+      owes_nothing = owes-nothing air sound K own owes.0;
+      nothing_due = nothing-due air sound K own due.0;
       not_ahead = fewest air sound K own due.1;
       cells_are = sym same;
     }
@@ -231,7 +231,7 @@ time-to-commit air sound K own a e = elim (cases_Bool (none_more air K own)) [
       let idle = and_parts (no_message air K air.count) _ (sym (ap (λ b. not b || (no_message air K air.count && (no_copy_to air K air.count && nat_lt (commits K own) air.cycles))) y) ∙ e) in
       let rest = and_parts (no_copy_to air K air.count) _ idle.1 in
       inr (
-        record { nobody-owes = nobody-owing air sound K idle.0; nobody_is_due = λ i b. none-due-to air sound K air.count rest.0 i (sound.counted i b) b },
+        record { nobody_owes = nobody-owing air sound K idle.0; nobody_is_due = λ i b. none-due-to air sound K air.count rest.0 i (sound.counted i b) b },
         ltb-true (commits K own) air.cycles rest.1,
       )
   | inr n ↦
@@ -265,7 +265,7 @@ next-by air sound K (Take own send copy good) e f =
     let sends = and_parts (no_copy_before air K own send) _ others.1 in
     record {
       even = not-uneven air sound K even.0;
-      nobody-owes = nobody-owing air sound K owes.0;
+      nobody_owes = nobody-owing air sound K owes.0;
       allowed = may-take air K own send copy good may.0 f;
       first = λ before h a. none-due-to air sound K own others.0 before h a;
       first_send = λ before h. none-due-before air sound K own send sends.0 before h;

@@ -61,10 +61,10 @@ commit-next air K so own cycle cells n = go n.time
         let below : commits K u.fewer < commits K u.more = u.below in
         let is : cycle ≡ commits K own + 1 = n.cycle_is in
         let ready = so.ready own u.more n.slowest.active u.active_more (omega arith) in
-        record { active = n.slowest.active; cycle_is = is; in_run = omega arith; owes_nothing = ready.0; nothing-due = ready.1; not_ahead = n.slowest.fewest; cells_are = n.cells_are }
+        record { active = n.slowest.active; cycle_is = is; in_run = omega arith; owes_nothing = ready.0; nothing_due = ready.1; not_ahead = n.slowest.fewest; cells_are = n.cells_are }
     go (inr (idle, left)) =
         let is : cycle ≡ commits K own + 1 = n.cycle_is in
-        record { active = n.slowest.active; cycle_is = is; in_run = omega arith; owes_nothing = idle.nobody_owes own; nothing-due = idle.nobody_is_due own n.slowest.active; not_ahead = n.slowest.fewest; cells_are = n.cells_are }
+        record { active = n.slowest.active; cycle_is = is; in_run = omega arith; owes_nothing = idle.nobody_owes own; nothing_due = idle.nobody_is_due own n.slowest.active; not_ahead = n.slowest.fewest; cells_are = n.cells_are }
 
 -- A commit of the serial order leaves those ready that are.
 ready-commit : (air : Air) (K : List Entry) → IsSerialSoFar air K → (own cycle : ℕ) (cells : Cells) → CommitsNext air K own cycle cells → IsReady air (Commit own cycle cells ∷ K)

@@ -41,7 +41,7 @@ returns-in-Some c =
     let n = count (goal.at.returns-in-Some c).After-made-made hi in
     let left : commits c.self.inside.journal.entries c.args.own < c.self.inside.encounter.cycles = omega (arith, c.cycles.ensures.value) in
     subst (λ (s : State). Hinders (air_of s.encounter) s.journal c.args.own (commit.Owed c.in-Some.owing.target)) c.self.view_is
-    (record { left = left; message = c.in-Some.owing.message; first-owed = first-owed h c.args.own c.in-Some.owing.target c.in-Some.owing.message hi c.in-Some.ensures })
+    (record { left = left; message = c.in-Some.owing.message; first_owed = first-owed h c.args.own c.in-Some.owing.target c.in-Some.owing.message hi c.in-Some.ensures })
 
 pub first_due_to-requires-clause-own : goal.first_due_to-requires-clause-own
 first_due_to-requires-clause-own c = own (goal.at.first_due_to-requires-clause-own c).After-self
@@ -57,7 +57,7 @@ returns-in-Some-first_due_to c =
     let left : commits c.self.inside.journal.entries c.args.own < c.self.inside.encounter.cycles = omega (arith, c.cycles.ensures.value) in
     let l = subst (λ (k : ℕ). IsLeast c.self.inside.tables c.args.own c.made-made.result.commits k c.in-Some-first_due_to.found) c.count_of.ensures.value c.in-Some-first_due_to.ensures in
     subst (λ (s : State). Hinders (air_of s.encounter) s.journal c.args.own (commit.Due c.in-Some-first_due_to.found.waiting.send c.in-Some-first_due_to.found.waiting.copy)) c.self.view_is
-    (record { left = left; owes-nothing = owes-nothing h c.args.own hi c.in_default.ensures; first_due = found-first h c.args.own c.made-made.result.commits c.in-Some-first_due_to.found hi n l })
+    (record { left = left; owes_nothing = owes-nothing h c.args.own hi c.in_default.ensures; first_due = found-first h c.args.own c.made-made.result.commits c.in-Some-first_due_to.found hi n l })
 
 pub returns-in-Some-first_behind : goal.returns-in-Some-first_behind
 returns-in-Some-first_behind c =
@@ -68,7 +68,7 @@ returns-in-Some-first_behind c =
     let none = subst (λ (k : ℕ). NoneOf c.self.inside.tables c.args.own c.made-made.result.commits k) c.count_of.ensures.value c.in_default-first_due_to.ensures in
     let b = first-behind-is h c.args.own c.made-made.result.commits c.in-Some-first_behind.behind n c.in-Some-first_behind.ensures in
     subst (λ (s : State). Hinders (air_of s.encounter) s.journal c.args.own (commit.Ahead c.in-Some-first_behind.behind.craft c.in-Some-first_behind.behind.commits)) c.self.view_is
-    (record { left = left; owes-nothing = owes-nothing h c.args.own hi c.in_default.ensures; nothing_due = none-due h c.args.own c.made-made.result.commits hi n none; first_behind = b.0; count-is = b.1 })
+    (record { left = left; owes_nothing = owes-nothing h c.args.own hi c.in_default.ensures; nothing_due = none-due h c.args.own c.made-made.result.commits hi n none; first_behind = b.0; count_is = b.1 })
 
 pub returns : goal.returns
 returns c =
@@ -78,4 +78,4 @@ returns c =
     let left : commits c.self.inside.journal.entries c.args.own < c.self.inside.encounter.cycles = omega (arith, c.cycles.ensures.value) in
     let none = subst (λ (k : ℕ). NoneOf c.self.inside.tables c.args.own c.made-made.result.commits k) c.count_of.ensures.value c.in_default-first_due_to.ensures in
     subst (λ (s : State). IsFree (air_of s.encounter) s.journal c.args.own) c.self.view_is
-    (record { left = left; owes-nothing = owes-nothing h c.args.own hi c.in_default.ensures; nothing_due = none-due h c.args.own c.made-made.result.commits hi n none; not-ahead = not-ahead h c.args.own c.made-made.result.commits n c.in_default-first_behind.ensures })
+    (record { left = left; owes_nothing = owes-nothing h c.args.own hi c.in_default.ensures; nothing_due = none-due h c.args.own c.made-made.result.commits hi n none; not_ahead = not-ahead h c.args.own c.made-made.result.commits n c.in_default-first_behind.ensures })

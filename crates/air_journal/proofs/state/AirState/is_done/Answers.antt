@@ -25,7 +25,7 @@ returns c =
     let n : c.made.result.commits ≡ commits c.self.inside.journal.entries c.args.own = ap (λ m. m.commits) c.made.ensures ∙ count-is h c.args.own hi in
     let all : commits c.self.inside.journal.entries c.args.own ≡ c.self.inside.encounter.cycles = omega (arith, c.cycles.ensures.value) in
     none-tells c.first_owed.result c.is_none.result _ (IsDone (air_of c.args.self.now.encounter) c.args.self.now.journal c.args.own) _ c.is_none.ensures c.first_owed.ensures
-    (λ none. subst (λ (s : State). IsDone (air_of s.encounter) s.journal c.args.own) c.self.view_is (record { all_cycles = all; owes-nothing = owes-nothing h c.args.own hi none }))
+    (λ none. subst (λ (s : State). IsDone (air_of s.encounter) s.journal c.args.own) c.self.view_is (record { all_cycles = all; owes_nothing = owes-nothing h c.args.own hi none }))
     (λ w f d.
     let d2 = subst (λ (s : State). IsDone (air_of s.encounter) s.journal c.args.own) (sym c.self.view_is) d in
     let o = (first-owed h c.args.own w.target w.message hi f).owes in
