@@ -2,4 +2,4 @@ pub mod Rising
 pub mod Apart
 pub mod KeyOrder
 pub mod Finding
-pub mod FateOrder
+pub mod ByKey

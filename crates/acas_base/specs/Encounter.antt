@@ -1,6 +1,7 @@
 -- What an encounter is.
-use Rattle.std.specs.Prelude.{◌≡◌, ◌≢◌, ℕ, ◌<◌, ◌≤◌, ◌==◌, if◌then◌else◌, Bool, true, false, IsTrue, ℤ, pos, neg_ℤ, List, [], All, AllPairs, length, None, IfSome, count_ones}
+use Rattle.std.specs.Prelude.{◌≡◌, ◌≢◌, ℕ, ◌<◌, ◌≤◌, ◌==◌, if◌then◌else◌, Bool, true, false, IsTrue, ℤ, pos, neg_ℤ, List, [], All, AllPairs, length, None, IfSome, count_ones, slice_get}
 use Rattle.std.specs.List.{list_any}
+use Rattle.std.specs.Option.{option_map_or}
 use Rattle.acas_base.specs.Ranges.{IsAddress, IsBetween, IsCycle, IsWithin}
 use Rattle.acas_base.specs.Order.{IsRising, leg_below, miss_below, plan_below, fate_below}
 use Rattle.acas_base.specs.declared.TheConstants.{CRAFTS}
@@ -42,6 +43,10 @@ encounter_of version cycles elevation range altitude crafts legs misses plans fa
   plans = plans;
   fates = fates;
 }
+
+-- The address of the aircraft at an index.
+abbrev pub address_in : List CraftSpec → ℕ → ℕ
+address_in crafts index = option_map_or (λ (craft : CraftSpec). craft.address) (slice_get crafts index) 0
 
 -- Format 1 or format 2.
 abbrev pub IsVersion : ℕ → Type 0

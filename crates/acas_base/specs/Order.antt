@@ -13,12 +13,22 @@ Key = ℕ × ℕ × ℕ
 abbrev pub is_below : Key → Key → Bool
 is_below a b = nat_lt a.0 b.0 || (a.0 == b.0 && (nat_lt a.1 b.1 || (a.1 == b.1 && nat_lt a.2 b.2)))
 
+abbrev pub is_same_key : Key → Key → Bool
+is_same_key a b = a.0 == b.0 && (a.1 == b.1 && a.2 == b.2)
+
+-- The order of records by their keys, and the test for the record with a key.
+abbrev pub below_by : {X : Type 0} → (X → Key) → X → X → Bool
+below_by key_of a b = is_below (key_of a) (key_of b)
+
+abbrev pub has_key : {X : Type 0} → (X → Key) → Key → X → Bool
+has_key key_of wanted it = is_same_key (key_of it) wanted
+
 -- Legs stand by aircraft and first cycle.
 abbrev pub leg_key : Leg → Key
 leg_key leg = (leg.craft, 0, leg.from)
 
 abbrev pub leg_below : Leg → Leg → Bool
-leg_below a b = is_below (leg_key a) (leg_key b)
+leg_below a b = below_by leg_key a b
 
 -- Misses stand by aircraft, target and cycles, and those of one pair have no cycle in common.
 abbrev pub miss_below : Miss → Miss → Bool
@@ -29,14 +39,14 @@ abbrev pub plan_key : LinkPlan → Key
 plan_key plan = (plan.sender, plan.receiver, 0)
 
 abbrev pub plan_below : LinkPlan → LinkPlan → Bool
-plan_below a b = is_below (plan_key a) (plan_key b)
+plan_below a b = below_by plan_key a b
 
 -- Fates stand by sender, receiver and number.
 abbrev pub fate_key : Fate → Key
 fate_key fate = (fate.sender, fate.receiver, fate.number)
 
 abbrev pub fate_below : Fate → Fate → Bool
-fate_below a b = is_below (fate_key a) (fate_key b)
+fate_below a b = below_by fate_key a b
 
 -- Each is below the next.
 abbrev pub IsRising : {X : Type 0} → (X → X → Bool) → List X → Type 0

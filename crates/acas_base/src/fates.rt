@@ -3,18 +3,41 @@ ghost use Rattle.std.specs.Prelude.{◌≡◌, ◌≤◌, false, find, length, t
 ghost use Rattle.std.specs.List.Sorted.{IsPartitionPoint};
 ghost use Rattle.acas_base.specs.Encounter.{no_copy};
 ghost use Rattle.acas_base.specs.Fates.{fate_by, is_fate_of, is_plan_of, plain_fate};
-ghost use Rattle.acas_base.specs.Order.{IsRising, fate_below, fate_key, is_below};
+ghost use Rattle.acas_base.specs.Order.{IsRising, below_by, fate_below, has_key, is_below, plan_below};
 
-use crate::keys::{Key, is_below, key};
+use crate::keys::{Key, Keyed, is_below, is_same, key};
 use crate::{CopyPlan, Fate, LinkPlan};
 
 // How many records stand before a key.
-fn count_below(fates: &[Fate], wanted: Key) -> usize
-    requires { IsRising fate_below fates.now }
-    ensures bound { result ≤ length fates.now }
-    ensures parted { IsPartitionPoint (λ fate. is_below (fate_key fate) wanted ≡ true) (λ fate. is_below (fate_key fate) wanted ≡ false) fates.now result }
+fn count_below<T: Keyed>(records: &[T], wanted: Key) -> usize
+    requires { IsRising (below_by T.key_of) records.now }
+    ensures bound { result ≤ length records.now }
+    ensures parted { IsPartitionPoint (λ it. is_below (T.key_of it) wanted ≡ true) (λ it. is_below (T.key_of it) wanted ≡ false) records.now result }
 {
-    fates.partition_point(|fate| { is_below(key(fate.sender, fate.receiver, fate.number), wanted) })
+    records.partition_point(|record| { is_below(record.key(), wanted) })
+}
+
+fn has_key<T: Keyed>(found: &T, wanted: Key) -> bool
+    ensures { result ≡ has_key T.key_of wanted found.now }
+{
+    is_same(found.key(), wanted)
+}
+
+// The record with a key, among records in their order.
+fn find_by_key<T: Keyed + Copy>(records: &[T], wanted: Key) -> Option<T>
+    requires { IsRising (below_by T.key_of) records.now }
+    ensures { result ≡ find (has_key T.key_of wanted) records.now }
+{
+    let at = count_below(records, wanted);
+    if at == records.len() {
+        return None;
+    }
+    let found = records[at];
+    if has_key(&found, wanted) {
+        Some(found)
+    } else {
+        None
+    }
 }
 
 // The record of a message, among records in their order.
@@ -22,40 +45,15 @@ pub(crate) fn find_fate(fates: &[Fate], sender: u8, receiver: u8, number: u16) -
     requires { IsRising fate_below fates.now }
     ensures { result ≡ find (is_fate_of sender receiver number) fates.now }
 {
-    let at = count_below(fates, key(sender, receiver, number));
-    if at == fates.len() {
-        return None;
-    }
-    let fate = fates[at];
-    if is_fate(&fate, sender, receiver, number) {
-        Some(fate)
-    } else {
-        None
-    }
+    find_by_key(fates, key(sender, receiver, number))
 }
 
-fn is_fate(fate: &Fate, sender: u8, receiver: u8, number: u16) -> bool
-    ensures { result ≡ is_fate_of sender receiver number fate.now }
-{
-    fate.sender == sender && (fate.receiver == receiver && fate.number == number)
-}
-
-fn is_plan(plan: &LinkPlan, sender: u8, receiver: u8) -> bool
-    ensures { result ≡ is_plan_of sender receiver plan.now }
-{
-    plan.sender == sender && plan.receiver == receiver
-}
-
-// The plan of a link.
+// The plan of a link, among plans in their order.
 pub(crate) fn find_plan(plans: &[LinkPlan], sender: u8, receiver: u8) -> Option<LinkPlan>
+    requires { IsRising plan_below plans.now }
     ensures { result ≡ find (is_plan_of sender receiver) plans.now }
 {
-    for plan in plans {
-        if is_plan(plan, sender, receiver) {
-            return Some(*plan);
-        }
-    }
-    None
+    find_by_key(plans, key(sender, receiver, 0))
 }
 
 // A link's plan, as the fate of one of its messages.

@@ -4,7 +4,7 @@ ghost use Rattle.acas_base.specs.Encounter.{AreListed, AreRecords, IsFate, IsLeg
 ghost use Rattle.acas_base.specs.Order.{IsRising, fate_below, leg_below, miss_below, plan_below};
 
 use crate::checks::{are_copies, are_rates, is_cycle, is_pair};
-use crate::keys::{is_below, key};
+use crate::keys::{Keyed, is_below, key};
 use crate::{Fate, Leg, LinkPlan, Miss};
 
 /// A record of one of an encounter's lists: it names aircraft by their indices, and its list has an
@@ -69,10 +69,7 @@ impl Record for Leg {
     }
 
     fn is_below(&self, other: &Leg) -> bool {
-        is_below(
-            key(self.craft, 0, self.from),
-            key(other.craft, 0, other.from),
-        )
+        is_below(self.key(), other.key())
     }
 }
 
@@ -108,10 +105,7 @@ impl Record for LinkPlan {
     }
 
     fn is_below(&self, other: &LinkPlan) -> bool {
-        is_below(
-            key(self.sender, self.receiver, 0),
-            key(other.sender, other.receiver, 0),
-        )
+        is_below(self.key(), other.key())
     }
 }
 
@@ -127,9 +121,6 @@ impl Record for Fate {
     }
 
     fn is_below(&self, other: &Fate) -> bool {
-        is_below(
-            key(self.sender, self.receiver, self.number),
-            key(other.sender, other.receiver, other.number),
-        )
+        is_below(self.key(), other.key())
     }
 }

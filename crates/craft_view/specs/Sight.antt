@@ -1,7 +1,7 @@
 -- What an aircraft may know of the air up to a cycle.
 use Rattle.std.specs.Prelude.{ℕ, zero, suc, ◌==◌, if◌then◌else◌, ℤ, List, [], ◌∷◌, Option, None, option_map, slice_get}
-use Rattle.std.specs.Option.{option_and_then, option_map_or}
-use Rattle.acas_base.specs.Encounter.{Parts}
+use Rattle.std.specs.Option.{option_and_then}
+use Rattle.acas_base.specs.Encounter.{Parts, address_in}
 use Rattle.acas_base.specs.Next.{rank_by}
 use Rattle.acas_base.specs.declared.advisory.Rank.{Rank}
 use Rattle.acas_base.specs.declared.craft.CraftSpec.{CraftSpec}
@@ -38,7 +38,7 @@ other_craft e own index = if index == own then None else slice_get e.crafts inde
 
 -- The address of the aircraft at an index; 0 past the last aircraft.
 abbrev pub address_of : Parts → ℕ → ℕ
-address_of e index = option_map_or (λ (craft : CraftSpec). craft.address) (slice_get e.crafts index) 0
+address_of e index = address_in e.crafts index
 
 -- The rank that an own aircraft has towards the one at an index, where that is another one.
 abbrev pub rank_of : Parts → ℕ → ℕ → Option Rank

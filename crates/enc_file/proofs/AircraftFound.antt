@@ -3,11 +3,10 @@ use Rattle.std.proofs.Common.{◌≡◌, ℕ, zero, suc, ◌<◌, ◌==◌, true
 use Rattle.std.specs.List.{AllByRecursion, position_or_len}
 use Rattle.std.specs.Option.{option_map_or}
 use Rattle.std.proofs.lemmas.Bool.Decides.{nat_tests}
-use Rattle.acas_base.specs.Encounter.{AreApart, IsCraft, IsPair}
+use Rattle.acas_base.specs.Encounter.{AreApart, IsCraft, IsPair, address_in}
 use Rattle.acas_base.specs.Ranges.{IsAddress}
 use Rattle.acas_base.specs.declared.craft.CraftSpec.{CraftSpec}
 use Rattle.enc_file.specs.Earlier.{for_pair, index_of}
-use Rattle.enc_file.specs.Spelling.{address_of}
 use Rattle.enc_file.specs.declared.record.Addresses.{Addresses}
 use Rattle.enc_file.proofs.Pairwise.{Pairs, pairs-before, pairs-from-places, all-here}
 
@@ -62,18 +61,18 @@ place-of (x ∷ xs) (suc i) h =
     let p = place-of xs i (omega arith) in
     record { done = x ∷ p.done; here = p.here; rest = p.rest; whole = ap (λ ys. x ∷ ys) p.whole; many = ap suc p.many }
 
-address-there : (crafts : List CraftSpec) (i : ℕ) (p : Place crafts i) → address_of crafts i ≡ p.here.address
+address-there : (crafts : List CraftSpec) (i : ℕ) (p : Place crafts i) → address_in crafts i ≡ p.here.address
 address-there crafts i p =
-    ap (λ cs. address_of cs i) (sym p.whole) ∙ ap (address_of (p.done ++ p.here ∷ p.rest)) (sym p.many)
+    ap (λ cs. address_in cs i) (sym p.whole) ∙ ap (address_in (p.done ++ p.here ∷ p.rest)) (sym p.many)
     ∙ ap (λ (o : Option CraftSpec). option_map_or (λ (craft : CraftSpec). craft.address) o 0) (get-here p.done p.here p.rest)
 
-pub index-found : (crafts : List CraftSpec) (i : ℕ) → Pairs Differ crafts → i < length crafts → index_of crafts (address_of crafts i) ≡ Some i
+pub index-found : (crafts : List CraftSpec) (i : ℕ) → Pairs Differ crafts → i < length crafts → index_of crafts (address_in crafts i) ≡ Some i
 index-found crafts i apart h =
     let p = place-of crafts i h in
     let found = index-here p.done p.here p.rest p.here.address (pairs-before Differ crafts p.done p.here p.rest p.whole apart) refl in
     ap (index_of crafts) (address-there crafts i p) ∙ ap (λ cs. index_of cs p.here.address) (sym p.whole) ∙ found ∙ ap Some p.many
 
-pub address-within : (crafts : List CraftSpec) (i : ℕ) → AllByRecursion IsCraft crafts → i < length crafts → IsAddress (address_of crafts i)
+pub address-within : (crafts : List CraftSpec) (i : ℕ) → AllByRecursion IsCraft crafts → i < length crafts → IsAddress (address_in crafts i)
 address-within crafts i all h =
     let p = place-of crafts i h in
     subst IsAddress (sym (address-there crafts i p)) (all-here IsCraft crafts p.done p.here p.rest p.whole all).address
@@ -84,12 +83,12 @@ pub record ArePair (crafts : List CraftSpec) (pair : Addresses) (a b : ℕ) : Ty
   pub first : index_of crafts pair.first ≡ Some a
   pub second : index_of crafts pair.second ≡ Some b
 
-pub pair-found : (crafts : List CraftSpec) (a b : ℕ) → Pairs Differ crafts → IsPair (length crafts) a b → ArePair crafts (record { first = address_of crafts a; second = address_of crafts b }) a b
+pub pair-found : (crafts : List CraftSpec) (a b : ℕ) → Pairs Differ crafts → IsPair (length crafts) a b → ArePair crafts (record { first = address_in crafts a; second = address_in crafts b }) a b
 pair-found crafts a b apart h =
     let one = index-found crafts a apart h.first in
     let two = index-found crafts b apart h.second in
-    let same = λ (e : address_of crafts a ≡ address_of crafts b). ap (index_of crafts) e in
-    record { apart = ne_eqb (address_of crafts a) (address_of crafts b) (λ e. h.apart (cc (one, two, same e))); first = one; second = two }
+    let same = λ (e : address_in crafts a ≡ address_in crafts b). ap (index_of crafts) e in
+    record { apart = ne_eqb (address_in crafts a) (address_in crafts b) (λ e. h.apart (cc (one, two, same e))); first = one; second = two }
 
 pub pair-gives : {X : Type 0} (crafts : List CraftSpec) (pair : Addresses) (a b : ℕ) (f : ℕ → ℕ → X) → ArePair crafts pair a b → for_pair crafts pair f ≡ Some (f a b)
 pair-gives crafts pair a b f h = rw (h.apart, h.first, h.second) refl

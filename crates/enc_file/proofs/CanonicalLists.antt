@@ -2,7 +2,7 @@
 use Rattle.std.proofs.Common.{◌≡◌, ℕ, ◌*◌, ◌<◌, ◌≤◌, true, List, [], ◌∷◌, ◌++◌, length, map, ap, ◌∙◌, arith}
 use Rattle.std.proofs.lemmas.Bool.Decides.{nat_tests}
 use Rattle.std.proofs.lemmas.List.Elements.{recursion_from_All}
-use Rattle.acas_base.specs.Encounter.{IsEncounter, IsFate, IsLeg, IsMiss, IsPlan, Parts, most_crafts}
+use Rattle.acas_base.specs.Encounter.{IsEncounter, IsFate, IsLeg, IsMiss, IsPlan, Parts, most_crafts, address_in}
 use Rattle.acas_base.specs.Order.{fate_below, leg_below, miss_below, plan_below}
 use Rattle.acas_base.specs.Ranges.{IsAddress}
 use Rattle.acas_base.specs.declared.TheConstants.{CRAFTS}
@@ -12,7 +12,7 @@ use Rattle.acas_base.specs.declared.link.Fate.{Fate}
 use Rattle.acas_base.specs.declared.link.LinkPlan.{LinkPlan}
 use Rattle.enc_file.specs.Earlier.{fate_group, leg_group, miss_group, plan_group}
 use Rattle.enc_file.specs.Saying.{record_of}
-use Rattle.enc_file.specs.Spelling.{address_of, fate_record, leg_record, miss_record, plan_record}
+use Rattle.enc_file.specs.Spelling.{fate_record, leg_record, miss_record, plan_record}
 use Rattle.enc_file.specs.declared.record.Addresses.{Addresses}
 use Rattle.enc_file.specs.declared.record.Record.TheVariants as said
 use Rattle.enc_file.proofs.AircraftFound.{address-within, index-found, pair-found}
@@ -43,12 +43,12 @@ plans-own e h = in-order IsPlan plan_group (CRAFTS * CRAFTS) plan_below (length 
 pub fates-own : (e : Parts) → IsEncounter e → IsInOrder fate_group (CRAFTS * CRAFTS) fate_below e.fates
 fates-own e h = in-order IsFate fate_group (CRAFTS * CRAFTS) fate_below (length e.crafts) (fate-order (length e.crafts) (few-crafts e h)) e.fates h.records.fates
 
-address-in : (e : Parts) → IsEncounter e → (i : ℕ) → i < length e.crafts → IsAddress (address_of e.crafts i)
+address-in : (e : Parts) → IsEncounter e → (i : ℕ) → i < length e.crafts → IsAddress (address_in e.crafts i)
 address-in e h i within = address-within e.crafts i (all-crafts e h) within
 
 -- The addresses of two aircraft.
 abbrev pair-of : Parts → ℕ → ℕ → Addresses
-pair-of e a b = record { first = address_of e.crafts a; second = address_of e.crafts b }
+pair-of e a b = record { first = address_in e.crafts a; second = address_in e.crafts b }
 
 pub goes-legs : (e : Parts) → IsEncounter e → Goes (map (leg_record e.crafts) e.legs) (with-lists e [] [] [] []) (with-lists e e.legs [] [] [])
 goes-legs e h = goes-map (leg_record e.crafts) e.legs (λ done _. with-lists e done [] [] []) step where
@@ -57,8 +57,8 @@ goes-legs e h = goes-map (leg_record e.crafts) e.legs (λ done _. with-lists e d
       let is = all-here (IsLeg (length e.crafts)) e.legs done x rest w (recursion_from_All (IsLeg (length e.crafts)) e.legs h.records.legs.0) in
       let later = pairs-before (λ a b. leg_below a b ≡ true) e.legs done x rest w (legs-own e h).later in
       let found = index-found e.crafts x.craft (all-differ e h) is.craft in
-      goes-one (leg_record e.crafts x) (said.Leg (address_of e.crafts x.craft) (course-of x)) (with-lists e done [] [] []) (with-lists e (done ++ x ∷ []) [] [] [])
-      (leg-said e.version (address_of e.crafts x.craft) x (address-in e h x.craft is.craft) is.from is.rates) (leg-follows (with-lists e done [] [] []) (address_of e.crafts x.craft) x found later)
+      goes-one (leg_record e.crafts x) (said.Leg (address_in e.crafts x.craft) (course-of x)) (with-lists e done [] [] []) (with-lists e (done ++ x ∷ []) [] [] [])
+      (leg-said e.version (address_in e.crafts x.craft) x (address-in e h x.craft is.craft) is.from is.rates) (leg-follows (with-lists e done [] [] []) (address_in e.crafts x.craft) x found later)
 
 pub goes-misses : (e : Parts) → IsEncounter e → Goes (map (miss_record e.crafts) e.misses) (with-lists e e.legs [] [] []) (with-lists e e.legs e.misses [] [])
 goes-misses e h = goes-map (miss_record e.crafts) e.misses (λ done _. with-lists e e.legs done [] []) step where
@@ -68,7 +68,7 @@ goes-misses e h = goes-map (miss_record e.crafts) e.misses (λ done _. with-list
       let later = pairs-before (λ a b. miss_below a b ≡ true) e.misses done x rest w (misses-own e h).later in
       let found = pair-found e.crafts x.own x.target (all-differ e h) is.pair in
       goes-one (miss_record e.crafts x) (said.Miss (pair-of e x.own x.target) x.from x.to) (with-lists e e.legs done [] []) (with-lists e e.legs (done ++ x ∷ []) [] [])
-      (miss-said e.version (address_of e.crafts x.own) (address_of e.crafts x.target) x.from x.to (address-in e h x.own is.pair.first) (address-in e h x.target is.pair.second) is.from is.to is.order)
+      (miss-said e.version (address_in e.crafts x.own) (address_in e.crafts x.target) x.from x.to (address-in e h x.own is.pair.first) (address-in e h x.target is.pair.second) is.from is.to is.order)
       (miss-follows (with-lists e e.legs done [] []) (pair-of e x.own x.target) x found later)
 
 -- Where there is a plan, the format is the second.
@@ -86,7 +86,7 @@ goes-plans e h = goes-map (plan_record e.crafts) e.plans (λ done _. with-lists 
       let is = all-here (IsPlan (length e.crafts)) e.plans done x rest w (recursion_from_All (IsPlan (length e.crafts)) e.plans h.records.plans.0) in
       let later = pairs-before (λ a b. plan_below a b ≡ true) e.plans done x rest w (plans-own e h).later in
       let found = pair-found e.crafts x.sender x.receiver (all-differ e h) is.pair in
-      let says = plan-said (address_of e.crafts x.sender) (address_of e.crafts x.receiver) x (address-in e h x.sender is.pair.first) (address-in e h x.receiver is.pair.second) is.copies in
+      let says = plan-said (address_in e.crafts x.sender) (address_in e.crafts x.receiver) x (address-in e h x.sender is.pair.first) (address-in e h x.receiver is.pair.second) is.copies in
       goes-one (plan_record e.crafts x) (said.Plan (pair-of e x.sender x.receiver) (plan-copies x)) (with-lists e e.legs e.misses done []) (with-lists e e.legs e.misses (done ++ x ∷ []) [])
       (ap (λ version. record_of version (plan_record e.crafts x)) (plan-format e h done x rest w) ∙ says)
       (plan-follows (with-lists e e.legs e.misses done []) (pair-of e x.sender x.receiver) x found later is.copies)
@@ -100,5 +100,5 @@ goes-fates e h = goes-map (fate_record e.crafts) e.fates (λ done _. with-lists 
       let later = pairs-before (λ a b. fate_below a b ≡ true) e.fates done x rest w (fates-own e h).later in
       let found = pair-found e.crafts x.sender x.receiver (all-differ e h) is.pair in
       goes-one (fate_record e.crafts x) (said.Fate (pair-of e x.sender x.receiver) x.number (fate-copies x)) (with-lists e e.legs e.misses e.plans done) (with-lists e e.legs e.misses e.plans (done ++ x ∷ []))
-      (fate-said e.version (address_of e.crafts x.sender) (address_of e.crafts x.receiver) x (address-in e h x.sender is.pair.first) (address-in e h x.receiver is.pair.second) is.number is.copies)
+      (fate-said e.version (address_in e.crafts x.sender) (address_in e.crafts x.receiver) x (address-in e h x.sender is.pair.first) (address-in e h x.receiver is.pair.second) is.number is.copies)
       (fate-follows (with-lists e e.legs e.misses e.plans done) (pair-of e x.sender x.receiver) x found later is.copies)

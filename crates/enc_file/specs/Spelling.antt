@@ -1,8 +1,8 @@
 -- The records of an encounter's canonical text, each as its fields.
-use Rattle.std.specs.Prelude.{ℕ, ℤ, pos, List, [], ◌∷◌, ◌++◌, take, slice_get, codes, Option, Some, None}
+use Rattle.std.specs.Prelude.{ℕ, ℤ, pos, List, [], ◌∷◌, ◌++◌, take, codes, Option, Some, None}
 use Rattle.std.specs.Fmt.{signed_decimal}
 use Rattle.std.specs.List.{flat_map, join_with_byte}
-use Rattle.std.specs.Option.{option_map_or}
+use Rattle.acas_base.specs.Encounter.{address_in}
 use Rattle.acas_base.specs.declared.craft.CraftSpec.{CraftSpec}
 use Rattle.acas_base.specs.declared.craft.Gains.{Gains}
 use Rattle.acas_base.specs.declared.craft.Kind.{Kind}
@@ -27,13 +27,9 @@ kind_text Ra = codes "RA"
 kind_text Ta = codes "TA"
 kind_text Xpdr = codes "XPDR"
 
--- The address of the aircraft with an index, and 0 where there is none. In an encounter each index that a record has is
--- that of an aircraft.
-abbrev pub address_of : List CraftSpec → ℕ → ℕ
-address_of crafts i = option_map_or (λ (craft : CraftSpec). craft.address) (slice_get crafts i) 0
-
+-- In an encounter each index that a record has is that of an aircraft.
 abbrev pub address_at : List CraftSpec → ℕ → List ℕ
-address_at crafts i = address (address_of crafts i)
+address_at crafts i = address (address_in crafts i)
 
 -- The first record: the version of the format.
 abbrev pub header_record : ℕ → List (List ℕ)
@@ -65,7 +61,7 @@ abbrev pub leg_fields : ℕ → Leg → List (List ℕ)
 leg_fields n leg = codes "leg" ∷ address n ∷ number leg.from ∷ signed_decimal leg.vx ∷ signed_decimal leg.vy ∷ signed_decimal leg.vz ∷ []
 
 abbrev pub leg_record : List CraftSpec → Leg → List (List ℕ)
-leg_record crafts leg = leg_fields (address_of crafts leg.craft) leg
+leg_record crafts leg = leg_fields (address_in crafts leg.craft) leg
 
 abbrev pub miss_record : List CraftSpec → Miss → List (List ℕ)
 miss_record crafts miss = codes "miss" ∷ address_at crafts miss.own ∷ address_at crafts miss.target ∷ number miss.from ∷ number miss.to ∷ []

@@ -3,7 +3,8 @@ ghost use Rattle.std.specs.Prelude.{◌≡◌, ◌+◌, ◌<◌, ◌≤◌, ◌^
 ghost use Rattle.std.specs.Fmt.{signed_decimal};
 ghost use Rattle.std.specs.List.{flat_map};
 ghost use Rattle.acas_text.specs.Hex.{hex};
-ghost use Rattle.enc_file.specs.Spelling.{address, address_of, copies_fields, copy_fields, craft_record, climb_record, end_record, fate_record, gains_record, header_record, kind_text, leg_record, line_of, miss_record, number, plan_record, run_record};
+ghost use Rattle.acas_base.specs.Encounter.{address_in};
+ghost use Rattle.enc_file.specs.Spelling.{address, copies_fields, copy_fields, craft_record, climb_record, end_record, fate_record, gains_record, header_record, kind_text, leg_record, line_of, miss_record, number, plan_record, run_record};
 
 use acas_base::{CopyPlan, CraftSpec, Encounter, Fate, Gains, Kind, Leg, LinkPlan, Miss};
 use acas_text::{ADDRESS_BYTES, I32_BYTES, LINE_BYTES, Line, U16_BYTES};
@@ -49,7 +50,7 @@ fn add_mask(line: &mut Line, mask: u8)
 
 // The number of an aircraft's address. In an encounter every index is that of an aircraft.
 fn address_in(crafts: &[CraftSpec], index: u8) -> u32
-    ensures value { result ≡ address_of crafts.now index }
+    ensures value { result ≡ address_in crafts.now index }
     ensures fits { result < 2 ^ 24 }
 {
     match crafts.get(usize::from(index)) {
