@@ -1,5 +1,6 @@
 -- The state after one entry more.
 use Rattle.std.proofs.Common.{◌≡◌, ◌≢◌, ◌⊎◌, ℕ, ◌+◌, ◌*◌, ◌<◌, ◌≤◌, Bool, true, ◌&&◌, eqb, List, [], ◌∷◌, length, Option, Some, None, is_some, sym, refl, ap, ◌∙◌, subst, arith, inl, inr, eq-eqb, ne_eqb, le-leb}
+use Rattle.std.specs.Prelude.{option_and_then}
 use Rattle.std.proofs.lemmas.Bool.{and_from, and_left, and_right, cond-false, cond-true, cases_eq}
 use Rattle.std.proofs.lemmas.Option.{slice_get_within}
 use Rattle.acas_base.specs.Encounter.{Parts}
@@ -20,22 +21,23 @@ use Rattle.air_journal.specs.Airs.{air_of}
 use Rattle.air_journal.specs.Calls.{IsFree}
 use Rattle.air_journal.specs.Cells.{commit_cells}
 use Rattle.air_journal.specs.Found.{AreNext, IsFirstOwedBy, WaitsAt}
-use Rattle.air_journal.specs.Kept.{AfterCommit, AfterSend, AfterTake, IsKept, Kept, copies_from, link_at, made_at, queue_at, waiting}
+use Rattle.air_journal.specs.Kept.{AfterCommit, AfterSend, AfterTake, IsKept, Kept, copies_from, link_at, made_at, queue_at, read_as, vrc_of, waiting}
 use Rattle.air_journal.specs.Queues.{IsWaiting}
 use Rattle.air_journal.specs.States.{IsWhole}
 use Rattle.air_journal.specs.Written.{Written}
 use Rattle.air_journal.specs.declared.due.Found.{Found}
 use Rattle.air_journal.specs.declared.kept.Link.{Link}
+use Rattle.air_journal.specs.declared.kept.Waiting.{Waiting}
 use Rattle.air_rules.proofs.FewSends.{sends-few}
 use Rattle.air_rules.proofs.Legal.{allowed, earlier}
 use Rattle.air_rules.proofs.Pace.{count-no, count-yes}
 use Rattle.air_rules.proofs.Running.{owed-own}
 use Rattle.air_rules.specs.Air.{Air, is_active}
-use Rattle.air_rules.specs.Journal.{commits, is_commit_of, is_send_of, sends, sent_at}
+use Rattle.air_rules.specs.Journal.{Sent, commits, is_commit_of, is_send_of, sends, sent_at}
 use Rattle.air_rules.specs.Length.{most_entries}
 use Rattle.air_rules.specs.Rules.{IsLegal, MayCommit, MaySend, MayTake, extended}
 use Rattle.air_rules.specs.Takes.{complement_read, read_copy}
-use Rattle.res_message.specs.Words.{word_of}
+use Rattle.res_message.specs.Words.{flip_word, read_word, word_of}
 
 -- An entry was written, and the memory stays.
 pub record WritesOn (old new : Written) (entry : Entry) : Type 0 where
@@ -91,9 +93,15 @@ send-fits {e} {w} {t} h i j m active f =
     let n : (made_at t j).commits ≡ commits K j = count-is h j hj in
     record { own = hi; target = hj; position = omega arith; room = omega arith; sends = omega arith; commits = omega arith; copies = omega arith }
 
+-- A message that is owed is read as it was sent, where it isn't spoilt.
+pub reads-back : {e : Parts} {w : Written} {t : Kept} → IsWhole e w t → (i j : ℕ) (m : ResMsg) → is_active (air_of e) i ≡ true → IsFirstOwedBy (air_of e) t i j m → vrc_of (read_word (word_of m)) ≡ Some m.vrc
+reads-back {e} {w} {t} h i j m active f =
+    let owes = (first-owed h i j m (below-all e h.valid i active) f).owes in
+    ap vrc_of ((sound-of e h.valid).reads i m (owed-own (air_of e) w.entries i j m owes))
+
 pub sent-whole : {e : Parts} {w v : Written} {t u : Kept} → IsWhole e w t → (i j number position : ℕ) (m : ResMsg) (plans : List CopyPlan) → is_active (air_of e) i ≡ true → IsFirstOwedBy (air_of e) t i j m →
     number ≡ (link_at t i j).sends + 1 → position ≡ length w.entries → plans ≡ (air_of e).copies i j number →
-    WritesOn w v (Send i j number (word_of m)) → AfterSend t u i j m.vrc (copies_from position (made_at t j).commits 0 plans) → IsWhole e v u
+    WritesOn w v (Send i j number (word_of m)) → AfterSend t u i j m.vrc (copies_from (read_as flip_word read_word (word_of m)) position (made_at t j).commits 0 plans) → IsWhole e v u
 sent-whole {e} {w} {v} {t} {u} h i j number position m plans active f n p q written after =
     let fit = send-fits h i j m active f in
     let owes = (first-owed h i j m fit.own f).owes in
@@ -113,13 +121,24 @@ sent-whole {e} {w} {v} {t} {u} h i j number position m plans active f n p q writ
 pub wait : {e : Parts} {w : Written} {t : Kept} → IsWhole e w t → (i : ℕ) (f : Found) → WaitsAt (air_of e) w.entries i f → IsWaiting (air_of e) w.entries f.sender i f.waiting
 wait {e} {w} h i f a = (is-queue (air_of e) (sound-of e h.valid) w.entries h.legal f.sender i).holds f.waiting (in-at (waiting (air_of e) w.entries f.sender i) f.place f.waiting a.here)
 
-pub may-take : {e : Parts} {w : Written} {t : Kept} → IsWhole e w t → (i : ℕ) (f : Found) (o : Option ResMsg) → is_active (air_of e) i ≡ true → WaitsAt (air_of e) w.entries i f → o ≡ read_copy (air_of e) (sent_at w.entries f.waiting.send) f.waiting.copy →
-    MayTake (air_of e) w.entries i f.waiting.send f.waiting.copy (is_some o)
-may-take {e} {w} h i f o active a r = record {
-  active = active;
-  due = waits-due (air_of e) w.entries f.sender i f.waiting (wait h i f a) ∙ le-leb _ _ a.in_time;
-  good_is = ap is_some r;
-}
+-- What is kept of a copy is what its taker reads.
+reads-is : (air : Air) (K : List Entry) (j i : ℕ) (w : Waiting) → IsWaiting air K j i w → w.reads ≡ vrc_of (read_copy air (sent_at K w.send) w.copy)
+reads-is air K j i w h =
+    h.reads_is ∙ ap (λ (o : Option CopyPlan). vrc_of (option_and_then (λ (plan : CopyPlan). air.read (air.flip h.sent.word plan.mask)) o)) (sym h.planned)
+    ∙ ap (λ (o : Option Sent). vrc_of (read_copy air o w.copy)) (sym h.from.here)
+
+some-vrc : (o : Option ResMsg) → is_some (vrc_of o) ≡ is_some o
+some-vrc None = refl
+some-vrc (Some m) = refl
+
+pub may-take : {e : Parts} {w : Written} {t : Kept} → IsWhole e w t → (i : ℕ) (f : Found) → is_active (air_of e) i ≡ true → WaitsAt (air_of e) w.entries i f → MayTake (air_of e) w.entries i f.waiting.send f.waiting.copy (is_some f.waiting.reads)
+may-take {e} {w} h i f active a =
+    let it = wait h i f a in
+    record {
+      active = active;
+      due = waits-due (air_of e) w.entries f.sender i f.waiting it ∙ le-leb _ _ a.in_time;
+      good_is = ap is_some (reads-is (air_of e) w.entries f.sender i f.waiting it) ∙ some-vrc _;
+    }
 
 pub record TakeFits (e : Parts) (w : Written) (t : Kept) (i : ℕ) (f : Found) : Type 0 where
   pub own : i < CRAFTS
@@ -131,8 +150,7 @@ pub record TakeFits (e : Parts) (w : Written) (t : Kept) (i : ℕ) (f : Found) :
 pub take-fits : {e : Parts} {w : Written} {t : Kept} → IsWhole e w t → (i : ℕ) (f : Found) → is_active (air_of e) i ≡ true → WaitsAt (air_of e) w.entries i f → TakeFits e w t i f
 take-fits {e} {w} {t} h i f active a =
     let K = w.entries in
-    let o = read_copy (air_of e) (sent_at K f.waiting.send) f.waiting.copy in
-    let x : length K + 1 ≤ most_entries (air_of e) = entry-fits e K (Take i f.waiting.send f.waiting.copy (is_some o)) h.valid h.legal (may-take h i f o active a refl) in
+    let x : length K + 1 ≤ most_entries (air_of e) = entry-fits e K (Take i f.waiting.send f.waiting.copy (is_some f.waiting.reads)) h.valid h.legal (may-take h i f active a) in
     let most = most-few e h.valid in
     let room = h.room in
     let hi : i < CRAFTS = below-all e h.valid i active in
@@ -143,18 +161,23 @@ take-fits {e} {w} {t} h i f active a =
     let g : length (queue_at t f.sender i) ≡ length (waiting (air_of e) K f.sender i) = ap length (h.kept.queue f.sender i hj hi) in
     record { own = hi; sender = hj; position = omega arith; room = omega arith; place = omega arith }
 
-pub taken-whole : {e : Parts} {w v : Written} {t u : Kept} → IsWhole e w t → (i : ℕ) (f : Found) (o : Option ResMsg) → is_active (air_of e) i ≡ true → WaitsAt (air_of e) w.entries i f → o ≡ read_copy (air_of e) (sent_at w.entries f.waiting.send) f.waiting.copy →
-    WritesOn w v (Take i f.waiting.send f.waiting.copy (is_some o)) → AfterTake t u i f.sender f.place o → IsWhole e v u
-taken-whole {e} {w} {v} {t} {u} h i f o active a r written after =
+pub taken-whole : {e : Parts} {w v : Written} {t u : Kept} → IsWhole e w t → (i : ℕ) (f : Found) → is_active (air_of e) i ≡ true → WaitsAt (air_of e) w.entries i f →
+    WritesOn w v (Take i f.waiting.send f.waiting.copy (is_some f.waiting.reads)) → AfterTake t u i f.sender f.place f.waiting.reads → IsWhole e v u
+taken-whole {e} {w} {v} {t} {u} h i f active a written after =
     let fit = take-fits h i f active a in
     let it = wait h i f a in
+    let m = read_copy (air_of e) (sent_at w.entries f.waiting.send) f.waiting.copy in
+    let r : f.waiting.reads ≡ vrc_of m = reads-is (air_of e) w.entries f.sender i f.waiting it in
+    let kept : IsKept (air_of e) (Take i f.waiting.send f.waiting.copy (is_some m) ∷ w.entries) u =
+    kept-take (air_of e) w.entries t u h.kept i f.waiting.send f.waiting.copy f.sender f.place m it.sent fit.own fit.sender refl it.from.here it.from.sender
+    (remove-is (waiting (air_of e) w.entries f.sender i) f.place f.waiting (is-queue (air_of e) (sound-of e h.valid) w.entries h.legal f.sender i).ordered a.here)
+    (subst (AfterTake t u i f.sender f.place) r after) in
     record {
       valid = h.valid;
       inside = h.inside;
-      legal = subst (IsLegal (air_of e)) (sym written.entries) (extended h.legal (may-take h i f o active a r));
+      legal = subst (IsLegal (air_of e)) (sym written.entries) (extended h.legal (may-take h i f active a));
       kept = subst (λ (J : List Entry). IsKept (air_of e) J u) (sym written.entries)
-          (kept-take (air_of e) w.entries t u h.kept i f.waiting.send f.waiting.copy f.sender f.place o it.sent fit.own fit.sender r it.from.here it.from.sender
-          (remove-is (waiting (air_of e) w.entries f.sender i) f.place f.waiting (is-queue (air_of e) (sound-of e h.valid) w.entries h.legal f.sender i).ordered a.here) after);
+          (subst (λ (g : Bool). IsKept (air_of e) (Take i f.waiting.send f.waiting.copy g ∷ w.entries) u) (sym (ap is_some r ∙ some-vrc m)) kept);
       room = subst (λ (k : ℕ). most_entries (air_of e) ≤ k) (sym written.room) h.room;
       places = written.places ∙ h.places;
     }

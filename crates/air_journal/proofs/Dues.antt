@@ -2,12 +2,13 @@
 use Rattle.std.proofs.Common.{◌≡◌, ℕ, suc, zero, ◌+◌, ◌-◌, ◌*◌, ◌<◌, ◌≤◌, Bool, true, false, not, ◌&&◌, eqb, leb, List, [], ◌∷◌, ◌++◌, length, take, Option, Some, None, slice_get, sym, refl, ap, ◌∙◌, subst, arith, inl, inr, eqb-true, eq-eqb, ne_eqb, le-leb, zero-le, length-append}
 use Rattle.std.specs.List.{remove}
 use Rattle.std.proofs.lemmas.Bool.{cond-false, cond-true, cond_both, and_parts, and_from, and_left, and_right, cases_Bool, cases_lt, not-true, not_from_false, leb-true, lt-leb, false_from_ne_true}
+use Rattle.acas_base.specs.declared.advisory.Vrc.{Vrc}
 use Rattle.acas_base.specs.declared.entry.Entry.{Entry}
 use Rattle.acas_base.specs.declared.entry.Entry.TheVariants.{Commit, Send, Take}
 use Rattle.acas_base.specs.declared.link.CopyPlan.{CopyPlan}
 use Rattle.air_journal.proofs.Queued.{is-queue}
 use Rattle.air_journal.specs.Calls.{IsFirstDue}
-use Rattle.air_journal.specs.Kept.{copies_from, is_copy, waiting, without}
+use Rattle.air_journal.specs.Kept.{copies_from, is_copy, read_as, waiting, without}
 use Rattle.air_journal.specs.Queues.{AreOrdered, IsBefore, IsFirstDueAt, IsIn, IsQueue, IsWaiting, NoneDue}
 use Rattle.air_journal.specs.declared.kept.Waiting.{Waiting}
 use Rattle.air_rules.proofs.Pace.{active-ra, count-no, count-yes, later-more, later-none, send-shows}
@@ -62,8 +63,8 @@ due-waits air sound K l i p c d = go (sent_at K p) refl d
         record {
           sender = S.sender;
           below = sound.counted S.sender (active-ra air S.sender (send-shows air K l p S.sender i S from).sender_ra);
-          it = record { send = p; copy = c; due = commits K i + plan.hold - commits (entries_after K p) i };
-          waits = record { sent = S; from = from; plan = plan; planned = f; due_is = (let x = few in omega arith); untaken = t };
+          it = record { send = p; copy = c; due = commits K i + plan.hold - commits (entries_after K p) i; reads = read_as air.flip air.read S.word plan };
+          waits = record { sent = S; from = from; plan = plan; planned = f; reads_is = refl; due_is = (let x = few in omega arith); untaken = t };
           send_is = refl;
           copy_is = refl;
           due = omega arith;
@@ -165,9 +166,9 @@ without-few : (p c : ℕ) (xs : List Waiting) → length (without p c xs) ≤ le
 without-few p c [] = zero-le
 without-few p c (x ∷ xs) = let ih = without-few p c xs in cond_both (is_copy p c x) (without p c xs) (x ∷ without p c xs) (λ L. length L ≤ suc (length xs)) (λ _. omega arith) (λ _. omega arith)
 
-length-copies : (at made c : ℕ) (plans : List CopyPlan) → length (copies_from at made c plans) ≡ length plans
-length-copies at made c [] = refl
-length-copies at made c (plan ∷ plans) = ap suc (length-copies at made (c + 1) plans)
+length-copies : (reads : CopyPlan → Option Vrc) (at made c : ℕ) (plans : List CopyPlan) → length (copies_from reads at made c plans) ≡ length plans
+length-copies reads at made c [] = refl
+length-copies reads at made c (plan ∷ plans) = ap suc (length-copies reads at made (c + 1) plans)
 
 pub waiting-few : (air : Air) → IsSound air → (K : List Entry) (j i : ℕ) → length (waiting air K j i) ≤ 3 * sends K j i
 waiting-few air sound [] j i = zero-le
@@ -177,12 +178,12 @@ waiting-few air sound (Send own target number word ∷ K) j i =
     let f : length (air.copies j i number) ≤ 3 = sound.few j i number in
     elim (cases_Bool (eqb own j && eqb target i)) [
       | inl y ↦ (let s : sends (Send own target number word ∷ K) j i ≡ sends K j i + 1 = count-yes (is_send_of j i) (Send own target number word) K y in
-          let n : length (copies_from (length K) (commits K i) 0 (air.copies j i number)) ≡ length (air.copies j i number) = length-copies (length K) (commits K i) 0 (air.copies j i number) in
-          let a : length (waiting air K j i ++ copies_from (length K) (commits K i) 0 (air.copies j i number)) ≡ length (waiting air K j i) + length (copies_from (length K) (commits K i) 0 (air.copies j i number)) = length-append _ _ in
-          let w : length (waiting air (Send own target number word ∷ K) j i) ≡ length (waiting air K j i ++ copies_from (length K) (commits K i) 0 (air.copies j i number)) = ap length (cond-true (eqb own j && eqb target i) _ (waiting air K j i) y) in
+          let n : length (copies_from (read_as air.flip air.read word) (length K) (commits K i) 0 (air.copies j i number)) ≡ length (air.copies j i number) = length-copies (read_as air.flip air.read word) (length K) (commits K i) 0 (air.copies j i number) in
+          let a : length (waiting air K j i ++ copies_from (read_as air.flip air.read word) (length K) (commits K i) 0 (air.copies j i number)) ≡ length (waiting air K j i) + length (copies_from (read_as air.flip air.read word) (length K) (commits K i) 0 (air.copies j i number)) = length-append _ _ in
+          let w : length (waiting air (Send own target number word ∷ K) j i) ≡ length (waiting air K j i ++ copies_from (read_as air.flip air.read word) (length K) (commits K i) 0 (air.copies j i number)) = ap length (cond-true (eqb own j && eqb target i) _ (waiting air K j i) y) in
           omega arith)
       | inr n ↦ (let s : sends (Send own target number word ∷ K) j i ≡ sends K j i = count-no (is_send_of j i) (Send own target number word) K n in
-          let w : length (waiting air (Send own target number word ∷ K) j i) ≡ length (waiting air K j i) = ap length (cond-false (eqb own j && eqb target i) (waiting air K j i ++ copies_from (length K) (commits K i) 0 (air.copies j i number)) (waiting air K j i) n) in
+          let w : length (waiting air (Send own target number word ∷ K) j i) ≡ length (waiting air K j i) = ap length (cond-false (eqb own j && eqb target i) (waiting air K j i ++ copies_from (read_as air.flip air.read word) (length K) (commits K i) 0 (air.copies j i number)) (waiting air K j i) n) in
           omega arith)
     ]
 waiting-few air sound (Take own p c good ∷ K) j i =

@@ -1,10 +1,11 @@
 -- The queue of a pair holds exactly the copies that wait.
 use Rattle.std.proofs.Common.{◌≡◌, ◌⊎◌, ℕ, suc, zero, ◌+◌, ◌<◌, ◌≤◌, Bool, true, false, ◌&&◌, eqb, List, [], ◌∷◌, ◌++◌, length, Option, Some, None, slice_get, sym, refl, ap, ◌∙◌, subst, arith, inl, inr, eqb-true, eq-eqb, ne_eqb}
 use Rattle.std.proofs.lemmas.Bool.{eqb-false, cond-false, cond-true, cond_both, and_parts, and_from, and_cases, and_left, and_right, or_parts, or_from, cases_Bool}
+use Rattle.acas_base.specs.declared.advisory.Vrc.{Vrc}
 use Rattle.acas_base.specs.declared.entry.Entry.{Entry}
 use Rattle.acas_base.specs.declared.entry.Entry.TheVariants.{Commit, Send, Take}
 use Rattle.acas_base.specs.declared.link.CopyPlan.{CopyPlan}
-use Rattle.air_journal.specs.Kept.{copies_from, is_copy, waiting, without}
+use Rattle.air_journal.specs.Kept.{copies_from, is_copy, read_as, waiting, without}
 use Rattle.air_journal.specs.Queues.{AreOrdered, IsBefore, IsIn, IsQueue, IsWaiting}
 use Rattle.air_journal.specs.declared.kept.Waiting.{Waiting}
 use Rattle.air_rules.proofs.Legal.{allowed, earlier}
@@ -81,38 +82,40 @@ ordered-append (x ∷ xs) ys o q h =
 
 -- ---- the copies of one Send
 
-abbrev make : ℕ → ℕ → ℕ → Waiting
-make s c d = record { send = s; copy = c; due = d }
+abbrev make : ℕ → ℕ → ℕ → Option Vrc → Waiting
+make s c d r = record { send = s; copy = c; due = d; reads = r }
 
-pub is-made : (w : Waiting) (s c d : ℕ) → w.send ≡ s → w.copy ≡ c → w.due ≡ d → w ≡ make s c d
-is-made w s c d e f g = ap (λ x. make x w.copy w.due) e ∙ ap (λ x. make s x w.due) f ∙ ap (λ x. make s c x) g
+pub is-made : (w : Waiting) (s c d : ℕ) (r : Option Vrc) → w.send ≡ s → w.copy ≡ c → w.due ≡ d → w.reads ≡ r → w ≡ make s c d r
+is-made w s c d r e f g h = ap (λ x. make x w.copy w.due w.reads) e ∙ ap (λ x. make s x w.due w.reads) f ∙ ap (λ x. make s c x w.reads) g ∙ ap (λ x. make s c d x) h
 
-pub record IsCopy (at made c : ℕ) (plans : List CopyPlan) (w : Waiting) : Type 0 where
+pub record IsCopy (reads : CopyPlan → Option Vrc) (at made c : ℕ) (plans : List CopyPlan) (w : Waiting) : Type 0 where
   pub send_is : w.send ≡ at
   pub place : ℕ
   pub copy_is : w.copy ≡ c + place
   pub plan : CopyPlan
   pub planned : slice_get plans place ≡ Some plan
   pub due_is : w.due ≡ made + plan.hold
+  pub reads_is : w.reads ≡ reads plan
 
-pub copies-are : (at made c : ℕ) (plans : List CopyPlan) (w : Waiting) → IsIn w (copies_from at made c plans) → IsCopy at made c plans w
-copies-are at made c [] w h = absurd h
-copies-are at made c (plan ∷ plans) w (inl e) =
-    record { send_is = ap (λ (x : Waiting). x.send) e; place = 0; copy_is = ap (λ (x : Waiting). x.copy) e ∙ omega arith; plan = plan; planned = refl; due_is = ap (λ (x : Waiting). x.due) e }
-copies-are at made c (plan ∷ plans) w (inr h) =
-    let r = copies-are at made (c + 1) plans w h in
-    record { send_is = r.send_is; place = suc r.place; copy_is = (let e : w.copy ≡ c + 1 + r.place = r.copy_is in omega arith); plan = r.plan; planned = r.planned; due_is = r.due_is }
+pub copies-are : (reads : CopyPlan → Option Vrc) (at made c : ℕ) (plans : List CopyPlan) (w : Waiting) → IsIn w (copies_from reads at made c plans) → IsCopy reads at made c plans w
+copies-are reads at made c [] w h = absurd h
+copies-are reads at made c (plan ∷ plans) w (inl e) =
+    record { send_is = ap (λ (x : Waiting). x.send) e; place = 0; copy_is = ap (λ (x : Waiting). x.copy) e ∙ omega arith; plan = plan; planned = refl; due_is = ap (λ (x : Waiting). x.due) e; reads_is = ap (λ (x : Waiting). x.reads) e }
+copies-are reads at made c (plan ∷ plans) w (inr h) =
+    let r = copies-are reads at made (c + 1) plans w h in
+    record { send_is = r.send_is; place = suc r.place; copy_is = (let e : w.copy ≡ c + 1 + r.place = r.copy_is in omega arith); plan = r.plan; planned = r.planned; due_is = r.due_is; reads_is = r.reads_is }
 
-pub copies-all : (at made c : ℕ) (plans : List CopyPlan) (w : Waiting) (k : ℕ) (plan : CopyPlan) → w.send ≡ at → w.copy ≡ c + k → slice_get plans k ≡ Some plan → w.due ≡ made + plan.hold → IsIn w (copies_from at made c plans)
-copies-all at made c [] w k plan a b p d = absurd (cc)
-copies-all at made c (x ∷ plans) w zero plan a b p d = inl (let e : w.copy ≡ c = omega arith in let f : x ≡ plan = cc in let g : w.due ≡ made + x.hold = d ∙ ap (λ (q : CopyPlan). made + q.hold) (sym f) in
-    is-made w at c (made + x.hold) a e g)
-copies-all at made c (x ∷ plans) w (suc k) plan a b p d = inr (copies-all at made (c + 1) plans w k plan a (omega arith) p d)
+pub copies-all : (reads : CopyPlan → Option Vrc) (at made c : ℕ) (plans : List CopyPlan) (w : Waiting) (k : ℕ) (plan : CopyPlan) → w.send ≡ at → w.copy ≡ c + k → slice_get plans k ≡ Some plan → w.due ≡ made + plan.hold → w.reads ≡ reads plan →
+    IsIn w (copies_from reads at made c plans)
+copies-all reads at made c [] w k plan a b p d r = absurd (cc)
+copies-all reads at made c (x ∷ plans) w zero plan a b p d r = inl (let e : w.copy ≡ c = omega arith in let f : x ≡ plan = cc in let g : w.due ≡ made + x.hold = d ∙ ap (λ (q : CopyPlan). made + q.hold) (sym f) in
+    is-made w at c (made + x.hold) (reads x) a e g (r ∙ ap reads (sym f)))
+copies-all reads at made c (x ∷ plans) w (suc k) plan a b p d r = inr (copies-all reads at made (c + 1) plans w k plan a (omega arith) p d r)
 
-pub copies-ordered : (at made c : ℕ) (plans : List CopyPlan) → AreOrdered (copies_from at made c plans)
-copies-ordered at made c [] = tt
-copies-ordered at made c (plan ∷ plans) =
-    (λ w h. let r = copies-are at made (c + 1) plans w h in inr (sym r.send_is, let e : w.copy ≡ c + 1 + r.place = r.copy_is in omega arith), copies-ordered at made (c + 1) plans)
+pub copies-ordered : (reads : CopyPlan → Option Vrc) (at made c : ℕ) (plans : List CopyPlan) → AreOrdered (copies_from reads at made c plans)
+copies-ordered reads at made c [] = tt
+copies-ordered reads at made c (plan ∷ plans) =
+    (λ w h. let r = copies-are reads at made (c + 1) plans w h in inr (sym r.send_is, let e : w.copy ≡ c + 1 + r.place = r.copy_is in omega arith), copies-ordered reads at made (c + 1) plans)
 
 -- ---- one entry more
 
@@ -148,6 +151,7 @@ waits-more air x K j i w h n =
       from = was-sent-more x K w.send j i h.sent h.from;
       plan = h.plan;
       planned = h.planned;
+      reads_is = h.reads_is;
       due_is = now-more x K i w.send w.due h.plan.hold (sent-within K w.send h.sent h.from.here) h.due_is;
       untaken = or_from _ _ n h.untaken;
     }
@@ -159,6 +163,7 @@ waits-less air x K j i w h e =
       from = record { here = e; sender = h.from.sender; receiver = h.from.receiver };
       plan = h.plan;
       planned = h.planned;
+      reads_is = h.reads_is;
       due_is = now-less x K i w.send w.due h.plan.hold (sent-within K w.send h.sent e) h.due_is;
       untaken = (or_parts (is_take_of i w.send w.copy x) (was_taken K i w.send w.copy) h.untaken).1;
     }
@@ -182,11 +187,11 @@ after-send : (air : Air) → IsSound air → (K : List Entry) → IsLegal air K 
 after-send air sound K l own target number word j i q =
     elim (cases_Bool (eqb own j && eqb target i)) [
       | inl y ↦ subst (IsQueue air (x ∷ K) j i) (sym (cond-true (eqb own j && eqb target i) new old y)) (record {
-        ordered = ordered-append old added q.ordered (copies-ordered (length K) (commits K i) 0 (air.copies j i number))
-            (λ u w a b. inl (let s = (copies-are (length K) (commits K i) 0 (air.copies j i number) w b).send_is in let r = sent-within K u.send (q.holds u a).sent (q.holds u a).from.here in omega arith));
+        ordered = ordered-append old added q.ordered (copies-ordered (read_as air.flip air.read word) (length K) (commits K i) 0 (air.copies j i number))
+            (λ u w a b. inl (let s = (copies-are (read_as air.flip air.read word) (length K) (commits K i) 0 (air.copies j i number) w b).send_is in let r = sent-within K u.send (q.holds u a).sent (q.holds u a).from.here in omega arith));
         holds = λ w h. elim (in-append w old added h) [
           | inl a ↦ waits-more air x K j i w (q.holds w a) refl
-          | inr b ↦ fresh (and_parts _ _ y) w (copies-are (length K) (commits K i) 0 (air.copies j i number) w b)
+          | inr b ↦ fresh (and_parts _ _ y) w (copies-are (read_as air.flip air.read word) (length K) (commits K i) 0 (air.copies j i number) w b)
         ];
         whole = λ w h. elim (sent-less x K w.send h.sent h.from.here) [
           | inl a ↦ in-right w old added (born (and_parts _ _ y) w h a)
@@ -210,7 +215,7 @@ after-send air sound K l own target number word j i q =
     old = waiting air K j i
 
     added : List Waiting
-    added = copies_from (length K) (commits K i) 0 (air.copies j i number)
+    added = copies_from (read_as air.flip air.read word) (length K) (commits K i) 0 (air.copies j i number)
 
     new : List Waiting
     new = old ++ added
@@ -218,12 +223,13 @@ after-send air sound K l own target number word j i q =
     S : Sent
     S = record { sender = own; receiver = target; number = number; word = word }
 
-    fresh : (eqb own j ≡ true) × (eqb target i ≡ true) → (w : Waiting) → IsCopy (length K) (commits K i) 0 (air.copies j i number) w → IsWaiting air (x ∷ K) j i w
+    fresh : (eqb own j ≡ true) × (eqb target i ≡ true) → (w : Waiting) → IsCopy (read_as air.flip air.read word) (length K) (commits K i) 0 (air.copies j i number) w → IsWaiting air (x ∷ K) j i w
     fresh y w r = record {
       sent = S;
       from = record { here = cond-true (eqb w.send (length K)) (Some S) (sent_at K w.send) (eq-eqb _ _ r.send_is); sender = eqb-true _ _ y.0; receiver = eqb-true _ _ y.1 };
       plan = r.plan;
       planned = ap (λ s. slice_get (air.copies s target number) w.copy) (eqb-true own j y.0) ∙ ap (λ t. slice_get (air.copies j t number) w.copy) (eqb-true target i y.1) ∙ ap (slice_get (air.copies j i number)) (let f : w.copy ≡ 0 + r.place = r.copy_is in let g : w.copy ≡ r.place = omega arith in g) ∙ r.planned;
+      reads_is = r.reads_is;
       due_is = (let e : commits (entries_after (x ∷ K) w.send) i ≡ 0 = ap (λ L. commits L i) (later-none x K w.send (let f = r.send_is in omega arith)) in let d : w.due ≡ commits K i + r.plan.hold = r.due_is in omega arith);
       untaken = untaken-yet air K l i w.send w.copy (let f = r.send_is in omega arith);
     }
@@ -233,8 +239,9 @@ after-send air sound K l own target number word j i q =
         let e : S ≡ h.sent = (let f = a.1 in cc) in
         let pl : slice_get (air.copies j i number) w.copy ≡ Some h.plan =
         sym (ap (λ s. slice_get (air.copies s target number) w.copy) (eqb-true own j y.0) ∙ ap (λ t. slice_get (air.copies j t number) w.copy) (eqb-true target i y.1)) ∙ ap (λ (s : Sent). copy_plan air s w.copy) e ∙ h.planned in
-        copies-all (length K) (commits K i) 0 (air.copies j i number) w w.copy h.plan a.0 (omega arith) pl
+        copies-all (read_as air.flip air.read word) (length K) (commits K i) 0 (air.copies j i number) w w.copy h.plan a.0 (omega arith) pl
         (let z : commits (entries_after (x ∷ K) w.send) i ≡ 0 = ap (λ L. commits L i) (later-none x K w.send (let f = a.0 in omega arith)) in let d : w.due + commits (entries_after (x ∷ K) w.send) i ≡ commits K i + h.plan.hold = h.due_is in omega arith)
+        (h.reads_is ∙ ap (λ (s : Sent). read_as air.flip air.read s.word h.plan) (sym e))
 
     other : (eqb own j && eqb target i) ≡ false → (w : Waiting) (h : IsWaiting air (x ∷ K) j i w) → (w.send ≡ length K) × (as_sent x ≡ Some h.sent) → ⊥
     other n w h a =

@@ -10,7 +10,7 @@ use Rattle.acas_base.specs.declared.advisory.Vrc.{Vrc}
 use Rattle.acas_base.specs.declared.entry.Entry.{Entry}
 use Rattle.acas_base.specs.declared.entry.Entry.TheVariants.{Commit, Send, Take}
 use Rattle.acas_base.specs.declared.link.CopyPlan.{CopyPlan}
-use Rattle.air_journal.specs.Kept.{AfterCommit, AfterSend, AfterTake, IsBlank, IsKept, Kept, committed_link, complement_of, copies_from, link_of, made_at, made_of, sent_link, taken_link, waiting, without}
+use Rattle.air_journal.specs.Kept.{AfterCommit, AfterSend, AfterTake, IsBlank, IsKept, Kept, committed_link, complement_of, copies_from, link_of, made_at, made_of, read_as, sent_link, taken_link, vrc_of, waiting, without}
 use Rattle.air_journal.specs.declared.kept.Complement.{Complement}
 use Rattle.air_journal.specs.declared.kept.Link.{Link}
 use Rattle.air_journal.specs.declared.kept.Made.{Made}
@@ -58,23 +58,23 @@ link-take air K own send copy good a b =
 
 pub kept-send : (air : Air) (K : List Entry) (old new : Kept) → IsKept air K old → (own target number word at : ℕ) (vrc : Vrc) (plans : List CopyPlan) →
     own < CRAFTS → target < CRAFTS → vrc ≡ complement_read (air.read word) → at ≡ length K → plans ≡ air.copies own target number →
-    AfterSend old new own target vrc (copies_from at (made_at old target).commits 0 plans) → IsKept air (Send own target number word ∷ K) new
+    AfterSend old new own target vrc (copies_from (read_as air.flip air.read word) at (made_at old target).commits 0 plans) → IsKept air (Send own target number word ∷ K) new
 kept-send air K old new k own target number word at vrc plans hi hj e f g s =
     record {
       made = λ a ha. s.made a ha ∙ k.made a ha;
       link = λ a b ha hb. s.link a b ha hb ∙ ap (λ (l : Link). cond (eqb own a && eqb target b) (sent_link l vrc) l) (k.link a b ha hb)
           ∙ ap (λ v. cond (eqb own a && eqb target b) (sent_link (link_of air K a b) v) (link_of air K a b)) e ∙ sym (link-send air K own target number word a b);
-      queue = λ a b ha hb. s.queue a b ha hb ∙ ap (λ q. cond (eqb own a && eqb target b) (q ++ copies_from at (made_at old target).commits 0 plans) q) (k.queue a b ha hb) ∙ at_pair a b (cases_Bool (eqb own a && eqb target b));
+      queue = λ a b ha hb. s.queue a b ha hb ∙ ap (λ q. cond (eqb own a && eqb target b) (q ++ copies_from (read_as air.flip air.read word) at (made_at old target).commits 0 plans) q) (k.queue a b ha hb) ∙ at_pair a b (cases_Bool (eqb own a && eqb target b));
     }
   where
-    copies : copies_from at (made_at old target).commits 0 plans ≡ copies_from (length K) (commits K target) 0 (air.copies own target number)
-    copies = ap (λ n. copies_from n (made_at old target).commits 0 plans) f ∙ ap (λ (m : Made). copies_from (length K) m.commits 0 plans) (k.made target hj) ∙ ap (copies_from (length K) (commits K target) 0) g
+    copies : copies_from (read_as air.flip air.read word) at (made_at old target).commits 0 plans ≡ copies_from (read_as air.flip air.read word) (length K) (commits K target) 0 (air.copies own target number)
+    copies = ap (λ n. copies_from (read_as air.flip air.read word) n (made_at old target).commits 0 plans) f ∙ ap (λ (m : Made). copies_from (read_as air.flip air.read word) (length K) m.commits 0 plans) (k.made target hj) ∙ ap (copies_from (read_as air.flip air.read word) (length K) (commits K target) 0) g
 
-    moved : (a b : ℕ) → own ≡ a → target ≡ b → copies_from (length K) (commits K target) 0 (air.copies own target number) ≡ copies_from (length K) (commits K b) 0 (air.copies a b number)
-    moved a b p q = ap (λ x. copies_from (length K) (commits K target) 0 (air.copies x target number)) p ∙ ap (λ y. copies_from (length K) (commits K y) 0 (air.copies a y number)) q
+    moved : (a b : ℕ) → own ≡ a → target ≡ b → copies_from (read_as air.flip air.read word) (length K) (commits K target) 0 (air.copies own target number) ≡ copies_from (read_as air.flip air.read word) (length K) (commits K b) 0 (air.copies a b number)
+    moved a b p q = ap (λ x. copies_from (read_as air.flip air.read word) (length K) (commits K target) 0 (air.copies x target number)) p ∙ ap (λ y. copies_from (read_as air.flip air.read word) (length K) (commits K y) 0 (air.copies a y number)) q
 
     at_pair : (a b : ℕ) → ((eqb own a && eqb target b) ≡ true) ⊎ ((eqb own a && eqb target b) ≡ false) →
-        cond (eqb own a && eqb target b) (waiting air K a b ++ copies_from at (made_at old target).commits 0 plans) (waiting air K a b) ≡ waiting air (Send own target number word ∷ K) a b
+        cond (eqb own a && eqb target b) (waiting air K a b ++ copies_from (read_as air.flip air.read word) at (made_at old target).commits 0 plans) (waiting air K a b) ≡ waiting air (Send own target number word ∷ K) a b
     at_pair a b (inl y) =
         let p = and_parts _ _ y in
         cond-true (eqb own a && eqb target b) _ _ y ∙ ap (λ c. waiting air K a b ++ c) (copies ∙ moved a b (eqb-true own a p.0) (eqb-true target b p.1)) ∙ sym (cond-true (eqb own a && eqb target b) _ _ y)
@@ -83,7 +83,7 @@ kept-send air K old new k own target number word at vrc plans hi hj e f g s =
 -- ---- after a take
 
 taken-is : (air : Air) (K : List Entry) (own send copy sender a b : ℕ) (message : Option ResMsg) → message ≡ read_copy air (sent_at K send) copy → is_from (sent_at K send) b ≡ eqb sender b →
-    cond (eqb own a && eqb sender b) (taken_link (link_of air K a b) message (commits K a)) (link_of air K a b) ≡ link_of air (Take own send copy (is_some message) ∷ K) a b
+    cond (eqb own a && eqb sender b) (taken_link (link_of air K a b) (vrc_of message) (commits K a)) (link_of air K a b) ≡ link_of air (Take own send copy (is_some message) ∷ K) a b
 taken-is air K own send copy sender a b None e f =
     (elim (eqb own a && eqb sender b) as (λ t. cond t (link_of air K a b) (link_of air K a b) ≡ link_of air K a b) [ true ↦ refl | false ↦ refl ])
     ∙ sym (link-take air K own send copy false a b)
@@ -95,12 +95,12 @@ taken-is air K own send copy sender a b (Some m) e f =
 pub kept-take : (air : Air) (K : List Entry) (old new : Kept) → IsKept air K old → (own send copy sender place : ℕ) (message : Option ResMsg) (sent : Sent) →
     own < CRAFTS → sender < CRAFTS → message ≡ read_copy air (sent_at K send) copy → sent_at K send ≡ Some sent → sent.sender ≡ sender →
     remove (waiting air K sender own) place ≡ without send copy (waiting air K sender own) →
-    AfterTake old new own sender place message → IsKept air (Take own send copy (is_some message) ∷ K) new
+    AfterTake old new own sender place (vrc_of message) → IsKept air (Take own send copy (is_some message) ∷ K) new
 kept-take air K old new k own send copy sender place message sent hi hj e here from gone s =
     record {
       made = λ a ha. s.made a ha ∙ k.made a ha;
-      link = λ a b ha hb. s.link a b ha hb ∙ ap (λ (l : Link). cond (eqb own a && eqb sender b) (taken_link l message (made_at old a).commits) l) (k.link a b ha hb)
-          ∙ ap (λ (m : Made). cond (eqb own a && eqb sender b) (taken_link (link_of air K a b) message m.commits) (link_of air K a b)) (k.made a ha)
+      link = λ a b ha hb. s.link a b ha hb ∙ ap (λ (l : Link). cond (eqb own a && eqb sender b) (taken_link l (vrc_of message) (made_at old a).commits) l) (k.link a b ha hb)
+          ∙ ap (λ (m : Made). cond (eqb own a && eqb sender b) (taken_link (link_of air K a b) (vrc_of message) m.commits) (link_of air K a b)) (k.made a ha)
           ∙ taken-is air K own send copy sender a b message e (is_from_it b);
       queue = λ a b ha hb. s.queue a b ha hb ∙ ap (λ q. cond (eqb sender a && eqb own b) (remove q place) q) (k.queue a b ha hb) ∙ at_pair a b (cases_Bool (eqb own b && is_from (sent_at K send) a));
     }

@@ -44,14 +44,22 @@ queue_at kept sender receiver = slice_index_or kept.queues (sender * CRAFTS + re
 
 -- ---- what each is of a journal
 
--- A copy of the message sent at a position, to a receiver that has made so many commits.
-abbrev pub waiting_copy : ℕ → ℕ → ℕ → ℕ → Waiting
-waiting_copy send copy made hold = record { send = send; copy = copy; due = made + hold }
+-- The complement of a message; none where there is no message.
+abbrev pub vrc_of : Option ResMsg → Option Vrc
+vrc_of message = option_map (λ (m : ResMsg). m.vrc) message
+
+-- The complement that the taker of a copy of a word reads, by what flips and reads words; none where the copy is spoilt.
+abbrev pub read_as : (ℕ → ℕ → ℕ) → (ℕ → Option ResMsg) → ℕ → CopyPlan → Option Vrc
+read_as flip read word plan = vrc_of (read (flip word plan.mask))
+
+-- A copy of the message sent at a position, to a receiver that has made so many commits, and what is read of it.
+abbrev pub waiting_copy : (CopyPlan → Option Vrc) → ℕ → ℕ → ℕ → CopyPlan → Waiting
+waiting_copy reads send made copy plan = record { send = send; copy = copy; due = made + plan.hold; reads = reads plan }
 
 -- The copies of such a message, from one copy on.
-abbrev pub copies_from : ℕ → ℕ → ℕ → List CopyPlan → List Waiting
-copies_from send made copy [] = []
-copies_from send made copy (plan ∷ plans) = waiting_copy send copy made plan.hold ∷ copies_from send made (copy + 1) plans
+abbrev pub copies_from : (CopyPlan → Option Vrc) → ℕ → ℕ → ℕ → List CopyPlan → List Waiting
+copies_from reads send made copy [] = []
+copies_from reads send made copy (plan ∷ plans) = waiting_copy reads send made copy plan ∷ copies_from reads send made (copy + 1) plans
 
 abbrev pub is_copy : ℕ → ℕ → Waiting → Bool
 is_copy send copy waiting = waiting.send == send && waiting.copy == copy
@@ -67,7 +75,7 @@ waiting air [] sender receiver = []
 waiting air (Commit own cycle cells ∷ earlier) sender receiver = waiting air earlier sender receiver
 waiting air (Send own target number word ∷ earlier) sender receiver =
     if own == sender && target == receiver
-    then waiting air earlier sender receiver ++ copies_from (length earlier) (commits earlier receiver) 0 (air.copies sender receiver number)
+    then waiting air earlier sender receiver ++ copies_from (read_as air.flip air.read word) (length earlier) (commits earlier receiver) 0 (air.copies sender receiver number)
     else waiting air earlier sender receiver
 waiting air (Take own send copy good ∷ earlier) sender receiver =
     if own == receiver && is_from (sent_at earlier send) sender
@@ -114,14 +122,14 @@ pub record IsBlank (kept : Kept) : Type 0 where
 abbrev pub sent_link : Link → Vrc → Link
 sent_link link vrc = record { cell = link.cell; said = vrc; sends = link.sends + 1; sent = true; complement = link.complement }
 
-abbrev pub taken_link : Link → Option ResMsg → ℕ → Link
+abbrev pub taken_link : Link → Option Vrc → ℕ → Link
 taken_link link None commits = link
-taken_link link (Some message) commits = record {
+taken_link link (Some vrc) commits = record {
   cell = link.cell;
   said = link.said;
   sends = link.sends;
   sent = link.sent;
-  complement = Some (let c : Complement = record { vrc = message.vrc; commits = commits } in c);
+  complement = Some (let c : Complement = record { vrc = vrc; commits = commits } in c);
 }
 
 abbrev pub committed_link : Link → Cell → Link
@@ -132,9 +140,9 @@ pub record AfterSend (old new : Kept) (own target : ℕ) (vrc : Vrc) (copies : L
   pub link : (a b : ℕ) → a < CRAFTS → b < CRAFTS → link_at new a b ≡ (if own == a && target == b then sent_link (link_at old a b) vrc else link_at old a b)
   pub queue : (a b : ℕ) → a < CRAFTS → b < CRAFTS → queue_at new a b ≡ (if own == a && target == b then queue_at old a b ++ copies else queue_at old a b)
 
-pub record AfterTake (old new : Kept) (own sender place : ℕ) (message : Option ResMsg) : Type 0 where
+pub record AfterTake (old new : Kept) (own sender place : ℕ) (reads : Option Vrc) : Type 0 where
   pub made : (a : ℕ) → a < CRAFTS → made_at new a ≡ made_at old a
-  pub link : (a b : ℕ) → a < CRAFTS → b < CRAFTS → link_at new a b ≡ (if own == a && sender == b then taken_link (link_at old a b) message (made_at old a).commits else link_at old a b)
+  pub link : (a b : ℕ) → a < CRAFTS → b < CRAFTS → link_at new a b ≡ (if own == a && sender == b then taken_link (link_at old a b) reads (made_at old a).commits else link_at old a b)
   pub queue : (a b : ℕ) → a < CRAFTS → b < CRAFTS → queue_at new a b ≡ (if sender == a && own == b then remove (queue_at old a b) place else queue_at old a b)
 
 pub record AfterCommit (old new : Kept) (own : ℕ) (cells : Cells) (many : Bool) : Type 0 where

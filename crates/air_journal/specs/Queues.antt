@@ -2,6 +2,7 @@
 use Rattle.std.specs.Prelude.{◌≡◌, ◌⊎◌, ℕ, ◌+◌, ◌<◌, ◌≤◌, false, List, [], ◌∷◌, take, Some, slice_get}
 use Rattle.acas_base.specs.declared.entry.Entry.{Entry}
 use Rattle.acas_base.specs.declared.link.CopyPlan.{CopyPlan}
+use Rattle.air_journal.specs.Kept.{read_as}
 use Rattle.air_journal.specs.declared.kept.Waiting.{Waiting}
 use Rattle.air_rules.specs.Air.{Air, copy_plan}
 use Rattle.air_rules.specs.Journal.{Sent, WasSent, commits, entries_after, was_taken}
@@ -12,12 +13,13 @@ IsIn waiting [] = ⊥
 IsIn waiting (first ∷ rest) = (waiting ≡ first) ⊎ IsIn waiting rest
 
 -- A copy of a message of one aircraft to another one that was sent and isn't taken yet. It is due as soon as the
--- receiver has made, after the send, the commits for which it is held back.
+-- receiver has made, after the send, the commits for which it is held back, and is read by its plan then.
 pub record IsWaiting (air : Air) (journal : List Entry) (sender receiver : ℕ) (waiting : Waiting) : Type 0 where
   pub sent : Sent
   pub from : WasSent journal waiting.send sender receiver sent
   pub plan : CopyPlan
   pub planned : copy_plan air sent waiting.copy ≡ Some plan
+  pub reads_is : waiting.reads ≡ read_as air.flip air.read sent.word plan
   pub due_is : waiting.due + commits (entries_after journal waiting.send) receiver ≡ commits journal receiver + plan.hold
   pub untaken : was_taken journal receiver waiting.send waiting.copy ≡ false
 

@@ -10,6 +10,8 @@ pub struct Waiting {
     pub copy: u8,
     /// The copy is due as soon as its receiver has made so many commits.
     pub due: u16,
+    /// The complement that its taker reads; none where the copy is spoilt.
+    pub reads: Option<Vrc>,
 }
 
 /// The complement of the last good take of a message of another aircraft, and how many commits the taker

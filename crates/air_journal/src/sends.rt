@@ -24,10 +24,9 @@ impl AirState {
                 let position = self.journal.len() as u32;
                 let number = self.tables.link(own, owing.target).sends + 1;
                 let fate = self.encounter.fate(own, owing.target, number);
-                self.journal
-                    .push_send(own, owing.target, number, encode(&owing.message));
-                self.tables
-                    .send(own, owing.target, owing.message.vrc, position, &fate);
+                let word = encode(&owing.message);
+                self.journal.push_send(own, owing.target, number, word);
+                self.tables.send(own, owing.target, owing.message.vrc, word, position, &fate);
                 Sent::Done(position)
             }
         }

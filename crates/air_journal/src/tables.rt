@@ -1,13 +1,15 @@
 // What is kept of all aircraft and pairs.
-ghost use Rattle.std.specs.Prelude.{◌≡◌, ℕ, ◌+◌, ◌*◌, ◌<◌, ◌≤◌, List, [], ◌++◌, length, replicate, IfOk};
+ghost use Rattle.std.specs.Prelude.{◌≡◌, ℕ, ◌+◌, ◌*◌, ◌<◌, ◌≤◌, List, [], ◌++◌, length, replicate, IfOk, Some};
 ghost use Rattle.acas_base.specs.Fates.{copies_of};
 ghost use Rattle.acas_base.specs.declared.TheConstants.{CRAFTS};
-ghost use Rattle.air_journal.specs.Kept.{AfterCommit, AfterSend, AfterTake, IsBlank, RowIs, copies_from, link_at, made_at, no_link, nothing_made, queue_at, waiting_copy};
+ghost use Rattle.air_journal.specs.Kept.{AfterCommit, AfterSend, AfterTake, IsBlank, RowIs, copies_from, link_at, made_at, no_link, nothing_made, queue_at, read_as, vrc_of, waiting_copy};
 ghost use Rattle.air_journal.specs.Rooms.{queue_room};
+ghost use Rattle.res_message.specs.Words.{flip_word, read_word};
 
 use crate::kept::{Complement, Link, Made, Waiting};
 use crate::queue::Queue;
-use acas_base::{CRAFTS, Cell, Cells, Fate, ResMsg, Vrc};
+use acas_base::{CRAFTS, Cell, Cells, CopyPlan, Fate, Vrc};
+use res_message::{decode, flip, read_law};
 use std::alloc::{AllocError, Global};
 use std::marker::Model;
 
@@ -78,33 +80,63 @@ fn pair_of(own: u8, other: u8) -> usize
     usize::from(own) * CRAFTS + usize::from(other)
 }
 
-// A copy of a message to a receiver that has made so many commits.
-fn copy_of(send: u32, copy: u8, commits: u16, hold: u8) -> Waiting
-    requires { commits ≤ 600 }
-    ensures { result ≡ waiting_copy send copy commits hold }
+// A message on its way: its word, its complement, the position of its send, and how many commits its receiver has
+// made.
+#[derive(Clone, Copy)]
+struct Message {
+    word: u64,
+    vrc: Vrc,
+    send: u32,
+    commits: u16,
+}
+
+// The complement that the taker of a copy reads, if it isn't spoilt. Most copies aren't.
+fn reads(message: Message, mask: u8) -> Option<Vrc>
+    requires { vrc_of (read_word message.word) ≡ Some message.vrc }
+    ensures { result ≡ vrc_of (read_word (flip_word message.word mask)) }
+{
+    read_law();
+    if mask == 0 {
+        return Some(message.vrc);
+    }
+    match decode(flip(message.word, mask)) {
+        Some(read) => Some(read.vrc),
+        None => None,
+    }
+}
+
+fn copy_of(message: Message, copy: u8, plan: CopyPlan) -> Waiting
+    requires word { vrc_of (read_word message.word) ≡ Some message.vrc }
+    requires commits { message.commits ≤ 600 }
+    ensures { result ≡ waiting_copy (read_as flip_word read_word message.word) message.send message.commits copy plan }
 {
     Waiting {
-        send,
+        send: message.send,
         copy,
-        due: commits + u16::from(hold),
+        due: message.commits + u16::from(plan.hold),
+        reads: reads(message, plan.mask),
     }
 }
 
 // Puts the copies of a message into its queue.
-fn push_copies(queue: &mut Queue, send: u32, commits: u16, fate: &Fate)
+fn push_copies(queue: &mut Queue, message: Message, fate: &Fate)
     requires room { length queue.old + 3 ≤ queue_room }
-    requires commits { commits ≤ 600 }
-    ensures { queue.new ≡ queue.old ++ copies_from send commits 0 (copies_of fate.now) }
+    requires word { vrc_of (read_word message.word) ≡ Some message.vrc }
+    requires commits { message.commits ≤ 600 }
+    ensures { queue.new ≡ queue.old ++ copies_from (read_as flip_word read_word message.word) message.send message.commits 0 (copies_of fate.now) }
 {
-    if fate.copies >= 1 {
-        queue.push(copy_of(send, 0, commits, fate.first.hold));
+    if fate.copies == 0 {
+        return;
     }
-    if fate.copies >= 2 {
-        queue.push(copy_of(send, 1, commits, fate.second.hold));
+    queue.push(copy_of(message, 0, fate.first));
+    if fate.copies == 1 {
+        return;
     }
-    if fate.copies >= 3 {
-        queue.push(copy_of(send, 2, commits, fate.third.hold));
+    queue.push(copy_of(message, 1, fate.second));
+    if fate.copies == 2 {
+        return;
     }
+    queue.push(copy_of(message, 2, fate.third));
 }
 
 impl Tables {
@@ -145,14 +177,15 @@ impl Tables {
         self.queues[pair_of(sender, receiver)].as_slice()
     }
 
-    /// A message of this complement, sent at this position, with the copies of its fate.
-    pub(crate) fn send(&mut self, own: u8, target: u8, vrc: Vrc, send: u32, fate: &Fate)
+    /// A message of this complement and word, sent at this position, with the copies of its fate.
+    pub(crate) fn send(&mut self, own: u8, target: u8, vrc: Vrc, word: u64, send: u32, fate: &Fate)
         requires own { own < CRAFTS }
         requires target { target < CRAFTS }
+        requires word { vrc_of (read_word word) ≡ Some vrc }
         requires sends { (link_at self.old own target).sends < 600 }
         requires commits { (made_at self.old target).commits ≤ 600 }
         requires room { length (queue_at self.old own target) + 3 ≤ queue_room }
-        ensures { AfterSend self.old self.new own target vrc (copies_from send (made_at self.old target).commits 0 (copies_of fate.now)) }
+        ensures { AfterSend self.old self.new own target vrc (copies_from (read_as flip_word read_word word) send (made_at self.old target).commits 0 (copies_of fate.now)) }
     {
         let pair = pair_of(own, target);
         let commits = self.made[usize::from(target)].commits;
@@ -164,17 +197,23 @@ impl Tables {
             sent: true,
             complement: link.complement,
         };
-        push_copies(&mut self.queues[pair], send, commits, fate);
+        let message = Message {
+            word,
+            vrc,
+            send,
+            commits,
+        };
+        push_copies(&mut self.queues[pair], message, fate);
     }
 
-    /// A take of the copy at a place of its queue, which was read as this message, or as none.
-    pub(crate) fn take(&mut self, own: u8, sender: u8, place: usize, message: Option<ResMsg>)
+    /// A take of the copy at a place of its queue, of which this complement was read, or none.
+    pub(crate) fn take(&mut self, own: u8, sender: u8, place: usize, reads: Option<Vrc>)
         requires own { own < CRAFTS }
         requires sender { sender < CRAFTS }
         requires place { place < length (queue_at self.old sender own) }
-        ensures { AfterTake self.old self.new own sender place message }
+        ensures { AfterTake self.old self.new own sender place reads }
     {
-        if let Some(message) = message {
+        if let Some(vrc) = reads {
             let commits = self.made[usize::from(own)].commits;
             let pair = pair_of(own, sender);
             let link = self.links[pair];
@@ -183,10 +222,7 @@ impl Tables {
                 said: link.said,
                 sends: link.sends,
                 sent: link.sent,
-                complement: Some(Complement {
-                    vrc: message.vrc,
-                    commits,
-                }),
+                complement: Some(Complement { vrc, commits }),
             };
         }
         self.queues[pair_of(sender, own)].remove(place);

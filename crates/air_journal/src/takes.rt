@@ -1,58 +1,15 @@
 // Takes.
-ghost use Rattle.std.specs.Prelude.{◌≡◌, option_and_then, option_map, slice_get, reverse};
+ghost use Rattle.std.specs.Prelude.{◌≡◌};
 ghost use Rattle.air_journal.specs.Airs.{air_of};
 ghost use Rattle.air_journal.specs.Calls.{Takes, TakesThis, TookCopy};
 ghost use Rattle.air_journal.specs.Found.{WaitsAt};
-ghost use Rattle.air_rules.specs.Journal.{as_sent, sent_at};
 ghost use Rattle.air_rules.specs.Rules.{IsLegal};
-ghost use Rattle.air_rules.specs.Takes.{read_copy};
 ghost use Rattle.craft_view.specs.Kept.{IsActive};
-ghost use Rattle.acas_base.specs.Fates.{copies_of};
 
 use crate::answers::{Took, TookThis};
 use crate::crafts::count_of;
 use crate::due::{Found, find_copy, first_due_to};
 use crate::state::AirState;
-use acas_base::{CopyPlan, Encounter, Entry, Fate, ResMsg};
-use res_message::{decode, flip};
-
-// The plan of a copy of a fate.
-fn plan_of(fate: &Fate, copy: u8) -> Option<CopyPlan>
-    ensures { result ≡ slice_get (copies_of fate.now) copy }
-{
-    if copy >= fate.copies {
-        return None;
-    }
-    match copy {
-        0 => Some(fate.first),
-        1 => Some(fate.second),
-        2 => Some(fate.third),
-        _ => None,
-    }
-}
-
-// What a copy of what was sent in an entry reads as when it is taken.
-fn read(encounter: &Encounter, entry: Option<Entry>, copy: u8) -> Option<ResMsg>
-    ensures { result ≡ read_copy (air_of encounter.now) (option_and_then as_sent entry) copy }
-{
-    match entry {
-        Some(
-            Entry::Send {
-                own,
-                target,
-                number,
-                word,
-            },
-        ) => {
-            let fate = encounter.fate(own, target, number);
-            match plan_of(&fate, copy) {
-                Some(plan) => decode(flip(word, plan.mask)),
-                None => None,
-            }
-        }
-        _ => None,
-    }
-}
 
 impl AirState {
     // Takes a copy that waits and is due.
@@ -65,12 +22,11 @@ impl AirState {
     {
         let waiting = found.waiting;
         let position = self.journal.len() as u32;
-        let sent = self.journal.entry(waiting.send as usize);
-        let message = read(&self.encounter, sent, waiting.copy);
-        let good = message.is_some();
+        let good = waiting.reads.is_some();
         self.journal
             .push_take(own, waiting.send, waiting.copy, good);
-        self.tables.take(own, found.sender, found.place, message);
+        self.tables
+            .take(own, found.sender, found.place, waiting.reads);
         (position, good)
     }
 

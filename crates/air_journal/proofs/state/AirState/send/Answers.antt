@@ -1,6 +1,6 @@
 use Rattle.std.proofs.Common.{◌≡◌, ℕ, ◌+◌, true, ◌∷◌, sym, ap, ◌∙◌, subst, refl, arith}
 use Rattle.acas_base.specs.declared.entry.Entry.TheVariants as kinds
-use Rattle.air_journal.proofs.Adding.{WritesOn, SendFits, may-send, send-fits, sent-whole}
+use Rattle.air_journal.proofs.Adding.{WritesOn, SendFits, may-send, reads-back, send-fits, sent-whole}
 use Rattle.air_journal.proofs.Bounds.{active-is, below-all}
 use Rattle.air_journal.proofs.Telling.{owes-nothing}
 use Rattle.air_journal.specs.Airs.{air_of}
@@ -12,7 +12,8 @@ use Rattle.craft_view.specs.Kept.{IsActive}
 use Rattle.acas_base.specs.Fates.{copies_of}
 use Rattle.air_journal.proofs.state.AirState.send.Goals as goal
 use Rattle.air_journal.proofs.state.AirState.send.Goals.{After-send, In-None, In-Some}
-use Rattle.res_message.specs.Words.{word_of}
+use Rattle.air_journal.specs.Kept.{AfterSend, copies_from, made_at, read_as, vrc_of}
+use Rattle.res_message.specs.Words.{flip_word, read_word, word_of}
 
 active : (c : In-Some) → is_active (air_of c.self.inside.encounter) c.args.own ≡ true
 active c = active-is c.self.inside.encounter c.args.own (subst (λ (s : State). IsActive s.encounter c.args.own) (sym c.self.view_is) c.requires)
@@ -35,6 +36,12 @@ push_send-requires c = (fit (goal.at.push_send-requires c).In-Some).room
 pub send-requires-clause-own : goal.send-requires-clause-own
 send-requires-clause-own c = (fit (goal.at.send-requires-clause-own c).In-Some).own
 
+pub send-requires-clause-word : goal.send-requires-clause-word
+send-requires-clause-word c =
+    let m = c.in-Some.owing.message in
+    ap (λ (w : ℕ). vrc_of (read_word w)) c.encode-word.ensures.value
+    ∙ reads-back c.self.invariant c.args.own c.in-Some.owing.target m (active (goal.at.send-requires-clause-word c).In-Some) c.in-Some.ensures
+
 pub send-requires-clause-sends : goal.send-requires-clause-sends
 send-requires-clause-sends c = (fit (goal.at.send-requires-clause-sends c).In-Some).sends
 
@@ -46,14 +53,19 @@ send-requires-clause-room c = (fit (goal.at.send-requires-clause-room c).In-Some
 
 written : (c : After-send) → WritesOn c.self.inside.journal c.push_send.new.self (kinds.Send c.args.own c.in-Some.owing.target (c.link-number.result.sends + 1) (word_of c.in-Some.owing.message))
 written c = record {
-  entries = c.push_send.ensures.entries ∙ ap (λ (w : ℕ). kinds.Send c.args.own c.in-Some.owing.target (c.link-number.result.sends + 1) w ∷ c.self.inside.journal.entries) c.encode.ensures.value;
+  entries = c.push_send.ensures.entries ∙ ap (λ (w : ℕ). kinds.Send c.args.own c.in-Some.owing.target (c.link-number.result.sends + 1) w ∷ c.self.inside.journal.entries) c.encode-word.ensures.value;
   room = c.push_send.ensures.room;
   places = c.push_send.ensures.places;
 }
 
+after : (c : After-send) → AfterSend c.self.inside.tables c.send.new.self c.args.own c.in-Some.owing.target c.in-Some.owing.message.vrc
+    (copies_from (read_as flip_word read_word (word_of c.in-Some.owing.message)) c.len-position.result (made_at c.self.inside.tables c.in-Some.owing.target).commits 0 (copies_of c.fate-fate.result))
+after c = subst (λ (w : ℕ). AfterSend c.self.inside.tables c.send.new.self c.args.own c.in-Some.owing.target c.in-Some.owing.message.vrc
+    (copies_from (read_as flip_word read_word w) c.len-position.result (made_at c.self.inside.tables c.in-Some.owing.target).commits 0 (copies_of c.fate-fate.result))) c.encode-word.ensures.value c.send.ensures
+
 whole : (c : After-send) → is_active (air_of c.self.inside.encounter) c.args.own ≡ true → IsWhole c.self.inside.encounter c.push_send.new.self c.send.new.self
 whole c active = sent-whole c.self.invariant c.args.own c.in-Some.owing.target (c.link-number.result.sends + 1) c.len-position.result c.in-Some.owing.message (copies_of c.fate-fate.result) active c.in-Some.ensures
-    (ap (λ l. l.sends + 1) c.link-number.ensures) c.len-position.ensures (ap copies_of c.fate-fate.ensures) (written c) c.send.ensures
+    (ap (λ l. l.sends + 1) c.link-number.ensures) c.len-position.ensures (ap copies_of c.fate-fate.ensures) (written c) (after c)
 
 pub invariant_of-self : goal.invariant_of-self
 invariant_of-self c = whole c (active (goal.at.invariant_of-self c).In-Some)

@@ -1,5 +1,4 @@
-use Rattle.std.proofs.Common.{◌≡◌, Bool, true, ◌∷◌, Option, sym, ap, ◌∙◌, subst, arith}
-use Rattle.acas_base.specs.declared.entry.Entry.{Entry}
+use Rattle.std.proofs.Common.{◌≡◌, Bool, true, ◌∷◌, sym, ap, ◌∙◌, subst, arith}
 use Rattle.acas_base.specs.declared.entry.Entry.TheVariants as kinds
 use Rattle.air_journal.proofs.Adding.{TakeFits, may-take, take-fits, taken-whole}
 use Rattle.air_journal.proofs.Bounds.{active-is}
@@ -8,15 +7,10 @@ use Rattle.air_journal.specs.Calls.{TookCopy}
 use Rattle.air_journal.specs.Found.{WaitsAt}
 use Rattle.air_journal.specs.States.{IsWhole, State}
 use Rattle.air_rules.specs.Air.{is_active}
-use Rattle.air_rules.specs.Journal.{sent_at}
 use Rattle.air_rules.specs.Rules.{MayTake}
 use Rattle.craft_view.specs.Kept.{IsActive}
-use Rattle.std.proofs.Common.{option_and_then}
-use Rattle.air_journal.proofs.Places.{sent-at-index}
 use Rattle.air_journal.proofs.state.AirState.take_found.Goals as goal
 use Rattle.air_journal.proofs.state.AirState.take_found.Goals.{After-len-position, After-take}
-use Rattle.air_rules.specs.Journal.{Sent, as_sent}
-use Rattle.air_rules.specs.Takes.{read_copy}
 
 active : (c : After-len-position) → is_active (air_of c.self.inside.encounter) c.args.own ≡ true
 active c = active-is c.self.inside.encounter c.args.own (subst (λ (s : State). IsActive s.encounter c.args.own) (sym c.self.view_is) c.requires.active)
@@ -42,13 +36,8 @@ take-requires-clause-sender c = (fit (goal.at.take-requires-clause-sender c).Aft
 pub take-requires-clause-place : goal.take-requires-clause-place
 take-requires-clause-place c = (fit (goal.at.take-requires-clause-place c).After-len-position).place
 
-message : (c : After-take) → c.read-message.result ≡ read_copy (air_of c.self.inside.encounter) (sent_at c.self.inside.journal.entries c.args.found.waiting.send) c.args.found.waiting.copy
-message c =
-    c.read-message.ensures ∙ ap (λ (o : Option Entry). read_copy (air_of c.self.inside.encounter) (option_and_then as_sent o) c.args.found.waiting.copy) c.entry-sent.ensures
-    ∙ ap (λ (o : Option Sent). read_copy (air_of c.self.inside.encounter) o c.args.found.waiting.copy) (sym (sent-at-index c.self.inside.journal.entries c.args.found.waiting.send))
-
 whole : (c : After-take) → After-len-position → is_active (air_of c.self.inside.encounter) c.args.own ≡ true → WaitsAt (air_of c.self.inside.encounter) c.self.inside.journal.entries c.args.own c.args.found → IsWhole c.self.inside.encounter c.push_take.new.self c.take.new.self
-whole c p a f = taken-whole c.self.invariant c.args.own c.args.found c.read-message.result a f (message c)
+whole c p a f = taken-whole c.self.invariant c.args.own c.args.found a f
     (record {
       entries = c.push_take.ensures.entries ∙ ap (λ (g : Bool). kinds.Take c.args.own c.args.found.waiting.send c.args.found.waiting.copy g ∷ c.self.inside.journal.entries) c.is_some-good.ensures;
       room = c.push_take.ensures.room;
@@ -65,7 +54,7 @@ returns-clause-took c =
     (record {
       position_is = c.len-position.ensures;
       allowed = subst (λ (g : Bool). MayTake (air_of c.self.inside.encounter) c.self.inside.journal.entries c.args.own c.args.found.waiting.send c.args.found.waiting.copy g) (sym c.is_some-good.ensures)
-          (may-take c.self.invariant c.args.own c.args.found c.read-message.result (active p) (waits p) (message c));
+          (may-take c.self.invariant c.args.own c.args.found (active p) (waits p));
       new_is = c.push_take.ensures.entries;
     })
 
