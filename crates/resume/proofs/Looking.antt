@@ -1,5 +1,5 @@
 -- An aircraft looks and commits.
-use Rattle.std.proofs.Common.{◌≡◌, ℕ, zero, suc, ◌+◌, ◌<◌, true, List, [], ◌∷◌, length, set, get_or, Option, Some, None, sym, ap, ◌∙◌, subst, arith}
+use Rattle.std.proofs.Common.{◌≡◌, ℕ, zero, suc, ◌+◌, ◌<◌, true, List, [], ◌∷◌, length, set, get_or, Option, Some, None, is_some, sym, refl, ap, ◌∙◌, subst, arith}
 use Rattle.acas_base.specs.Encounter.{Parts}
 use Rattle.acas_base.specs.declared.TheConstants.{CRAFTS}
 use Rattle.acas_base.specs.declared.entry.Entry.{Entry}
@@ -13,7 +13,7 @@ use Rattle.craft_view.specs.Kept.{IsActive, Kept}
 use Rattle.craft_view.specs.Views.{picture_of}
 use Rattle.flight.specs.Flight.{Moment}
 use Rattle.resume.proofs.Readying.{ready-commit}
-use Rattle.resume.specs.Crews.{AreReady, HasLooked, IsReady, Looked, LookedOn, LooksNext, MayLook}
+use Rattle.resume.specs.Crews.{AreReady, HasLooked, IsReady, LookedOn, LooksNext, MayLook}
 
 abbrev pub moment : Parts → ℕ → Moment
 moment e cycle = record { encounter = e; cycle = cycle }
@@ -35,20 +35,18 @@ may-look e K crafts own looks m em ho r same = go (get_or crafts own None) (r ow
         sits h = active-is e own (subst (IsActive e) h.own_is h.belongs.active)
 
 -- An active aircraft is there.
-pub looked-some : (e : Parts) (K : List Entry) (old new : List (Option Kept)) (own : ℕ) (m : Moment) → own < CRAFTS → AreReady e K old → is_active (air_of e) own ≡ true → Looked m own old new None → ⊥
+pub ready-some : (e : Parts) (K : List Entry) (crafts : List (Option Kept)) (own : ℕ) → own < CRAFTS → AreReady e K crafts → is_active (air_of e) own ≡ true → is_some (get_or crafts own None) ≡ true
 unfolding IsReady
-looked-some e K old new own m ho r a l = subst (IsReady e own (commits K own)) l.0 (r own ho) a
+ready-some e K crafts own ho r a = go (get_or crafts own None) (r own ho)
+  where
+    go : (o : Option Kept) → IsReady e own (commits K own) o → is_some o ≡ true
+    go None h = absurd (h a)
+    go (Some craft) h = refl
 
 within : (xs : List (Option Kept)) (k : ℕ) (x : Kept) → get_or xs k None ≡ Some x → k < length xs
 within [] k x e = absurd (cc)
 within (y ∷ ys) zero x e = omega arith
 within (y ∷ ys) (suc k) x e = let h : k < length ys = within ys k x e in omega arith
-
--- Who looked is active.
-pub looked-active : (e : Parts) (own cycle : ℕ) (old new : List (Option Kept)) (picture : Picture) (m : Moment) → m ≡ moment e cycle → LookedOn m own old new picture → is_active (air_of e) own ≡ true
-looked-active e own cycle old new picture m em l =
-    let looked : HasLooked e own cycle l.craft = subst (λ (x : Moment). HasLooked x.encounter own x.cycle l.craft) em l.looked in
-    active-is e own (subst (IsActive e) looked.own_is looked.belongs.active)
 
 -- After its commit it is ready again.
 pub ready-after : (e : Parts) (K J : List Entry) (old new : List (Option Kept)) (own position : ℕ) (picture : Picture) (m : Moment) → m ≡ moment e (commits K own + 1) → own < CRAFTS → AreReady e K old →

@@ -44,8 +44,3 @@ pub record LookedOn (moment : Moment) (own : ℕ) (old new : List (Option Kept))
   pub craft : Kept
   pub looked : HasLooked moment.encounter own moment.cycle craft
   pub new_is : new ≡ slice_set old own (Some craft)
-
--- Nobody is there, or the aircraft looked.
-abbrev pub Looked : Moment → ℕ → List (Option Kept) → List (Option Kept) → Option Picture → Type 0
-Looked moment own old new None = (slice_index_or old own None ≡ None) × (new ≡ old)
-Looked moment own old new (Some picture) = LookedOn moment own old new picture

@@ -1,8 +1,8 @@
 // The aircraft of a run, which look at each other.
-ghost use Rattle.std.specs.Prelude.{◌≡◌, ◌<◌, ◌≤◌, None, slice_index_or};
+ghost use Rattle.std.specs.Prelude.{◌≡◌, ◌<◌, ◌≤◌, None, IsSome, slice_index_or};
 ghost use Rattle.acas_base.specs.declared.TheConstants.{CRAFTS};
 ghost use Rattle.air_rules.specs.Journal.{commits};
-ghost use Rattle.resume.specs.Crews.{AreReady, IsReady, Looked, MayLook};
+ghost use Rattle.resume.specs.Crews.{AreReady, IsReady, LookedOn, MayLook};
 
 use acas_base::{CRAFTS, Encounter, Picture};
 use air_journal::AirState;
@@ -17,17 +17,17 @@ pub(crate) struct Crew {
 }
 
 impl Crew {
-    /// The picture of an aircraft in the next cycle, whose places are given; none where it isn't active.
-    #[inline(always)]
-    pub(crate) fn look(&mut self, own: u8, places: &Places) -> Option<Picture>
+    /// The picture of an active aircraft in the next cycle, whose places are given.
+    pub(crate) fn look(&mut self, own: u8, places: &Places) -> Picture
         requires own { own < CRAFTS }
+        requires there { IsSome (slice_index_or self.old.crafts own None) }
         requires left { places.now.cycle ≤ places.now.encounter.cycles }
         requires ready { MayLook places.now own (slice_index_or self.old.crafts own None) }
-        ensures { Looked places.now own self.old.crafts self.new.crafts result }
+        ensures { LookedOn places.now own self.old.crafts self.new.crafts result }
     {
         match &mut self.crafts[usize::from(own)] {
-            Some(craft) => Some(craft.look_among(places)),
-            None => None,
+            Some(craft) => craft.look_among(places),
+            None => unreachable!(),
         }
     }
 }

@@ -32,9 +32,11 @@ fn commit_of(
     ensures after { BeforeCommit (air_of enc.now) state.new.journal (own + 1) done }
 {
     enc.valid_law();
-    if let Some(picture) = crew.look(own, places) {
-        let _ = state.commit(own, &picture);
+    if !is_active(enc, own) {
+        return;
     }
+    let picture = crew.look(own, places);
+    let _ = state.commit(own, &picture);
 }
 
 // Sends all that an aircraft owes.
