@@ -6,6 +6,7 @@ pub mod Dues
 pub mod Ages
 pub mod Steps
 pub mod Finding
+pub mod Ordering
 pub mod Writing
 pub mod Pairs
 pub mod Bounds

@@ -12,7 +12,7 @@ use Rattle.acas_base.specs.declared.advisory.Intent.{Intent}
 use Rattle.acas_base.specs.declared.advisory.ResMsg.{ResMsg}
 use Rattle.air_journal.proofs.Ages.{age-few}
 use Rattle.air_journal.proofs.Bounds.{below, below-all, few-crafts}
-use Rattle.air_journal.proofs.Dues.{due-waits, first-due, nothing-due}
+use Rattle.air_journal.proofs.Dues.{due-waits, first-due, in-at, nothing-due}
 use Rattle.air_journal.proofs.Queued.{is-queue}
 use Rattle.air_journal.proofs.Soundness.{sound-of}
 use Rattle.air_journal.specs.Airs.{air_of}
@@ -29,6 +29,7 @@ use Rattle.air_journal.specs.declared.kept.Waiting.{Waiting}
 use Rattle.air_journal.specs.declared.pace.Behind.{Behind}
 use Rattle.air_rules.proofs.Searching.{some-or-none}
 use Rattle.air_rules.proofs.Waiting.{owed-within}
+use Rattle.air_rules.proofs.Pace.{active-ra, send-shows}
 use Rattle.air_rules.specs.Air.{is_active, rank_of}
 use Rattle.air_rules.specs.Due.{NothingDue, is_due}
 use Rattle.air_rules.specs.Journal.{commits}
@@ -111,6 +112,22 @@ this-waits {e} h i n p c f hi g l =
       here = subst (λ (ws : List Waiting). slice_get ws f.place ≡ Some f.waiting) (h.kept.queue f.sender i (omega arith) hi) l.place.here;
       in_time = subst (λ (m : ℕ). f.waiting.due ≤ m) g l.place.in_time;
     }
+
+-- What was found among all places was found among the aircraft.
+pub narrowed : {e : Parts} {w : Written} {t : Kept} → IsWhole e w t → (i n : ℕ) (f : Found) → i < CRAFTS → IsLeast t i n CRAFTS f → IsLeast t i n (length e.crafts) f
+narrowed {e} {w} {t} h i n f hi l =
+    let air = air_of e in
+    let few = few-crafts e h.valid in
+    let here : slice_get (waiting air w.entries f.sender i) f.place ≡ Some f.waiting = subst (λ (ws : List Waiting). slice_get ws f.place ≡ Some f.waiting) (h.kept.queue f.sender i l.sender hi) l.place.here in
+    let it = (is-queue air (sound-of e h.valid) w.entries h.legal f.sender i).holds f.waiting (in-at _ f.place f.waiting here) in
+    record {
+      sender = (sound-of e h.valid).counted f.sender (active-ra air f.sender (send-shows air w.entries h.legal f.waiting.send f.sender i it.sent it.from).sender_ra);
+      place = l.place;
+      least = λ s hs u a d. l.least s (omega arith) u a d;
+    }
+
+pub none-narrowed : {e : Parts} {w : Written} {t : Kept} → IsWhole e w t → (i n : ℕ) → NoneOf t i n CRAFTS → NoneOf t i n (length e.crafts)
+none-narrowed {e} h i n none = λ s hs u a. none s (let few = few-crafts e h.valid in omega arith) u a
 
 -- ---- who is behind
 

@@ -4,6 +4,7 @@ pub mod States
 pub mod Calls
 pub mod Cells
 pub mod Queues
+pub mod Orders
 pub mod Kept
 pub mod Rooms
 pub mod Pages

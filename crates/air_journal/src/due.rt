@@ -6,7 +6,8 @@ ghost use Rattle.air_journal.specs.Kept.{queue_at};
 ghost use Rattle.air_journal.specs.Queues.{AreOrdered, IsFirstDueAt, NoneDue};
 
 use crate::kept::Waiting;
-use crate::tables::Tables;
+use crate::tables::{Front, Tables};
+use acas_base::CRAFTS;
 
 /// A due copy and its place in its queue.
 #[derive(Clone, Copy)]
@@ -73,6 +74,37 @@ pub(crate) fn first_due_to(tables: &Tables, own: u8, made: u16, count: u8) -> Op
         best = earlier(best, sender, first_due(queue, made));
     }
     best
+}
+
+// A message is passed over in each turn but the last, and no more than a queue has room for.
+const TURNS: usize = 1800;
+
+/// The first copy that is due to an aircraft that has made so many commits. Mostly it is a copy of the first message to it,
+/// and no search is needed.
+pub(crate) fn next_due(tables: &mut Tables, own: u8, made: u16) -> Option<Found>
+    requires own { own < CRAFTS }
+    requires ordered { (sender : ℕ) → sender < CRAFTS → AreOrdered (queue_at tables.old sender own) }
+    ensures same { tables.new ≡ tables.old }
+    ensures found { MatchOption result (NoneOf tables.old own made CRAFTS) (IsLeast tables.old own made CRAFTS) }
+{
+    for _turn in 0..TURNS {
+        match tables.front(own) {
+            Front::Waits(sender) => {
+                let first = tables.queue(sender, own)[0];
+                if first.due <= made {
+                    return Some(Found {
+                        sender,
+                        place: 0,
+                        waiting: first,
+                    });
+                }
+                return first_due_to(tables, own, made, CRAFTS as u8);
+            }
+            Front::Passed => {}
+            Front::Unknown => return first_due_to(tables, own, made, CRAFTS as u8),
+        }
+    }
+    first_due_to(tables, own, made, CRAFTS as u8)
 }
 
 // Whether what waits is this copy, and due.

@@ -1,142 +1,67 @@
-// What is kept of all aircraft and pairs.
-ghost use Rattle.std.specs.Prelude.{◌≡◌, ℕ, ◌+◌, ◌*◌, ◌<◌, ◌≤◌, List, [], ◌++◌, length, replicate, IfOk, Some};
+// What is kept of all aircraft and pairs, and the order of the messages to each aircraft.
+ghost use Rattle.std.specs.Prelude.{◌≡◌, ℕ, ◌+◌, ◌<◌, ◌≤◌, [], length, replicate, IfOk, MatchBool, Some};
 ghost use Rattle.acas_base.specs.Fates.{copies_of};
 ghost use Rattle.acas_base.specs.declared.TheConstants.{CRAFTS};
-ghost use Rattle.air_journal.specs.Kept.{AfterCommit, AfterSend, AfterTake, IsBlank, RowIs, copies_from, link_at, made_at, no_link, nothing_made, queue_at, read_as, vrc_of, waiting_copy};
+ghost use Rattle.air_journal.specs.Kept.{AfterCommit, AfterSend, AfterTake, IsBlank, copies_from, link_at, made_at, queue_at, read_as, vrc_of};
+ghost use Rattle.air_journal.specs.Orders.{IsTold, StartsOtherwise, StartsWith};
+ghost use Rattle.air_journal.specs.Queues.{AreOrdered};
 ghost use Rattle.air_journal.specs.Rooms.{queue_room};
 ghost use Rattle.res_message.specs.Words.{flip_word, read_word};
 
-use crate::kept::{Complement, Link, Made, Waiting};
-use crate::queue::Queue;
-use acas_base::{CRAFTS, Cell, Cells, CopyPlan, Fate, Vrc};
-use res_message::{decode, flip, read_law};
+use crate::kept::{Link, Made, Waiting};
+use crate::order::{Arrival, Order};
+use crate::rows::Rows;
+use acas_base::{CRAFTS, Cells, Fate, Vrc};
 use std::alloc::{AllocError, Global};
 use std::marker::Model;
 
-/// What is kept of each aircraft, and of each of two aircraft against the other one.
+/// What is kept, by [`Rows`]. The orders only save searches.
 #[derive(Drop)]
 pub(crate) struct Tables {
-    made: Vec<Made>,
-    links: Vec<Link>,
-    queues: Vec<Queue>,
+    rows: Rows,
+    orders: Vec<Order>,
 }
 
 impl Model for Tables {
-    ghost use Rattle.air_journal.specs.Kept.{AreTables, Kept, kept_in};
+    ghost use Rattle.air_journal.specs.Kept.{Kept};
+    ghost use Rattle.air_journal.specs.Orders.{AreOrders};
 
     ghost Value = { Kept };
 
-    ghost view = { λ t. kept_in t.made.items t.links.items t.queues.items };
+    ghost view = { λ t. t.rows };
 
-    ghost invariant = { λ t. AreTables (kept_in t.made.items t.links.items t.queues.items) };
+    ghost invariant = { λ t. AreOrders t.rows t.orders.items };
 }
 
-// How many ordered pairs there are.
-const PAIRS: usize = 256;
-
-fn new_made(alloc: Global) -> Result<Vec<Made>, AllocError>
-    ensures { IfOk result (λ made. made.items ≡ replicate CRAFTS nothing_made) }
-{
-    let mut made = Vec::with_capacity(alloc, CRAFTS)?;
-    for _own in 0..CRAFTS {
-        made.push(Made {
-            commits: 0,
-            many: false,
-        })?;
-    }
-    Ok(made)
-}
-
-fn new_links(alloc: Global) -> Result<Vec<Link>, AllocError>
-    ensures { IfOk result (λ links. links.items ≡ replicate 256 no_link) }
-{
-    let mut links = Vec::with_capacity(alloc, PAIRS)?;
-    for _pair in 0..PAIRS {
-        links.push(Link {
-            cell: Cell::Clear,
-            said: Vrc::Nil,
-            sends: 0,
-            sent: false,
-            complement: None,
-        })?;
-    }
-    Ok(links)
-}
-
-fn new_queues(alloc: Global) -> Result<Vec<Queue>, AllocError>
-    ensures { IfOk result (λ queues. queues.items ≡ replicate 256 []) }
-{
-    let mut queues = Vec::with_capacity(alloc, PAIRS)?;
-    for _pair in 0..PAIRS {
-        queues.push(Queue::new(alloc)?)?;
-    }
-    Ok(queues)
-}
-
-// The place of an ordered pair.
-fn pair_of(own: u8, other: u8) -> usize
-    ensures { result ≡ own * CRAFTS + other }
-{
-    usize::from(own) * CRAFTS + usize::from(other)
-}
-
-// A message on its way: its word, its complement, the position of its send, and how many commits its receiver has
-// made.
+/// What the first message to an aircraft tells.
 #[derive(Clone, Copy)]
-struct Message {
-    word: u64,
-    vrc: Vrc,
-    send: u32,
-    commits: u16,
+pub(crate) enum Front {
+    /// The first copy from this sender is the first that waits.
+    Waits(u8),
+    /// No copy of it waited, and it was passed over.
+    Passed,
+    /// No message is known.
+    Unknown,
 }
 
-// The complement that the taker of a copy reads, if it isn't spoilt. Most copies aren't.
-fn reads(message: Message, mask: u8) -> Option<Vrc>
-    requires { vrc_of (read_word message.word) ≡ Some message.vrc }
-    ensures { result ≡ vrc_of (read_word (flip_word message.word mask)) }
+fn new_orders(alloc: Global) -> Result<Vec<Order>, AllocError>
+    ensures { IfOk result (λ orders. orders.items ≡ replicate CRAFTS (Some [])) }
 {
-    read_law();
-    if mask == 0 {
-        return Some(message.vrc);
+    let mut orders = Vec::with_capacity(alloc, CRAFTS)?;
+    for _own in 0..CRAFTS {
+        orders.push(Order::new(alloc)?)?;
     }
-    match decode(flip(message.word, mask)) {
-        Some(read) => Some(read.vrc),
-        None => None,
-    }
+    Ok(orders)
 }
 
-fn copy_of(message: Message, copy: u8, plan: CopyPlan) -> Waiting
-    requires word { vrc_of (read_word message.word) ≡ Some message.vrc }
-    requires commits { message.commits ≤ 600 }
-    ensures { result ≡ waiting_copy (read_as flip_word read_word message.word) message.send message.commits copy plan }
+// Whether the first copy of a queue is of this send.
+fn starts_with(queue: &[Waiting], send: u32) -> bool
+    ensures { MatchBool result (StartsWith queue.now send) (StartsOtherwise queue.now send) }
 {
-    Waiting {
-        send: message.send,
-        copy,
-        due: message.commits + u16::from(plan.hold),
-        reads: reads(message, plan.mask),
+    match queue.get(0) {
+        Some(waiting) => waiting.send == send,
+        None => false,
     }
-}
-
-// Puts the copies of a message into its queue.
-fn push_copies(queue: &mut Queue, message: Message, fate: &Fate)
-    requires room { length queue.old + 3 ≤ queue_room }
-    requires word { vrc_of (read_word message.word) ≡ Some message.vrc }
-    requires commits { message.commits ≤ 600 }
-    ensures { queue.new ≡ queue.old ++ copies_from (read_as flip_word read_word message.word) message.send message.commits 0 (copies_of fate.now) }
-{
-    if fate.copies == 0 {
-        return;
-    }
-    queue.push(copy_of(message, 0, fate.first));
-    if fate.copies == 1 {
-        return;
-    }
-    queue.push(copy_of(message, 1, fate.second));
-    if fate.copies == 2 {
-        return;
-    }
-    queue.push(copy_of(message, 2, fate.third));
 }
 
 impl Tables {
@@ -144,21 +69,16 @@ impl Tables {
     pub(crate) fn new(alloc: Global) -> Result<Self, AllocError>
         ensures { IfOk result (λ tables. IsBlank tables) }
     {
-        let made = new_made(alloc)?;
-        let links = new_links(alloc)?;
-        let queues = new_queues(alloc)?;
-        Ok(Tables {
-            made,
-            links,
-            queues,
-        })
+        let rows = Rows::new(alloc)?;
+        let orders = new_orders(alloc)?;
+        Ok(Tables { rows, orders })
     }
 
     pub(crate) fn made(&self, own: u8) -> Made
         requires { own < CRAFTS }
         ensures { result ≡ made_at self.now own }
     {
-        self.made[usize::from(own)]
+        self.rows.made(own)
     }
 
     pub(crate) fn link(&self, own: u8, other: u8) -> Link
@@ -166,7 +86,7 @@ impl Tables {
         requires other { other < CRAFTS }
         ensures { result ≡ link_at self.now own other }
     {
-        self.links[pair_of(own, other)]
+        self.rows.link(own, other)
     }
 
     pub(crate) fn queue(&self, sender: u8, receiver: u8) -> &[Waiting]
@@ -174,7 +94,24 @@ impl Tables {
         requires receiver { receiver < CRAFTS }
         ensures { result.now ≡ queue_at self.now sender receiver }
     {
-        self.queues[pair_of(sender, receiver)].as_slice()
+        self.rows.queue(sender, receiver)
+    }
+
+    /// Looks at the first message to an aircraft, and passes over it where none of its copies waits.
+    pub(crate) fn front(&mut self, own: u8) -> Front
+        requires own { own < CRAFTS }
+        requires ordered { (sender : ℕ) → sender < CRAFTS → AreOrdered (queue_at self.old sender own) }
+        ensures same { self.new ≡ self.old }
+        ensures told { IsTold self.old own result }
+    {
+        let Some(arrival) = self.orders[usize::from(own)].front() else {
+            return Front::Unknown;
+        };
+        if starts_with(self.rows.queue(arrival.sender, own), arrival.send) {
+            return Front::Waits(arrival.sender);
+        }
+        self.orders[usize::from(own)].pass();
+        Front::Passed
     }
 
     /// A message of this complement and word, sent at this position, with the copies of its fate.
@@ -187,23 +124,8 @@ impl Tables {
         requires room { length (queue_at self.old own target) + 3 ≤ queue_room }
         ensures { AfterSend self.old self.new own target vrc (copies_from (read_as flip_word read_word word) send (made_at self.old target).commits 0 (copies_of fate.now)) }
     {
-        let pair = pair_of(own, target);
-        let commits = self.made[usize::from(target)].commits;
-        let link = self.links[pair];
-        self.links[pair] = Link {
-            cell: link.cell,
-            said: vrc,
-            sends: link.sends + 1,
-            sent: true,
-            complement: link.complement,
-        };
-        let message = Message {
-            word,
-            vrc,
-            send,
-            commits,
-        };
-        push_copies(&mut self.queues[pair], message, fate);
+        self.rows.send(own, target, vrc, word, send, fate);
+        self.orders[usize::from(target)].push(Arrival { send, sender: own });
     }
 
     /// A take of the copy at a place of its queue, of which this complement was read, or none.
@@ -213,19 +135,7 @@ impl Tables {
         requires place { place < length (queue_at self.old sender own) }
         ensures { AfterTake self.old self.new own sender place reads }
     {
-        if let Some(vrc) = reads {
-            let commits = self.made[usize::from(own)].commits;
-            let pair = pair_of(own, sender);
-            let link = self.links[pair];
-            self.links[pair] = Link {
-                cell: link.cell,
-                said: link.said,
-                sends: link.sends,
-                sent: link.sent,
-                complement: Some(Complement { vrc, commits }),
-            };
-        }
-        self.queues[pair_of(sender, own)].remove(place);
+        self.rows.take(own, sender, place, reads);
     }
 
     /// A commit with these cells.
@@ -235,28 +145,6 @@ impl Tables {
         requires size { length cells.now.list ≡ CRAFTS }
         ensures { AfterCommit self.old self.new own cells.now many }
     {
-        let commits = self.made[usize::from(own)].commits + 1;
-        self.made[usize::from(own)] = Made { commits, many };
-        put_cells(&mut self.links, own, cells);
-    }
-}
-
-// Puts new cells into an aircraft's row; nothing was sent since.
-fn put_cells(links: &mut Vec<Link>, own: u8, cells: &Cells)
-    requires own { own < CRAFTS }
-    requires pairs { length links.old.items ≡ 256 }
-    requires size { length cells.now.list ≡ CRAFTS }
-    ensures { RowIs links.old.items links.new.items own cells.now }
-{
-    for other in 0..CRAFTS as u8 {
-        let pair = pair_of(own, other);
-        let link = links[pair];
-        links[pair] = Link {
-            cell: cells.list[usize::from(other)],
-            said: link.said,
-            sends: link.sends,
-            sent: false,
-            complement: link.complement,
-        };
+        self.rows.commit(own, cells, many);
     }
 }

@@ -8,7 +8,7 @@ ghost use Rattle.craft_view.specs.Kept.{IsActive};
 
 use crate::answers::{Took, TookThis};
 use crate::crafts::count_of;
-use crate::due::{Found, find_copy, first_due_to};
+use crate::due::{Found, find_copy, next_due};
 use crate::state::AirState;
 
 impl AirState {
@@ -37,9 +37,8 @@ impl AirState {
         ensures takes { Takes (air_of self.old.encounter) self.old.journal own self.new.journal result }
         ensures legal { IsLegal (air_of self.new.encounter) self.new.journal }
     {
-        let count = count_of(&self.encounter);
         let made = self.tables.made(own).commits;
-        match first_due_to(&self.tables, own, made, count) {
+        match next_due(&mut self.tables, own, made) {
             None => Took::Nothing,
             Some(found) => {
                 let (position, good) = self.take_found(own, found);

@@ -1,10 +1,9 @@
-use Rattle.std.proofs.Common.{◌≡◌, ℕ, ◌<◌, true, sym, ap, ◌∙◌, subst, refl, arith}
+use Rattle.std.proofs.Common.{◌≡◌, ◌<◌, true, sym, ap, ◌∙◌, subst}
 use Rattle.acas_base.specs.declared.TheConstants.{CRAFTS}
-use Rattle.air_journal.proofs.Bounds.{active-is, below-all, few-crafts}
-use Rattle.air_journal.proofs.Telling.{all-ordered, count-is, found-first, found-waits, none-due}
+use Rattle.air_journal.proofs.Bounds.{active-is, below-all}
+use Rattle.air_journal.proofs.Telling.{all-ordered, count-is, found-first, found-waits, narrowed, none-due, none-narrowed}
 use Rattle.air_journal.specs.Airs.{air_of}
-use Rattle.air_journal.specs.Calls.{IsFirstDue}
-use Rattle.air_journal.specs.Found.{IsLeast, NoneOf, WaitsAt}
+use Rattle.air_journal.specs.Calls.{IsFirstDue, TookCopy}
 use Rattle.air_journal.specs.States.{State}
 use Rattle.air_rules.specs.Air.{is_active}
 use Rattle.air_rules.specs.Due.{NothingDue}
@@ -22,28 +21,30 @@ own c = below-all c.self.inside.encounter c.self.invariant.valid c.args.own (act
 count : (c : After-made-made) → c.made-made.result.commits ≡ commits c.self.inside.journal.entries c.args.own
 count c = ap (λ m. m.commits) c.made-made.ensures ∙ count-is c.self.invariant c.args.own (own c)
 
-pub first_due_to-requires-clause-ordered : goal.first_due_to-requires-clause-ordered
-first_due_to-requires-clause-ordered c = λ b hb. all-ordered c.self.invariant c.args.own b (own (goal.at.first_due_to-requires-clause-ordered c).After-made-made) (omega (arith, few-crafts c.self.inside.encounter c.self.invariant.valid, c.count_of-count.ensures.value))
+pub next_due-requires-clause-ordered : goal.next_due-requires-clause-ordered
+next_due-requires-clause-ordered c = λ b hb. all-ordered c.self.invariant c.args.own b (own (goal.at.next_due-requires-clause-ordered c).After-made-made) hb
 
 pub take_found-position-requires-clause-waits : goal.take_found-position-requires-clause-waits
 take_found-position-requires-clause-waits c =
     let a = (goal.at.take_found-position-requires-clause-waits c).After-made-made in
-    let l = subst (λ (k : ℕ). IsLeast c.self.inside.tables c.args.own c.made-made.result.commits k c.in-Some.found) c.count_of-count.ensures.value c.in-Some.ensures in
-    subst (λ (s : State). WaitsAt (air_of s.encounter) s.journal c.args.own c.in-Some.found) c.self.view_is (found-waits c.self.invariant c.args.own c.made-made.result.commits c.in-Some.found (own a) (count a) l)
+    let l = narrowed c.self.invariant c.args.own c.made-made.result.commits c.in-Some.found (own a) c.in-Some.ensures.found in
+    found-waits c.self.invariant c.args.own c.made-made.result.commits c.in-Some.found (own a) (count a) l
 
 pub returns-in-None-clause-takes : goal.returns-in-None-clause-takes
 returns-in-None-clause-takes c =
     let a = (goal.at.returns-in-None-clause-takes c).After-made-made in
-    let n = subst (λ (k : ℕ). NoneOf c.self.inside.tables c.args.own c.made-made.result.commits k) c.count_of-count.ensures.value c.in-None.ensures in
-    (subst (λ (s : State). NothingDue (air_of s.encounter) s.journal c.args.own) c.self.view_is (none-due c.self.invariant c.args.own c.made-made.result.commits (own a) (count a) n), refl)
+    let n = none-narrowed c.self.invariant c.args.own c.made-made.result.commits c.in-None.ensures.found in
+    (subst (λ (s : State). NothingDue (air_of s.encounter) s.journal c.args.own) c.self.view_is (none-due c.self.invariant c.args.own c.made-made.result.commits (own a) (count a) n), ap (λ (s : State). s.journal) c.self.view_is)
 
 pub returns-in-Some-clause-takes : goal.returns-in-Some-clause-takes
 returns-in-Some-clause-takes c =
     let a = (goal.at.returns-in-Some-clause-takes c).After-made-made in
-    let l = subst (λ (k : ℕ). IsLeast c.self.inside.tables c.args.own c.made-made.result.commits k c.in-Some.found) c.count_of-count.ensures.value c.in-Some.ensures in
+    let f = c.in-Some.found in
+    let t = c.take_found-position in
+    let l = narrowed c.self.invariant c.args.own c.made-made.result.commits f (own a) c.in-Some.ensures.found in
     record {
-      send = c.in-Some.found.waiting.send;
-      copy = c.in-Some.found.waiting.copy;
-      first = subst (λ (s : State). IsFirstDue (air_of s.encounter) s.journal c.args.own c.in-Some.found.waiting.send c.in-Some.found.waiting.copy) c.self.view_is (found-first c.self.invariant c.args.own c.made-made.result.commits c.in-Some.found (own a) (count a) l);
-      took = c.take_found-position.ensures.took;
+      send = f.waiting.send;
+      copy = f.waiting.copy;
+      first = subst (λ (s : State). IsFirstDue (air_of s.encounter) s.journal c.args.own f.waiting.send f.waiting.copy) c.self.view_is (found-first c.self.invariant c.args.own c.made-made.result.commits f (own a) (count a) l);
+      took = subst (λ (s : State). TookCopy (air_of s.encounter) s.journal c.args.own f.waiting.send f.waiting.copy t.new.self.journal t.result.0 t.result.1) c.self.view_is t.ensures.took;
     }

@@ -1,7 +1,7 @@
 use Rattle.std.proofs.Common.{◌+◌, ◌*◌, List, [], get_or, ap, ◌∙◌, arith}
 use Rattle.std.proofs.lemmas.List.{get_or-replicate}
 use Rattle.acas_base.specs.declared.TheConstants.{CRAFTS}
-use Rattle.air_journal.proofs.tables.Tables.new.Goals as goal
+use Rattle.air_journal.proofs.rows.Rows.new.Goals as goal
 use Rattle.air_journal.specs.Kept.{no_link, nothing_made}
 use Rattle.air_journal.specs.declared.kept.Link.{Link}
 use Rattle.air_journal.specs.declared.kept.Made.{Made}

@@ -2,7 +2,7 @@ use Rattle.std.proofs.Common.{◌≡◌, ◌≢◌, ℕ, ◌+◌, ◌*◌, ◌<�
 use Rattle.acas_base.specs.declared.TheConstants.{CRAFTS}
 use Rattle.air_rules.specs.Journal.{cell_at}
 use Rattle.air_journal.specs.Kept.{committed_link, no_link}
-use Rattle.air_journal.proofs.tables.put_cells.Given as goal
+use Rattle.air_journal.proofs.rows.put_cells.Given as goal
 
 abbrev pub invariant-loop-other : goal.invariant-loop-other
 invariant-loop-other l = record {

@@ -1,7 +1,7 @@
 use Rattle.std.proofs.Common.{ℕ, sym, ap, ◌∙◌}
 use Rattle.air_journal.specs.Kept.{vrc_of}
 use Rattle.res_message.specs.Words.{flip_word, read_word}
-use Rattle.air_journal.proofs.tables.reads.Goals as goal
+use Rattle.air_journal.proofs.rows.reads.Goals as goal
 
 pub returns-then-mask-eq0 : goal.returns-then-mask-eq0
 returns-then-mask-eq0 c =
