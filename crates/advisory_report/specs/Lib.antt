@@ -1,3 +1,4 @@
+pub mod Cells
 pub mod Composite
 pub mod Phrases
 pub mod Report

@@ -1,12 +1,14 @@
 //! What an aircraft's crew hears, and the lines of the report: the composite advisory of a cycle, the phrase from one composite
-//! to the next, and the line that tells both.
+//! to the next, and the line that tells both. And the text of one cell, which tells what is advised against one aircraft.
 #![tactic(auto)]
 
 mod aural;
+mod cells;
 mod composite;
 mod report;
 
 pub use aural::{Aural, aural_of};
+pub use cells::{CELL_BYTES, add_cell};
 pub use composite::{Composite, composite_of};
 pub use report::line;
 
