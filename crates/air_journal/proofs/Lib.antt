@@ -16,3 +16,4 @@ pub mod Places
 pub mod Seeing
 pub mod Worlds
 pub mod Alike
+pub mod WellFormed

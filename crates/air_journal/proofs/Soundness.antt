@@ -83,7 +83,7 @@ is-mask e is sent copy plan found_at =
 -- ---- the words of messages
 
 -- An aircraft that resolves has an address.
-message-address : (e : Parts) → IsEncounter e → (own : ℕ) (message : ResMsg) → IsMessageOf (air_of e) own message → IsAddress message.sender
+pub message-address : (e : Parts) → IsEncounter e → (own : ℕ) (message : ResMsg) → IsMessageOf (air_of e) own message → IsAddress message.sender
 message-address e is own message sent = by_craft (slice_get e.crafts own) refl sent.resolves sent.sender
   where
     by_craft : (o : Option CraftSpec) → slice_get e.crafts own ≡ o → option_map_or is_ra_kind (option_map (λ (craft : CraftSpec). craft.kind) o) false ≡ true

@@ -7,6 +7,7 @@ pub mod Queues
 pub mod Orders
 pub mod Kept
 pub mod Rooms
+pub mod Ranges
 pub mod Pages
 pub mod Written
 pub mod Found

@@ -1,9 +1,12 @@
 // What the rules of the journal may rest on.
-ghost use Rattle.std.specs.Prelude.{ℕ};
+ghost use Rattle.std.specs.Prelude.{ℕ, List, All, length};
 ghost use Rattle.acas_base.specs.Encounter.{Parts, IsEncounter};
+ghost use Rattle.acas_base.specs.declared.entry.Entry.{Entry};
 ghost use Rattle.air_journal.specs.Airs.{air_of};
 ghost use Rattle.air_journal.specs.Pinned.{HasSmallCopies, IsAirOf};
+ghost use Rattle.air_journal.specs.Ranges.{IsEntry};
 ghost use Rattle.air_rules.specs.Air.{IsSound};
+ghost use Rattle.air_rules.specs.Rules.{IsLegal};
 ghost use Rattle.air_rules.specs.Worlds.{SeesTheSame};
 ghost use Rattle.craft_view.specs.Facts.{SeesAlike};
 
@@ -24,4 +27,10 @@ pub fn air_law()
 /// with equal complements in force before its commits it commits equal cells up to that cycle.
 pub fn alike_law()
     ensures { (e f : Parts) (own last : ℕ) → SeesAlike e f own last → SeesTheSame (air_of e) (air_of f) own last }
+{}
+
+/// A law: in each entry of a legal journal of an encounter all parts are in their ranges, and in the cells of a
+/// commit the own place and those past the last aircraft are Clear.
+pub fn entries_law()
+    ensures { (e : Parts) (journal : List Entry) → IsEncounter e → IsLegal (air_of e) journal → All (IsEntry (length e.crafts)) journal }
 {}

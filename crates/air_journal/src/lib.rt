@@ -28,6 +28,6 @@ mod takes;
 
 pub use answers::{Commit, Sent, Took, TookThis};
 pub use kept::Waiting;
-pub use laws::{air_law, alike_law, sound_law};
+pub use laws::{air_law, alike_law, entries_law, sound_law};
 pub use state::AirState;
 pub use state_laws::{priority_law, settled_law, worlds_law};
