@@ -1,0 +1,54 @@
+-- What was put, line by line.
+use Rattle.std.proofs.Common.{◌≡◌, ℕ, zero, suc, ◌+◌, ◌-◌, ◌*◌, ◌<◌, ◌≤◌, ◌^◌, List, [], ◌∷◌, ◌++◌, length, map, take, reverse, get_or, Some, sym, ap, ◌∙◌, subst, arith, add-one, min, append_assoc, length-append}
+use Rattle.std.specs.Prelude.{All, slice_get}
+use Rattle.std.specs.List.{flat_map, range_with_len}
+use Rattle.std.proofs.lemmas.List.{append-nil, map-append, reverse-append}
+use Rattle.std.proofs.lemmas.List.Elements.{All-get_or, All-head, All-nil, All-push, All-tail}
+use Rattle.std.proofs.lemmas.Option.{get_or_from_slice_get, slice_get_within}
+use Rattle.std.proofs.Math.Seq.{take-suc}
+use Rattle.acas_base.specs.declared.entry.Entry.{Entry}
+use Rattle.rec_text.specs.Counting.{counted}
+use Rattle.rec_text.specs.Entries.{entry_line}
+
+-- The lines of the entries up to the next one.
+pub lines-more : (count : ℕ) (entries : List Entry) (at : ℕ) (entry : Entry) → slice_get entries at ≡ Some entry → map (entry_line count) (take (at + 1) entries) ≡ map (entry_line count) (take at entries) ++ entry_line count entry ∷ []
+lines-more count entries at entry is =
+    let here : get_or entries at entry ≡ entry = get_or_from_slice_get entries at entry entry is in
+    ap (λ (n : ℕ). map (entry_line count) (take n entries)) (add-one at) ∙ ap (map (entry_line count)) (take-suc entries at entry (slice_get_within entries at entry is))
+    ∙ map-append (entry_line count) (take at entries) (get_or entries at entry ∷ []) ∙ ap (λ (e : Entry). map (entry_line count) (take at entries) ++ entry_line count e ∷ []) here
+
+-- What holds of all entries holds of those in order.
+all-back : (P : Entry → Type 0) (journal : List Entry) → All P journal → All P (reverse journal)
+all-back P [] all = All-nil P
+all-back P (entry ∷ journal) all =
+    subst (All P) (sym (reverse-append (entry ∷ []) journal)) (All-push P (reverse journal) entry (all-back P journal (All-tail P entry journal all)) (All-head P entry journal all))
+
+pub in-order : (P : Entry → Type 0) (journal : List Entry) (at : ℕ) (entry : Entry) → All P journal → slice_get (reverse journal) at ≡ Some entry → P entry
+in-order P journal at entry all is =
+    subst P (get_or_from_slice_get (reverse journal) at entry entry is) (All-get_or P (reverse journal) at entry (slice_get_within (reverse journal) at entry is) (all-back P journal all))
+
+-- What a function gives for the next number of a range.
+pub flat-more : {X : Type 0} (f : ℕ → List X) (first n : ℕ) → flat_map f (range_with_len first (n + 1)) ≡ flat_map f (range_with_len first n) ++ f (first + n)
+flat-more f first n = ap (λ (k : ℕ). flat_map f (range_with_len first k)) (add-one n) ∙ by_suc f first n
+  where
+    by_suc : {X : Type 0} (f : ℕ → List X) (first n : ℕ) → flat_map f (range_with_len first (suc n)) ≡ flat_map f (range_with_len first n) ++ f (first + n)
+    by_suc f first zero = append-nil (f first) ∙ ap f (omega arith)
+    by_suc f first (suc n) =
+        let next : (first + 1) + n ≡ first + suc n = omega arith in
+        ap (λ xs. f first ++ xs) (by_suc f (first + 1) n ∙ ap (λ k. flat_map f (range_with_len (first + 1) n) ++ f k) next) ∙ sym (append_assoc (f first) (flat_map f (range_with_len (first + 1) n)) (f (first + suc n)))
+
+-- ---- counting
+
+pub counted-few : (count : ℕ) (lines : List (List ℕ)) → count + length lines < 2 ^ 32 → counted count lines ≡ count + length lines
+counted-few count [] few = omega arith
+counted-few count (line ∷ rest) few =
+    let next : min (count + 1) (2 ^ 32 - 1) ≡ count + 1 = omega arith in
+    ap (λ (n : ℕ). counted n rest) next ∙ counted-few (count + 1) rest (omega arith) ∙ (omega arith)
+
+-- As many lines as numbers times the most for each.
+pub length-flat : {X : Type 0} (f : ℕ → List X) (most first n : ℕ) → ((k : ℕ) → length (f k) ≤ most) → length (flat_map f (range_with_len first n)) ≤ n * most
+length-flat f most first zero h = omega arith
+length-flat f most first (suc n) h =
+    let one = h first in
+    let rest = length-flat f most (first + 1) n h in
+    omega (arith, length-append (f first) (flat_map f (range_with_len (first + 1) n)))

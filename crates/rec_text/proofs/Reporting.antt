@@ -1,0 +1,58 @@
+-- The report, commit by commit.
+use Rattle.std.proofs.Common.{◌≡◌, ℕ, ◌-◌, ◌*◌, ◌<◌, ◌≤◌, ◌^◌, List, length, get_or, subst, Option, Some, None, sym, refl, ap, ◌∙◌, arith, inl}
+use Rattle.std.specs.Prelude.{option_to_list, slice_get}
+use Rattle.std.specs.Option.{option_map_or}
+use Rattle.std.proofs.Math.Nat.{mul-le-mul}
+use Rattle.std.proofs.lemmas.Option.{slice_get_read}
+use Rattle.acas_base.specs.Encounter.{IsEncounter, Parts}
+use Rattle.acas_base.specs.declared.advisory.Cells.{Cells}
+use Rattle.acas_base.specs.declared.craft.CraftSpec.{CraftSpec}
+use Rattle.acas_base.specs.declared.entry.Entry.{Entry}
+use Rattle.advisory_report.specs.Composite.{clear}
+use Rattle.advisory_report.specs.declared.composite.Composite.{Composite}
+use Rattle.air_journal.proofs.Adding.{no-cells}
+use Rattle.air_journal.proofs.Bounds.{few-crafts}
+use Rattle.air_journal.specs.Airs.{address_of, air_of}
+use Rattle.air_journal.specs.Cells.{commit_cells}
+use Rattle.air_rules.specs.Rules.{IsLegal}
+use Rattle.rec_text.proofs.Putting.{length-flat}
+use Rattle.rec_text.specs.Report.{commit_report, report_in, report_lines, report_of, shown, shown_in}
+
+-- Before its first commit an aircraft shows nothing.
+pub shown-first : (e : Parts) (journal : List Entry) → IsLegal (air_of e) journal → (own : ℕ) → shown_in journal 0 own ≡ clear
+shown-first e journal legal own = ap shown (no-cells (air_of e) journal legal own 0 (inl refl))
+
+-- The address of an aircraft that was read from the list.
+pub address-is : (e : Parts) (crafts : List CraftSpec) (own : ℕ) (craft : CraftSpec) → crafts ≡ e.crafts → own < length crafts → craft ≡ get_or crafts own craft → craft.address ≡ address_of e own
+address-is e crafts own craft same within is =
+    let at : slice_get e.crafts own ≡ Some craft = subst (λ xs. slice_get xs own ≡ Some craft) same (slice_get_read crafts (length crafts) own craft refl within is) in
+    ap (λ (o : Option CraftSpec). option_map_or (λ (c : CraftSpec). c.address) o 0) (sym at)
+
+-- The line for an aircraft's commit of a cycle, from what was read of it.
+pub report-is : (e : Parts) (journal : List Entry) (cycle own address : ℕ) (before : Composite) (cells : Option Cells) →
+    address ≡ address_of e own → before ≡ shown_in journal (cycle - 1) own → cells ≡ commit_cells journal own cycle → commit_report cycle address before cells ≡ report_of e journal cycle own
+report-is e journal cycle own address before cells a b d =
+    ap (λ (n : ℕ). commit_report cycle n before cells) a ∙ ap (λ (x : Composite). commit_report cycle (address_of e own) x cells) b
+    ∙ ap (commit_report cycle (address_of e own) (shown_in journal (cycle - 1) own)) d
+
+-- ---- how many lines there are
+
+one-at-most : {X : Type 0} (o : Option X) → length (option_to_list o) ≤ 1
+one-at-most None = omega arith
+one-at-most (Some x) = omega arith
+
+of-commit : (cycle address : ℕ) (before : Composite) (cells : Option Cells) → length (commit_report cycle address before cells) ≤ 1
+of-commit cycle address before None = omega arith
+of-commit cycle address before (Some cells) = one-at-most _
+
+pub few-lines : (e : Parts) (journal : List Entry) → IsEncounter e → length (report_lines e journal) < 2 ^ 32
+unfolding report_lines
+few-lines e journal is =
+    let n = length e.crafts in
+    let crafts : n ≤ 16 = few-crafts e is in
+    let cycles : e.cycles ≤ 600 = is.run.length.1 in
+    let one : (k : ℕ) → length (report_in e journal k) ≤ n * 1 = λ k. length-flat (report_of e journal k) 1 0 n (λ own. of-commit k _ _ (commit_cells journal own k)) in
+    let all : length (report_lines e journal) ≤ e.cycles * (n * 1) = length-flat (report_in e journal) (n * 1) 1 e.cycles one in
+    let some : n * 1 ≤ 16 = omega arith in
+    let most : e.cycles * (n * 1) ≤ 600 * 16 = mul-le-mul cycles some in
+    omega arith

@@ -1,0 +1,15 @@
+use Rattle.rec_text.proofs.Joining.{commit-spelled}
+use Rattle.rec_text.proofs.entries.commit_line.Goals as goal
+
+pub returns : goal.returns
+returns c =
+    rw (
+      c.text-3.ensures.added,
+      c.add_cells.ensures.added,
+      c.u16-2.ensures.added,
+      c.text-2.ensures.added,
+      c.u16.ensures.added,
+      c.from.ensures,
+      c.text.ensures.added,
+      c.new-line.ensures,
+    ) (commit-spelled c.args.own c.args.cycle c.args.count c.args.cells.now)

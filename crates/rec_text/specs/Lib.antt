@@ -1,0 +1,4 @@
+pub mod Entries
+pub mod Report
+pub mod Counting
+pub mod Recording

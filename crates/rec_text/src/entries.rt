@@ -1,0 +1,120 @@
+// The lines of a journal's entries.
+ghost use Rattle.std.specs.Prelude.{◌≡◌, ◌+◌, ◌*◌, ◌≤◌, ◌<◌, ◌^◌, ◌∷◌, ◌++◌, length, take};
+ghost use Rattle.std.specs.Fmt.{decimal};
+ghost use Rattle.std.specs.List.{flat_map};
+ghost use Rattle.acas_base.specs.declared.TheConstants.{CRAFTS};
+ghost use Rattle.acas_base.specs.declared.entry.Entry.{Entry};
+ghost use Rattle.acas_text.specs.Hex.{hex};
+ghost use Rattle.acas_text.specs.declared.line.TheConstants.{LINE_BYTES};
+ghost use Rattle.advisory_report.specs.Cells.{cell_text};
+ghost use Rattle.advisory_report.specs.declared.cells.TheConstants.{CELL_BYTES};
+ghost use Rattle.air_journal.specs.Ranges.{IsEntry};
+ghost use Rattle.rec_text.specs.Entries.{entry_line, entry_lines, outcome};
+
+use acas_base::{CRAFTS, Cells, Entry};
+use acas_lines::LineSink;
+use acas_text::Line;
+use advisory_report::{CELL_BYTES, add_cell};
+use air_journal::AirState;
+
+fn outcome_letter(good: bool) -> &'static str
+    ensures text { result.now ≡ outcome good }
+    ensures short { length result.now ≤ 1 }
+{
+    if good { "g" } else { "b" }
+}
+
+// Adds the cells for so many aircraft, each after a comma.
+fn add_cells(line: &mut Line, cells: &Cells, count: u8)
+    requires count { count ≤ CRAFTS }
+    requires room { length line.old + (CELL_BYTES + 1) * CRAFTS ≤ LINE_BYTES }
+    ensures added { line.new ≡ line.old ++ flat_map (λ cell. 44 ∷ cell_text cell) (take count cells.now.list) }
+    ensures short { length line.new ≤ length line.old + (CELL_BYTES + 1) * CRAFTS }
+{
+    for place in 0..usize::from(count) {
+        line.text(",");
+        add_cell(line, &cells.list[place]);
+    }
+}
+
+fn commit_line(own: u8, cycle: u16, cells: &Cells, count: u8) -> Line
+    requires { count ≤ CRAFTS }
+    ensures { result ≡ entry_line count (Entry.Commit own cycle cells.now) }
+{
+    let mut line = Line::new();
+    line.text("c,");
+    line.u16(u16::from(own));
+    line.text(",");
+    line.u16(cycle);
+    add_cells(&mut line, cells, count);
+    line.text("\n");
+    line
+}
+
+fn send_line(own: u8, target: u8, number: u16, word: u64, count: u8) -> Line
+    requires { word < 2 ^ 56 }
+    ensures { result ≡ entry_line count (Entry.Send own target number word) }
+{
+    let mut line = Line::new();
+    line.text("s,");
+    line.u16(u16::from(own));
+    line.text(",");
+    line.u16(u16::from(target));
+    line.text(",");
+    line.u16(number);
+    line.text(",");
+    line.hex(word, 14);
+    line.text("\n");
+    line
+}
+
+fn take_line(own: u8, send: u32, copy: u8, good: bool, count: u8) -> Line
+    ensures { result ≡ entry_line count (Entry.Take own send copy good) }
+{
+    let mut line = Line::new();
+    line.text("t,");
+    line.u16(u16::from(own));
+    line.text(",");
+    line.u32(send);
+    line.text(",");
+    line.u16(u16::from(copy));
+    line.text(",");
+    line.text(outcome_letter(good));
+    line.text("\n");
+    line
+}
+
+/// The line of an entry that an encounter of so many aircraft can have, with its line feed.
+pub fn entry_line(entry: &Entry, count: u8) -> Line
+    requires few { count ≤ CRAFTS }
+    requires fits { IsEntry count entry.now }
+    ensures { result ≡ entry_line count entry.now }
+{
+    match entry {
+        Entry::Commit { own, cycle, cells } => commit_line(*own, *cycle, cells, count),
+        Entry::Send {
+            own,
+            target,
+            number,
+            word,
+        } => send_line(*own, *target, *number, *word, count),
+        Entry::Take {
+            own,
+            send,
+            copy,
+            good,
+        } => take_line(*own, *send, *copy, *good, count),
+    }
+}
+
+/// Puts the lines of the entries, in the order in which they were made.
+pub(crate) fn put_entries<S: LineSink>(state: &AirState, sink: &mut S)
+    ensures { S.took sink.old sink.new (entry_lines (length state.now.encounter.crafts) state.now.journal) }
+{
+    let count = state.enc().crafts().len() as u8;
+    for at in 0..state.count() {
+        if let Some(entry) = state.entry(at) {
+            sink.line(&entry_line(&entry, count));
+        }
+    }
+}

@@ -1,0 +1,11 @@
+//! The recording of a state of the air: the canonical text of its encounter, the line of each entry of its journal, and
+//! the report of what the crews hear. It tells what the journal says, and judges nothing.
+#![tactic(auto)]
+
+mod entries;
+mod recording;
+mod report;
+
+pub use entries::entry_line;
+pub use recording::{Closing, Recording, write};
+pub use report::report_count;
