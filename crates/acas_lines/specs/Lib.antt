@@ -1,3 +1,4 @@
 pub mod Lines
+pub mod Cut
 pub mod Gathering
 pub mod Gathered

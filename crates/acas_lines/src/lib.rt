@@ -2,9 +2,11 @@
 #![tactic(auto)]
 
 mod batch;
+mod cut;
 mod lines;
 mod writer;
 
+pub use cut::cut_law;
 pub use lines::{LineSink, Text};
 pub use writer::write_text;
 
