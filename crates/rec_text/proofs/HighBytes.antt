@@ -18,6 +18,7 @@ use Rattle.acas_base.specs.declared.entry.Entry.TheVariants.{Commit, Send, Take}
 use Rattle.advisory_report.specs.Cells.{flag, age_text, cell_text, sense_letter, strength_digit}
 use Rattle.acas_base.specs.declared.TheConstants.{CRAFTS}
 use Rattle.acas_lines.specs.Cut.{IsLine}
+use Rattle.enc_file.specs.Spelling.{line_of}
 use Rattle.rec_text.specs.Entries.{outcome, entry_fields, entry_line}
 use Rattle.air_journal.specs.Ranges.{IsCell, IsEntry}
 use Rattle.rec_text.proofs.Letters.{Lacks, lacks-append}
@@ -95,11 +96,18 @@ high-fields count (Send own target number word) few h =
 high-fields count (Take own send copy good) few h =
     ((omega arith, tt), (high-decimal own (omega (arith, h.0)), (high-decimal send (omega (arith, h.1)), (high-decimal copy (omega (arith, h.2)), (high-outcome good, tt)))))
 
-joined-lacks : (fields : List (List ℕ)) → AllByRecursion High fields → Lacks 10 (join_with_byte 44 fields)
-joined-lacks [] h = tt
-joined-lacks (f ∷ []) h = high-lacks 10 f (omega arith) h.0
-joined-lacks (f ∷ g ∷ fields) h = lacks-append 10 f (44 ∷ join_with_byte 44 (g ∷ fields)) (high-lacks 10 f (omega arith) h.0) (λ e. absurd (omega arith), joined-lacks (g ∷ fields) h.1)
+pub each-lacks : (letter : ℕ) (fields : List (List ℕ)) → letter < 45 → AllByRecursion High fields → AllByRecursion (Lacks letter) fields
+each-lacks letter [] low h = tt
+each-lacks letter (field ∷ fields) low h = (high-lacks letter field low h.0, each-lacks letter fields low h.1)
 
--- An entry's line is one whole line.
+joined-lacks : (fields : List (List ℕ)) → AllByRecursion (Lacks 10) fields → Lacks 10 (join_with_byte 44 fields)
+joined-lacks [] h = tt
+joined-lacks (field ∷ []) h = h.0
+joined-lacks (field ∷ next ∷ fields) h = lacks-append 10 field (44 ∷ join_with_byte 44 (next ∷ fields)) h.0 (λ e. absurd (omega arith), joined-lacks (next ∷ fields) h.1)
+
+-- Fields without a line feed make one whole line.
+pub line-whole : (fields : List (List ℕ)) → AllByRecursion (Lacks 10) fields → IsLine (line_of fields)
+line-whole fields h = record { body = join_with_byte 44 fields; inside = joined-lacks fields h; whole = refl }
+
 pub entry-is-line : (count : ℕ) (e : Entry) → count ≤ CRAFTS → IsEntry count e → IsLine (entry_line count e)
-entry-is-line count e few h = record { body = join_with_byte 44 (entry_fields count e); inside = joined-lacks (entry_fields count e) (high-fields count e few h); whole = refl }
+entry-is-line count e few h = line-whole (entry_fields count e) (each-lacks 10 (entry_fields count e) (omega arith) (high-fields count e few h))

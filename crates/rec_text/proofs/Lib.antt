@@ -5,3 +5,6 @@ pub mod Splits
 pub mod Letters
 pub mod HighBytes
 pub mod OneEntry
+pub mod Whole
+pub mod Ends
+pub mod Same

@@ -24,8 +24,8 @@ use Rattle.advisory_report.specs.Cells.{age_text, cell_text, sense_letter, stren
 use Rattle.rec_text.specs.Entries.{outcome, entry_fields, entry_line}
 use Rattle.air_journal.specs.Ranges.{IsCell, IsEntry, AreCells}
 use Rattle.rec_text.specs.Fields.{fields_of}
-use Rattle.rec_text.proofs.Letters.{Lacks, age-parts, without-c, without-x, without-r}
-use Rattle.rec_text.proofs.HighBytes.{High, high-lacks, high-fields}
+use Rattle.rec_text.proofs.Letters.{age-parts, without-c, without-x, without-r}
+use Rattle.rec_text.proofs.HighBytes.{each-lacks, high-fields}
 use Rattle.rec_text.proofs.Splits.{split-joined}
 
 -- The code of a sense's letter, and of a strength's digit.
@@ -169,15 +169,11 @@ fields-same count (Send own target number word) (Take own2 send copy good) few h
 fields-same count (Take own send copy good) (Commit own2 cycle cells) few h k e = absurd (omega (arith, ap (λ t. get_or (at 0 t) 0 0) e))
 fields-same count (Take own send copy good) (Send own2 target number word) few h k e = absurd (omega (arith, ap (λ t. get_or (at 0 t) 0 0) e))
 
-each-lacks : (fs : List (List ℕ)) → AllByRecursion High fs → AllByRecursion (Lacks 44) fs
-each-lacks [] h = tt
-each-lacks (f ∷ fs) h = (high-lacks 44 f (omega arith) h.0, each-lacks fs h.1)
-
 -- The fields of an entry's line are its fields.
 pub line-fields : (count : ℕ) (e : Entry) → count ≤ CRAFTS → IsEntry count e → fields_of (join_with_byte 44 (entry_fields count e)) ≡ entry_fields count e
-line-fields count (Commit own cycle cells) few h = split-joined _ _ (each-lacks (entry_fields count (Commit own cycle cells)) (high-fields count (Commit own cycle cells) few h))
-line-fields count (Send own target number word) few h = split-joined _ _ (each-lacks (entry_fields count (Send own target number word)) (high-fields count (Send own target number word) few h))
-line-fields count (Take own send copy good) few h = split-joined _ _ (each-lacks (entry_fields count (Take own send copy good)) (high-fields count (Take own send copy good) few h))
+line-fields count (Commit own cycle cells) few h = split-joined _ _ (each-lacks 44 (entry_fields count (Commit own cycle cells)) (omega arith) (high-fields count (Commit own cycle cells) few h))
+line-fields count (Send own target number word) few h = split-joined _ _ (each-lacks 44 (entry_fields count (Send own target number word)) (omega arith) (high-fields count (Send own target number word) few h))
+line-fields count (Take own send copy good) few h = split-joined _ _ (each-lacks 44 (entry_fields count (Take own send copy good)) (omega arith) (high-fields count (Take own send copy good) few h))
 
 -- A line determines its entry.
 pub line-same : (count : ℕ) (e f : Entry) → count ≤ CRAFTS → IsEntry count e → IsEntry count f → entry_line count e ≡ entry_line count f → e ≡ f

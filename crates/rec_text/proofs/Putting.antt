@@ -18,7 +18,7 @@ lines-more count entries at entry is =
     ∙ map-append (entry_line count) (take at entries) (get_or entries at entry ∷ []) ∙ ap (λ (e : Entry). map (entry_line count) (take at entries) ++ entry_line count e ∷ []) here
 
 -- What holds of all entries holds of those in order.
-all-back : (P : Entry → Type 0) (journal : List Entry) → All P journal → All P (reverse journal)
+pub all-back : (P : Entry → Type 0) (journal : List Entry) → All P journal → All P (reverse journal)
 all-back P [] all = All-nil P
 all-back P (entry ∷ journal) all =
     subst (All P) (sym (reverse-append (entry ∷ []) journal)) (All-push P (reverse journal) entry (all-back P journal (All-tail P entry journal all)) (All-head P entry journal all))

@@ -3,11 +3,11 @@
 #![tactic(auto)]
 
 mod entries;
-mod entry_laws;
+mod laws;
 mod recording;
 mod report;
 
 pub use entries::entry_line;
-pub use entry_laws::line_law;
+pub use laws::{line_law, text_law};
 pub use recording::{Closing, Recording, write};
 pub use report::report_count;

@@ -1,6 +1,6 @@
 use Rattle.rec_text.proofs.HighBytes.{entry-is-line}
 use Rattle.rec_text.proofs.OneEntry.{line-same}
-use Rattle.rec_text.proofs.entry_laws.line_law.Goals as goal
+use Rattle.rec_text.proofs.laws.line_law.Goals as goal
 
 pub returns-clause-line : goal.returns-clause-line
 returns-clause-line c = entry-is-line
