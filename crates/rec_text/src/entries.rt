@@ -1,5 +1,5 @@
 // The lines of a journal's entries.
-ghost use Rattle.std.specs.Prelude.{◌≡◌, ◌+◌, ◌*◌, ◌≤◌, ◌<◌, ◌^◌, ◌∷◌, ◌++◌, length, take};
+ghost use Rattle.std.specs.Prelude.{◌≡◌, ◌+◌, ◌*◌, ◌≤◌, ◌<◌, ◌^◌, ◌∷◌, ◌++◌, [], length, take};
 ghost use Rattle.std.specs.Fmt.{decimal};
 ghost use Rattle.std.specs.List.{flat_map};
 ghost use Rattle.acas_base.specs.declared.TheConstants.{CRAFTS};
@@ -37,25 +37,24 @@ fn add_cells(line: &mut Line, cells: &Cells, count: u8)
     }
 }
 
-fn commit_line(own: u8, cycle: u16, cells: &Cells, count: u8) -> Line
-    requires { count ≤ CRAFTS }
-    ensures { result ≡ entry_line count (Entry.Commit own cycle cells.now) }
+fn add_commit(line: &mut Line, own: u8, cycle: u16, cells: &Cells, count: u8)
+    requires empty { line.old ≡ [] }
+    requires count { count ≤ CRAFTS }
+    ensures { line.new ≡ entry_line count (Entry.Commit own cycle cells.now) }
 {
-    let mut line = Line::new();
     line.text("c,");
     line.u16(u16::from(own));
     line.text(",");
     line.u16(cycle);
-    add_cells(&mut line, cells, count);
+    add_cells(line, cells, count);
     line.text("\n");
-    line
 }
 
-fn send_line(own: u8, target: u8, number: u16, word: u64, count: u8) -> Line
-    requires { word < 2 ^ 56 }
-    ensures { result ≡ entry_line count (Entry.Send own target number word) }
+fn add_send(line: &mut Line, own: u8, target: u8, number: u16, word: u64, count: u8)
+    requires empty { line.old ≡ [] }
+    requires word { word < 2 ^ 56 }
+    ensures { line.new ≡ entry_line count (Entry.Send own target number word) }
 {
-    let mut line = Line::new();
     line.text("s,");
     line.u16(u16::from(own));
     line.text(",");
@@ -65,13 +64,12 @@ fn send_line(own: u8, target: u8, number: u16, word: u64, count: u8) -> Line
     line.text(",");
     line.hex(word, 14);
     line.text("\n");
-    line
 }
 
-fn take_line(own: u8, send: u32, copy: u8, good: bool, count: u8) -> Line
-    ensures { result ≡ entry_line count (Entry.Take own send copy good) }
+fn add_take(line: &mut Line, own: u8, send: u32, copy: u8, good: bool, count: u8)
+    requires { line.old ≡ [] }
+    ensures { line.new ≡ entry_line count (Entry.Take own send copy good) }
 {
-    let mut line = Line::new();
     line.text("t,");
     line.u16(u16::from(own));
     line.text(",");
@@ -81,7 +79,6 @@ fn take_line(own: u8, send: u32, copy: u8, good: bool, count: u8) -> Line
     line.text(",");
     line.text(outcome_letter(good));
     line.text("\n");
-    line
 }
 
 /// The line of an entry that an encounter of so many aircraft can have, with its line feed.
@@ -90,21 +87,23 @@ pub fn entry_line(entry: &Entry, count: u8) -> Line
     requires fits { IsEntry count entry.now }
     ensures { result ≡ entry_line count entry.now }
 {
+    let mut line = Line::new();
     match entry {
-        Entry::Commit { own, cycle, cells } => commit_line(*own, *cycle, cells, count),
+        Entry::Commit { own, cycle, cells } => add_commit(&mut line, *own, *cycle, cells, count),
         Entry::Send {
             own,
             target,
             number,
             word,
-        } => send_line(*own, *target, *number, *word, count),
+        } => add_send(&mut line, *own, *target, *number, *word, count),
         Entry::Take {
             own,
             send,
             copy,
             good,
-        } => take_line(*own, *send, *copy, *good, count),
+        } => add_take(&mut line, *own, *send, *copy, *good, count),
     }
+    line
 }
 
 /// Puts the lines of the entries, in the order in which they were made.

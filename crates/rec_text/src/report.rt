@@ -11,16 +11,6 @@ use acas_text::Line;
 use advisory_report::{Composite, composite_of, line};
 use air_journal::AirState;
 
-// What an aircraft shows after a commit with these cells, and without one.
-fn shown(cells: Option<&Cells>) -> Composite
-    ensures { result ≡ shown (option_copied cells.entry) }
-{
-    match cells {
-        Some(cells) => composite_of(cells),
-        None => Composite::clear(),
-    }
-}
-
 // Puts the line for a commit that changes what an aircraft shows, and gives what it shows then.
 fn put_commit<S: LineSink>(
     cycle: u16,
@@ -32,11 +22,12 @@ fn put_commit<S: LineSink>(
     ensures lines { S.took sink.old sink.new (commit_report cycle address before.now (option_copied cells.entry)) }
     ensures shown { result ≡ shown (option_copied cells.entry) }
 {
-    let after = shown(cells);
-    if cells.is_some() {
-        if let Some(line) = line(cycle, address, before, &after) {
-            sink.line(&line);
-        }
+    let Some(cells) = cells else {
+        return Composite::clear();
+    };
+    let after = composite_of(cells);
+    if let Some(line) = line(cycle, address, before, &after) {
+        sink.line(&line);
     }
     after
 }

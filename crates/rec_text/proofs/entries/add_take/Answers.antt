@@ -1,5 +1,5 @@
 use Rattle.std.proofs.Common.{append_assoc}
-use Rattle.rec_text.proofs.entries.take_line.Goals as goal
+use Rattle.rec_text.proofs.entries.add_take.Goals as goal
 
 pub returns : goal.returns
 returns c =
@@ -16,5 +16,5 @@ returns c =
       c.u16.ensures.added,
       c.from.ensures,
       c.text.ensures.added,
-      c.new-line.ensures,
+      c.requires,
     ) (simp append_assoc)

@@ -1,5 +1,5 @@
 use Rattle.rec_text.proofs.Joining.{commit-spelled}
-use Rattle.rec_text.proofs.entries.commit_line.Goals as goal
+use Rattle.rec_text.proofs.entries.add_commit.Goals as goal
 
 pub returns : goal.returns
 returns c =
@@ -11,5 +11,5 @@ returns c =
       c.u16.ensures.added,
       c.from.ensures,
       c.text.ensures.added,
-      c.new-line.ensures,
+      c.requires.empty,
     ) (commit-spelled c.args.own c.args.cycle c.args.count c.args.cells.now)

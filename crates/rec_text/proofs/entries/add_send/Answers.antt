@@ -1,5 +1,5 @@
 use Rattle.std.proofs.Common.{append_assoc}
-use Rattle.rec_text.proofs.entries.send_line.Goals as goal
+use Rattle.rec_text.proofs.entries.add_send.Goals as goal
 
 pub returns : goal.returns
 returns c =
@@ -15,5 +15,5 @@ returns c =
       c.u16.ensures.added,
       c.from.ensures,
       c.text.ensures.added,
-      c.new-line.ensures,
+      c.requires.empty,
     ) (simp append_assoc)
