@@ -1,6 +1,6 @@
 -- At most one status answers a command on the bytes that it read.
 use Rattle.std.proofs.Common.{◌≡◌, List, ℕ, refl}
-use Rattle.acas_top.specs.Answers.{Answers, Cause, Faulty, IsCause, Plays, Refuses, Unplayed}
+use Rattle.acas_top.specs.Answers.{Answers, Plays, Refuses}
 use Rattle.acas_top.specs.declared.status.Status.{Status}
 use Rattle.acas_top.specs.declared.status.Status.TheVariants.{Done, Refused}
 use Rattle.acas_top.specs.declared.words.Command.{Command}
@@ -8,11 +8,7 @@ use Rattle.acas_top.specs.declared.words.Command.TheVariants.{Serial}
 
 -- What can be played has no cause to be refused.
 not-both : (bytes text other : List ℕ) → Plays bytes text → Refuses bytes other → ⊥
-not-both bytes text other played refused = by_cause refused.cause refused.is
-  where
-    by_cause : (cause : Cause) → IsCause bytes cause → ⊥
-    by_cause (Faulty refusal) is = let says = played.says in cc
-    by_cause (Unplayed e) is = let one = played.says in let two = is.0 in let none = played.no_ra in let some = is.1 in cc
+not-both bytes text other played refused = let one = played.says in let two = refused.is in cc
 
 done-only : (bytes text other : List ℕ) (also : Status) → Plays bytes text → Answers Serial bytes also other → Done ≡ also
 done-only bytes text other Done played is = refl

@@ -4,15 +4,16 @@ use Rattle.std.specs.Option.{ForSome}
 use Rattle.acas_base.specs.Encounter.{Parts}
 use Rattle.acas_base.specs.declared.entry.Entry.{Entry}
 use Rattle.acas_io.specs.Stream.{TookAll}
-use Rattle.acas_top.specs.Answers.{Answers, IsSerialRun}
-use Rattle.acas_top.specs.Recording.{recording}
-use Rattle.acas_top.specs.Traffic.{HasNoRa}
+use Rattle.acas_top.specs.Answers.{Answers, IsRun}
 use Rattle.acas_top.specs.Words.{limit_of, words_of}
 use Rattle.acas_top.specs.declared.status.Status.{Status}
 use Rattle.acas_top.specs.declared.status.Status.TheVariants.{Done, Refused, Wrong}
 use Rattle.acas_top.specs.declared.words.Command.{Command}
 use Rattle.acas_top.specs.declared.words.Command.TheVariants.{Serial}
+use Rattle.air_journal.specs.Airs.{air_of}
+use Rattle.air_rules.specs.Serial.{IsSerial}
 use Rattle.enc_file.specs.Reading.{Says}
+use Rattle.rec_text.specs.Recording.{recording}
 
 -- A status that comes with a text, whole.
 abbrev pub IsAnswer : Status → Type 0
@@ -45,14 +46,13 @@ pub record Answered (words : List (List ℕ)) (status : Status) (old new : Optio
   pub answers : Answers command bytes status text
   pub put : IsPut text
 
--- The bytes that were read say this encounter, no aircraft of which gives resolution advisories, and the recording of its
--- serial journal was put out.
+-- The bytes that were read say this encounter, and the recording of its serial journal was put out.
 pub record PlaysSerial (old new : Option (List ℕ)) (IsPut : List ℕ → Type 0) : Type 0 where
   pub bytes : List ℕ
   pub encounter : Parts
-  pub entries : List Entry
+  pub journal : List Entry
   pub read : WasRead (limit_of Serial) old new bytes
   pub says : Says bytes encounter
-  pub no_ra : HasNoRa encounter
-  pub run : IsSerialRun encounter entries
-  pub put : IsPut (recording encounter entries)
+  pub serial : IsSerial (air_of encounter) journal
+  pub run : IsRun encounter journal
+  pub put : IsPut (recording encounter journal)

@@ -1,12 +1,5 @@
 pub mod Statuses
 pub mod Words
-pub mod Entries
-pub mod Report
-pub mod Changes
-pub mod Recording
 pub mod Answers
 pub mod Ends
 pub mod Given
-pub mod Traffic
-pub mod Looks
-pub mod Counting

@@ -1,25 +1,29 @@
 // What answers a command: a status and a text.
 ghost use Rattle.std.specs.Prelude.{◌≡◌, ◌≤◌, IfOk, length};
-ghost use Rattle.acas_top.specs.Answers.{Answers};
-ghost use Rattle.acas_top.specs.Given.{answer_status, answer_text, IsReadable};
+ghost use Rattle.acas_base.specs.Encounter.{Parts};
+ghost use Rattle.acas_top.specs.Answers.{Answers, IsRun};
+ghost use Rattle.acas_top.specs.Given.{IsReadable, answer_status, answer_text};
 ghost use Rattle.acas_top.specs.Words.{limit_of};
+ghost use Rattle.air_journal.specs.Airs.{air_of};
+ghost use Rattle.air_rules.specs.Rules.{IsComplete};
+ghost use Rattle.air_rules.specs.Serial.{IsSerial};
+ghost use Rattle.flight.specs.Inside.{IsInside};
 
-use crate::recording::Recording;
 use crate::refusal::refusal_line;
-use crate::serial::{has_ra, serial_run};
 use crate::{Command, Status};
+use acas_base::Encounter;
 use acas_lines::{LineSink, Text};
+use air_journal::{AirState, priority_law, settled_law};
+use craft_worker::serial;
 use enc_file::ReadError;
+use rec_text::Recording;
 use std::alloc::{AllocError, Global};
-
-// The code of an encounter that can't be played yet. It is of no record in particular.
-const UNPLAYED: u8 = 13;
 
 /// The answer to a command: its status, and the text that is put out.
 #[derive(Drop)]
 pub(crate) enum Answer {
     /// A run is recorded.
-    Recorded(Recording),
+    Recorded(AirState),
     /// The input is refused: the number of the record, and that of the code.
     Refused(u32, u8),
 }
@@ -43,10 +47,33 @@ impl Text for Answer {
 
     fn put<S: LineSink>(&self, sink: &mut S) {
         match self {
-            Answer::Recorded(recording) => recording.put(sink),
+            Answer::Recorded(state) => Recording(state).put(sink),
             Answer::Refused(at, code) => sink.line(&refusal_line(*at, *code)),
         }
     }
+}
+
+// A law: what holds of a complete journal of a state.
+fn run_law(state: &AirState)
+    requires { IsComplete (air_of state.now.encounter) state.now.journal }
+    ensures { IsRun state.now.encounter state.now.journal }
+{
+    state.legal_law();
+    settled_law(state);
+    priority_law(state);
+}
+
+// The state of the air after the serial run of an encounter.
+fn serial_state(alloc: Global, encounter: &Encounter) -> Result<AirState, AllocError>
+    requires { IsInside encounter.now }
+    ensures encounter { IfOk result (λ state. state.encounter ≡ encounter.now) }
+    ensures serial { IfOk result (λ state. IsSerial (air_of encounter.now) state.journal) }
+    ensures run { IfOk result (λ state. IsRun encounter.now state.journal) }
+{
+    let mut state = AirState::new(alloc, encounter)?;
+    serial(&mut state, encounter);
+    run_law(&state);
+    Ok(state)
 }
 
 // The answer to `serial`.
@@ -61,11 +88,7 @@ fn answer_serial(alloc: Global, bytes: &[u8]) -> Result<Answer, AllocError>
         }
         Err(ReadError::OutOfMemory) => return Err(AllocError),
     };
-    if has_ra(&encounter) {
-        return Ok(Answer::Refused(0, UNPLAYED));
-    }
-    let entries = serial_run(alloc, &encounter)?;
-    Ok(Answer::Recorded(Recording { encounter, entries }))
+    Ok(Answer::Recorded(serial_state(alloc, &encounter)?))
 }
 
 /// The answer to a command on the bytes that it read. An error says that memory was wanting; all of it is asked for here.

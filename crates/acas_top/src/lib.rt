@@ -3,11 +3,7 @@
 #![tactic(auto)]
 
 mod answers;
-mod entries;
-mod recording;
 mod refusal;
-mod report;
-mod serial;
 mod status;
 mod top;
 mod words;

@@ -1,33 +1,34 @@
-// Whole runs, the serial run by itself, and what aircraft choose on the views that they have of each other: tests that
-// cross crates.
-ghost use Rattle.std.specs.Prelude.{◌≡◌, ◌<◌, ◌≤◌, IfOk};
-ghost use Rattle.acas_base.specs.Ranges.{IsWithin};
-ghost use Rattle.acas_base.specs.declared.TheConstants.{CRAFTS};
-ghost use Rattle.craft_view.specs.Kept.{Belongs};
-
-use crate::serial::{has_ra, serial_run};
+// Whole runs of the program: tests that cross crates.
 use crate::{Status, acas};
-use acas_base::{
-    Address, CRAFTS, Cell, Cells, CraftSpec, Encounter, Entry, Gains, Kind, Leg, Sense, Strength,
-    View,
-};
 use acas_io::{MemSink, MemSource};
-use craft_view::{Craft, is_active};
-use flight::inside;
-use sense_pick::pick;
 use std::alloc::{AllocError, Global};
 use std::test::Fail;
-use strength_pick::least;
 
-// Two aircraft with traffic advisories alone, which fly towards each other.
+// Two aircraft with resolution advisories that fly towards each other, at different altitudes and at the same one, without
+// the end of the text.
+const APART: &[u8] =
+    b"encounter,1\nrun,31,0\ncraft,400A01,RA,0,0,35000\ncraft,400B02,RA,91200,0,35300\nleg,400A01,1,760,0,0\nleg,400B02,1,-760,0,0\n";
+
+const LEVEL: &[u8] =
+    b"encounter,1\nrun,31,0\ncraft,400A01,RA,0,0,35000\ncraft,400B02,RA,91200,0,35000\nleg,400A01,1,760,0,0\nleg,400B02,1,-760,0,0\n";
+
+// The same two at one altitude, in format 2.
+const LEVEL_2: &[u8] =
+    b"encounter,2\nrun,31,0\ncraft,400A01,RA,0,0,35000\ncraft,400B02,RA,91200,0,35000\nleg,400A01,1,760,0,0\nleg,400B02,1,-760,0,0\n";
+
+// The lower address misses the replies of the other one from cycle 22 on, and its cancel is lost.
+const LAPSING: &[u8] =
+    b"encounter,1\nrun,33,0\ncraft,400A01,RA,0,0,35000\ncraft,400B02,RA,91200,0,35000\nleg,400A01,1,760,0,0\nleg,400B02,1,-760,0,0\nmiss,400A01,400B02,22,60\nfate,400A01,400B02,2\n";
+
+// The two at different altitudes, with traffic advisories alone.
 const TRAFFIC: &[u8] =
-    b"encounter,1\nrun,31,0\ncraft,400A01,TA,0,0,35000\ncraft,400B02,TA,91200,0,35300\nleg,400A01,1,760,0,0\nleg,400B02,1,-760,0,0\nend\n";
+    b"encounter,1\nrun,31,0\ncraft,400A01,TA,0,0,35000\ncraft,400B02,TA,91200,0,35300\nleg,400A01,1,760,0,0\nleg,400B02,1,-760,0,0\n";
 
 const ONE_CYCLE: &[u8] =
-    b"encounter,1\nrun,1,0\ncraft,400A01,TA,0,0,35000\ncraft,400B02,TA,91200,0,35300\nleg,400A01,1,760,0,0\nleg,400B02,1,-760,0,0\nend\n";
+    b"encounter,1\nrun,1,0\ngains,683,256,512,128\ncraft,400100,RA,-55000,39000,22400\nleg,400100,1,550,-390,-800\nend\n";
 
 const ONE_CYCLE_RECORDING: &[u8] =
-    b"recording,1\nencounter,1\nrun,1,0\ngains,683,256,512,128\ncraft,400A01,TA,0,0,35000\ncraft,400B02,TA,91200,0,35300\nleg,400A01,1,760,0,0\nleg,400B02,1,-760,0,0\nend\njournal,2\nc,0,1,-,-\nc,1,1,-,-\nreport,0\nclose\n";
+    b"recording,1\nencounter,1\nrun,1,0\ngains,683,256,512,128\ncraft,400100,RA,-55000,39000,22400\nleg,400100,1,550,-390,-800\nend\njournal,1\nc,0,1,-\nreport,0\nclose\n";
 
 // How a run ended, and what it wrote.
 #[derive(Drop)]
@@ -48,14 +49,218 @@ fn run(
     for text in texts {
         words.push(String::from_str(alloc, *text)?)?;
     }
-    let mut source = MemSource::new(input.to_vec(alloc)?, 65_536, failing_reads.to_vec(alloc)?);
-    let room = Vec::with_capacity(alloc, 1_000_000)?;
+    let mut source = MemSource::new(input.to_vec(alloc)?, 64, failing_reads.to_vec(alloc)?);
+    let room = Vec::with_capacity(alloc, 2_000_000)?;
     let mut sink = MemSink::new(room, 16, failing_writes.to_vec(alloc)?);
     let status = acas(alloc, words.as_slice(), &mut source, &mut sink);
     Ok(Outcome { status, sink })
 }
 
-// The recording of the two aircraft. The tests of a traffic advisory hold from cycle 13 on.
+// Plays a text of two parts.
+fn play(alloc: Global, open: &[u8], rest: &[u8]) -> Result<Outcome, AllocError> {
+    let mut input = open.to_vec(alloc)?;
+    input.extend_from_slice(rest)?;
+    run(alloc, &["serial"], input.as_slice(), &[], &[])
+}
+
+// How many lines of a text begin so.
+fn lines_with(text: &[u8], beginning: &[u8]) -> u64 {
+    let mut count = 0u64;
+    for line in text.split(|byte| *byte == b'\n') {
+        if line.starts_with(beginning) {
+            count = count.saturating_add(1);
+        }
+    }
+    count
+}
+
+// The beginning of a text, its rest, how many commits, sends and takes the serial journal has, and how its recording ends.
+type Row = (&'static [u8], &'static [u8], [u64; 3], &'static [u8]);
+
+const TURNED: &[u8] =
+    b"report,5\nr,13,400A01,TRAFFIC,Traffic traffic\nr,13,400B02,TRAFFIC,Traffic traffic\nr,26,400A01,UP-CLIMB,Climb climb\nr,26,400B02,UP-CLIMB,Climb climb\nr,27,400B02,DOWN-DESCEND,Descend descend NOW\nclose\n";
+
+const PLAYED: [Row; 17] = [
+    (
+        APART,
+        b"end\n",
+        [62, 12, 12],
+        b"report,4\nr,13,400A01,TRAFFIC,Traffic traffic\nr,13,400B02,TRAFFIC,Traffic traffic\nr,26,400A01,DOWN-DESCEND,Descend descend\nr,26,400B02,UP-CLIMB,Climb climb\nclose\n",
+    ),
+    (APART, b"end", [62, 12, 12], b"Climb climb\nclose\n"),
+    (LEVEL, b"end\n", [62, 12, 12], TURNED),
+    // The first three messages are lost.
+    (
+        LEVEL,
+        b"fate,400A01,400B02,1\nfate,400A01,400B02,2\nfate,400A01,400B02,3\nend\n",
+        [62, 12, 9],
+        b"report,5\nr,13,400A01,TRAFFIC,Traffic traffic\nr,13,400B02,TRAFFIC,Traffic traffic\nr,26,400A01,UP-CLIMB,Climb climb\nr,26,400B02,UP-CLIMB,Climb climb\nr,30,400B02,DOWN-DESCEND,Descend descend NOW\nclose\n",
+    ),
+    // A copy that is held back is taken last.
+    (
+        LEVEL,
+        b"gains,1024,1024,1024,1024\nleg,400B02,27,-760,0,6000\nfate,400A01,400B02,2,0,00,3,00\nfate,400A01,400B02,5\nend\n",
+        [62, 12, 12],
+        b"report,9\nr,13,400A01,TRAFFIC,Traffic traffic\nr,13,400B02,TRAFFIC,Traffic traffic\nr,26,400A01,UP-CLIMB,Climb climb\nr,26,400B02,UP-CLIMB,Climb climb\nr,27,400B02,DOWN-DESCEND,Descend descend NOW\nr,28,400A01,DOWN-DESCEND,Descend descend NOW\nr,28,400B02,DOWN-INCREASE,Increase descent\nr,29,400B02,UP-CLIMB,Climb climb NOW\nr,31,400B02,DOWN-DESCEND,Descend descend NOW\nclose\n",
+    ),
+    // A message has three copies.
+    (
+        LEVEL,
+        b"fate,400A01,400B02,1,0,00,0,00,0,00\nend\n",
+        [62, 12, 14],
+        TURNED,
+    ),
+    // A message is damaged.
+    (
+        LEVEL,
+        b"fate,400A01,400B02,1,0,07\nend\n",
+        [62, 12, 12],
+        b"r,26,400B02,UP-CLIMB,Climb climb\nr,28,400B02,DOWN-DESCEND,Descend descend NOW\nclose\n",
+    ),
+    // The first of two copies is held back.
+    (
+        LEVEL,
+        b"fate,400A01,400B02,1,2,00,0,00\nend\n",
+        [62, 12, 13],
+        TURNED,
+    ),
+    // Near the ground.
+    (
+        b"encounter,1\nrun,17,0\ncraft,400A01,RA,0,0,1099\ncraft,400B02,RA,12000,0,1099\n",
+        b"leg,400A01,1,200,0,0\nleg,400B02,1,-200,0,0\nend\n",
+        [34, 4, 4],
+        b"report,6\nr,6,400A01,TRAFFIC,Traffic traffic\nr,6,400B02,TRAFFIC,Traffic traffic\nr,16,400A01,UP-CLIMB,Climb crossing climb\nr,16,400B02,UP-CLIMB,Climb crossing climb\nr,17,400A01,UP-INCREASE,Increase climb\nr,17,400B02,DOWN-LEVEL,Monitor vertical speed\nclose\n",
+    ),
+    // One between two others.
+    (
+        b"encounter,1\nrun,25,0\ngains,1024,1024,1024,1024\ncraft,400A01,RA,45600,0,34700\ncraft,400B02,RA,-45600,0,35300\ncraft,400C03,RA,0,0,35000\n",
+        b"leg,400A01,1,-760,0,0\nleg,400B02,1,760,0,0\nend\n",
+        [75, 8, 8],
+        b"report,6\nr,11,400A01,TRAFFIC,Traffic traffic\nr,11,400B02,TRAFFIC,Traffic traffic\nr,11,400C03,TRAFFIC,Traffic traffic\nr,24,400A01,DOWN-DESCEND,Descend descend\nr,24,400B02,UP-CLIMB,Climb climb\nr,24,400C03,LEVEL-BOTH,Level off level off\nclose\n",
+    ),
+    // A threat with a transponder only.
+    (
+        b"encounter,1\nrun,31,0\ngains,1024,1024,1024,1024\ncraft,400A01,XPDR,0,0,35000\ncraft,400B02,RA,91200,0,35000\n",
+        b"leg,400A01,1,760,0,0\nleg,400A01,27,760,0,6000\nleg,400B02,1,-760,0,0\nend\n",
+        [31, 0, 0],
+        b"report,3\nr,13,400B02,TRAFFIC,Traffic traffic\nr,26,400B02,UP-CLIMB,Climb climb\nr,28,400B02,DOWN-DESCEND,Descend descend NOW\nclose\n",
+    ),
+    // Both at one place, with gains of 0 and addresses at the ends of their range.
+    (
+        b"encounter,1\nrun,3,0\ngains,0,0,0,0\ncraft,000001,RA,0,0,35000\ncraft,FFFFFE,RA,0,0,35000\n",
+        b"end\n",
+        [6, 4, 4],
+        b"report,4\nr,2,000001,UP-CLIMB,Climb climb\nr,2,FFFFFE,UP-CLIMB,Climb climb\nr,3,000001,UP-INCREASE,Increase climb\nr,3,FFFFFE,DOWN-DESCEND,Descend descend NOW\nclose\n",
+    ),
+    // A message in force lapses after six commits, and not after five.
+    (
+        LAPSING,
+        b"miss,400B02,400A01,1,31\nend\n",
+        [66, 3, 2],
+        b"report,4\nr,13,400A01,TRAFFIC,Traffic traffic\nr,26,400A01,UP-CLIMB,Climb climb\nr,27,400A01,CLEAR,Clear of conflict\nr,33,400B02,UP-CLIMB,Climb climb\nclose\n",
+    ),
+    (
+        LAPSING,
+        b"miss,400B02,400A01,1,30\nend\n",
+        [66, 4, 3],
+        b"r,32,400B02,DOWN-DESCEND,Descend crossing descend\nclose\n",
+    ),
+    // A ceiling, a link that loses everything, and one message of it that arrives.
+    (
+        LEVEL_2,
+        b"climb,400A01,30000\nend\n",
+        [62, 12, 12],
+        b"report,4\nr,13,400A01,TRAFFIC,Traffic traffic\nr,13,400B02,TRAFFIC,Traffic traffic\nr,26,400A01,DOWN-DESCEND,Descend crossing descend\nr,26,400B02,UP-CLIMB,Climb climb\nclose\n",
+    ),
+    (
+        LEVEL_2,
+        b"plan,400A01,400B02\nend\n",
+        [62, 12, 6],
+        b"report,4\nr,13,400A01,TRAFFIC,Traffic traffic\nr,13,400B02,TRAFFIC,Traffic traffic\nr,26,400A01,UP-CLIMB,Climb climb\nr,26,400B02,UP-CLIMB,Climb climb\nclose\n",
+    ),
+    (
+        LEVEL_2,
+        b"plan,400A01,400B02\nfate,400A01,400B02,1,0,00\nend\n",
+        [62, 12, 7],
+        TURNED,
+    ),
+];
+
+#[test]
+fn plays_encounters(rt: HostRuntime) -> Result<(), Fail> {
+    for (open, rest, counts, end) in PLAYED {
+        let done = play(rt.alloc(), open, rest)?;
+        assert_eq!(rt; done.status, Status::Done);
+        let text = done.sink.bytes();
+        assert_eq!(rt; lines_with(text, b"c,"), counts[0]);
+        assert_eq!(rt; lines_with(text, b"s,"), counts[1]);
+        assert_eq!(rt; lines_with(text, b"t,"), counts[2]);
+        assert!(rt; text.ends_with(end));
+    }
+    Ok(())
+}
+
+// The beginning of a text, its rest, and an entry with its position.
+type Entry = (&'static [u8], &'static [u8], usize, &'static [u8]);
+
+const HELD: &[u8] = b"fate,400A01,400B02,1,2,00,0,00\nend\n";
+
+const TOLD: [Entry; 18] = [
+    (LEVEL, b"end\n", 50, b"c,0,26,-,U5.1c"),
+    (LEVEL, b"end\n", 51, b"c,1,26,U5.1c,-"),
+    (LEVEL, b"end\n", 52, b"s,0,1,1,30080007400A01"),
+    (LEVEL, b"end\n", 53, b"s,1,0,1,30080007400B02"),
+    (LEVEL, b"end\n", 54, b"t,0,53,0,g"),
+    (LEVEL, b"end\n", 55, b"t,1,52,0,g"),
+    (LEVEL, b"end\n", 56, b"c,0,27,-,U5.2c"),
+    (LEVEL, b"end\n", 57, b"c,1,27,D5.2cx,-"),
+    (LEVEL, b"end\n", 58, b"s,0,1,2,30080007400A01"),
+    (LEVEL, b"end\n", 59, b"s,1,0,2,30240003400B02"),
+    (LEVEL, b"end\n", 60, b"t,0,59,0,g"),
+    (LEVEL, b"end\n", 61, b"t,1,58,0,g"),
+    (LEVEL, HELD, 55, b"t,1,52,1,g"),
+    (LEVEL, HELD, 66, b"t,0,65,0,g"),
+    (LEVEL, HELD, 67, b"t,1,52,0,g"),
+    (LEVEL, HELD, 68, b"t,1,64,0,g"),
+    (
+        LEVEL,
+        b"fate,400A01,400B02,1,0,07\nend\n",
+        55,
+        b"t,1,52,0,b",
+    ),
+    (
+        LAPSING,
+        b"miss,400B02,400A01,1,30\nend\n",
+        70,
+        b"c,1,33,D5.2cx,-",
+    ),
+];
+
+// The line of an entry in a recording.
+fn entry_in(text: &[u8], position: usize) -> &[u8] {
+    let mut left: Option<usize> = None;
+    for line in text.split(|byte| *byte == b'\n') {
+        match left {
+            Some(0) => return line,
+            Some(more) => left = Some(more - 1),
+            None => if line.starts_with(b"journal,") {
+                left = Some(position);
+            },
+        }
+    }
+    &[]
+}
+
+#[test]
+fn tells_each_entry(rt: HostRuntime) -> Result<(), Fail> {
+    for (open, rest, position, line) in TOLD {
+        let done = play(rt.alloc(), open, rest)?;
+        assert_eq!(rt; entry_in(done.sink.bytes(), position), line);
+    }
+    Ok(())
+}
+
+// The recording of the two with traffic advisories. Their tests hold from cycle 13 on.
 fn traffic_recording(alloc: Global) -> Result<Vec<u8>, AllocError> {
     let mut text =
         b"recording,1\nencounter,1\nrun,31,0\ngains,683,256,512,128\ncraft,400A01,TA,0,0,35000\ncraft,400B02,TA,91200,0,35300\nleg,400A01,1,760,0,0\nleg,400B02,1,-760,0,0\nend\njournal,62\n".to_vec(
@@ -75,28 +280,14 @@ fn traffic_recording(alloc: Global) -> Result<Vec<u8>, AllocError> {
 }
 
 #[test]
-fn plays_two_with_traffic_advisories(rt: HostRuntime) -> Result<(), Fail> {
+fn writes_whole_recordings(rt: HostRuntime) -> Result<(), Fail> {
     let alloc = rt.alloc();
-    let done = run(alloc, &["serial"], TRAFFIC, &[], &[])?;
-    assert_eq!(rt; done.status, Status::Done);
+    let done = play(alloc, TRAFFIC, b"end\n")?;
     assert_eq!(rt; done.sink.bytes(), traffic_recording(alloc)?.as_slice());
+    let one = play(alloc, ONE_CYCLE, b"")?;
+    assert_eq!(rt; one.sink.bytes(), ONE_CYCLE_RECORDING);
     Ok(())
 }
-
-#[test]
-fn plays_one_cycle(rt: HostRuntime) -> Result<(), Fail> {
-    let done = run(rt.alloc(), &["serial"], ONE_CYCLE, &[], &[])?;
-    assert_eq!(rt; done.status, Status::Done);
-    assert_eq!(rt; done.sink.bytes(), ONE_CYCLE_RECORDING);
-    Ok(())
-}
-
-// Two aircraft with resolution advisories, at different altitudes and at the same one, without the end.
-const APART: &[u8] =
-    b"encounter,1\nrun,31,0\ncraft,400A01,RA,0,0,35000\ncraft,400B02,RA,91200,0,35300\nleg,400A01,1,760,0,0\nleg,400B02,1,-760,0,0\n";
-
-const LEVEL: &[u8] =
-    b"encounter,1\nrun,31,0\ncraft,400A01,RA,0,0,35000\ncraft,400B02,RA,91200,0,35000\nleg,400A01,1,760,0,0\nleg,400B02,1,-760,0,0\n";
 
 // Nine aircraft in format 1 are one too many, and seventeen in format 2.
 const NINE: &[u8] =
@@ -108,10 +299,8 @@ const SEVENTEEN: &[u8] =
 // The beginning of a text, its rest, and the line of its refusal.
 type Case = (&'static [u8], &'static [u8], &'static [u8]);
 
-const REFUSED: [Case; 14] = [
+const REFUSED: [Case; 12] = [
     (b"", b"", b"refused,1,1\n"),
-    (APART, b"end\n", b"refused,0,13\n"),
-    (APART, b"end", b"refused,0,13\n"),
     (APART, b"", b"refused,7,11\n"),
     (APART, b"end\nend\n", b"refused,8,12\n"),
     (APART, b"leg,400A01,1,0,0,0\nend\n", b"refused,7,6\n"),
@@ -130,46 +319,49 @@ const REFUSED: [Case; 14] = [
     (LEVEL, b"climb,400A01,30000\nend\n", b"refused,7,2\n"),
     (NINE, b"end\n", b"refused,11,8\n"),
     (SEVENTEEN, b"end\n", b"refused,19,8\n"),
-    (
-        b"encounter,1\nrun,31,0\ncraft,400A01,TA,0,0,35000\ncraft,400B02,TA,91200,0,35300\n",
-        b"leg,400A01,1,760,0,0\nleg,400B02,1,-760,0,0\n",
-        b"refused,7,11\n",
-    ),
+    (TRAFFIC, b"", b"refused,7,11\n"),
 ];
 
 #[test]
 fn refuses_by_record_and_code(rt: HostRuntime) -> Result<(), Fail> {
-    let alloc = rt.alloc();
     for (open, rest, line) in REFUSED {
-        let mut input = open.to_vec(alloc)?;
-        input.extend_from_slice(rest)?;
-        let refused = run(alloc, &["serial"], input.as_slice(), &[], &[])?;
+        let refused = play(rt.alloc(), open, rest)?;
         assert_eq!(rt; refused.status, Status::Refused);
         assert_eq!(rt; refused.sink.bytes(), line);
     }
     Ok(())
 }
 
-// The second piece of 16 bytes isn't written.
+// Each read fails in turn, and then each write: nothing was written, or a front of the text.
 #[test]
 fn tells_faults(rt: HostRuntime) -> Result<(), Fail> {
-    let unread = run(rt.alloc(), &["serial"], TRAFFIC, &[1], &[])?;
-    assert_eq!(rt; unread.status, Status::ReadFault);
-    assert_eq!(rt; unread.sink.bytes(), b"".as_slice());
-    let unwritten = run(rt.alloc(), &["serial"], TRAFFIC, &[], &[2])?;
-    assert_eq!(rt; unwritten.status, Status::WriteFault);
-    assert_eq!(rt; unwritten.sink.bytes(), b"recording,1\nenco".as_slice());
+    let alloc = rt.alloc();
+    let mut input = APART.to_vec(alloc)?;
+    input.extend_from_slice(b"end\n")?;
+    let whole = run(alloc, &["serial"], input.as_slice(), &[], &[])?;
+    for read in 1..4u64 {
+        let unread = run(alloc, &["serial"], input.as_slice(), &[read], &[])?;
+        assert_eq!(rt; unread.status, Status::ReadFault);
+        assert_eq!(rt; unread.sink.bytes(), b"".as_slice());
+    }
+    let writes = whole.sink.bytes().len() as u64 / 16;
+    for write in 0..writes {
+        let unwritten = run(alloc, &["serial"], input.as_slice(), &[], &[write + 1])?;
+        assert_eq!(rt; unwritten.status, Status::WriteFault);
+        assert!(rt; whole.sink.bytes().starts_with(unwritten.sink.bytes()));
+        assert!(rt; unwritten.sink.bytes().len() < whole.sink.bytes().len());
+    }
     Ok(())
 }
 
 #[test]
 fn reads_nothing_without_a_command(rt: HostRuntime) -> Result<(), Fail> {
-    let two = run(rt.alloc(), &["serial", "now"], TRAFFIC, &[1], &[1])?;
+    let two = run(rt.alloc(), &["serial", "now"], ONE_CYCLE, &[1], &[1])?;
     assert_eq!(rt; two.status, Status::Usage);
     assert_eq!(rt; two.sink.bytes(), b"".as_slice());
-    let none = run(rt.alloc(), &[], TRAFFIC, &[1], &[1])?;
+    let none = run(rt.alloc(), &[], ONE_CYCLE, &[1], &[1])?;
     assert_eq!(rt; none.status, Status::Usage);
-    let other = run(rt.alloc(), &["play"], TRAFFIC, &[1], &[1])?;
+    let other = run(rt.alloc(), &["play"], ONE_CYCLE, &[1], &[1])?;
     assert_eq!(rt; other.status, Status::Usage);
     Ok(())
 }
@@ -208,166 +400,6 @@ fn plays_sixteen_aircraft(rt: HostRuntime) -> Result<(), Fail> {
     text.extend_from_slice(b"end\n")?;
     let done = run(alloc, &["serial"], text.as_slice(), &[], &[])?;
     assert_eq!(rt; done.status, Status::Done);
-    let mut commits = 0u64;
-    for line in done.sink.bytes().split(|byte| *byte == b'\n') {
-        if line.starts_with(b"c,") {
-            commits = commits.saturating_add(1);
-        }
-    }
-    assert_eq!(rt; commits, 9600);
-    Ok(())
-}
-
-// ---- the serial run by itself
-
-fn without_resolution(address: u32, x: i32, alt: i32) -> Result<CraftSpec, Fail> {
-    let mut craft = aircraft(address, x, alt)?;
-    craft.kind = Kind::Ta;
-    Ok(craft)
-}
-
-fn commit(own: u8, cycle: u16, list: [Cell; CRAFTS]) -> Entry {
-    Entry::Commit {
-        own,
-        cycle,
-        cells: Cells { list },
-    }
-}
-
-// At 35,000 and 35,300 ft, 91,200 ft apart. The tests of a traffic advisory first hold in cycle 13.
-#[test]
-fn advises_traffic_from_cycle_13_on(rt: HostRuntime) -> Result<(), Fail> {
-    let low = without_resolution(0x40_0A01, 0, 35_000)?;
-    let high = without_resolution(0x40_0B02, 91_200, 35_300)?;
-    let met = meeting(rt.alloc(), low, high, 760)?;
-    if !inside(&met) {
-        return Err("outside the box".into());
-    }
-    if has_ra(&met) {
-        return Err("an aircraft of kind RA".into());
-    }
-    let entries = serial_run(rt.alloc(), &met)?;
-    assert_eq!(rt; entries.len(), 62);
-    let clear = [Cell::Clear; CRAFTS];
-    for cycle in 0..12u16 {
-        let first = 2 * usize::from(cycle);
-        assert_eq!(rt; entries[first], commit(0, cycle + 1, clear));
-        assert_eq!(rt; entries[first + 1], commit(1, cycle + 1, clear));
-    }
-    let mut by_low = clear;
-    by_low[1] = Cell::Traffic;
-    assert_eq!(rt; entries[24], commit(0, 13, by_low));
-    let mut by_high = clear;
-    by_high[0] = Cell::Traffic;
-    assert_eq!(rt; entries[25], commit(1, 13, by_high));
-    Ok(())
-}
-
-// ---- choices
-
-fn aircraft(address: u32, x: i32, alt: i32) -> Result<CraftSpec, Fail> {
-    Ok(CraftSpec {
-        address: Address::new(address).ok_or("no address")?,
-        kind: Kind::Ra,
-        x,
-        y: 0,
-        alt,
-        ceiling: None,
-    })
-}
-
-fn leg(craft: u8, vx: i32) -> Leg {
-    Leg {
-        craft,
-        from: 1,
-        vx,
-        vy: 0,
-        vz: 0,
-    }
-}
-
-// Two aircraft that fly towards each other.
-fn meeting(alloc: Global, low: CraftSpec, high: CraftSpec, speed: i32) -> Result<Encounter, Fail>
-    requires speed { IsWithin 2000 speed }
-{
-    let made = Encounter::make(
-        1,
-        31,
-        0,
-        Gains {
-            alpha: 683,
-            beta: 256,
-        },
-        Gains {
-            alpha: 512,
-            beta: 128,
-        },
-        [low, high].to_vec(alloc)?,
-        [leg(0, speed), leg(1, -speed)].to_vec(alloc)?,
-        Vec::new(alloc),
-        Vec::new(alloc),
-        Vec::new(alloc),
-    );
-    Ok(made.ok_or("refused")?)
-}
-
-// The aircraft of this index, after so many looks.
-fn craft_after(encounter: &Encounter, own: u8, looks: u16) -> Result<Craft, Fail>
-    requires { looks ≤ encounter.now.cycles }
-    ensures { IfOk result (λ c. Belongs encounter.now c × (c.cycle ≡ looks)) }
-{
-    if !inside(encounter) {
-        return Err("outside the box".into());
-    }
-    if !is_active(encounter, own) {
-        return Err("not active".into());
-    }
-    let mut craft = Craft::new(encounter, own);
-    for _ in 0..looks {
-        let _ = craft.look(encounter);
-    }
-    Ok(craft)
-}
-
-// What an aircraft sees of another one in a cycle.
-fn view_in(encounter: &Encounter, own: u8, target: usize, cycle: u16) -> Result<View, Fail>
-    requires target { target < CRAFTS }
-    requires cycle { 1 ≤ cycle }
-    requires run { cycle ≤ encounter.now.cycles }
-{
-    let mut craft = craft_after(encounter, own, cycle - 1)?;
-    Ok(craft.look(encounter).views[target])
-}
-
-// At 35,000 and 35,300 ft, in the first cycle of a threat: the lower one goes down, the higher one up.
-#[test]
-fn choose_opposite_senses(rt: HostRuntime) -> Result<(), Fail> {
-    let low = aircraft(0x40_0A01, 0, 35_000)?;
-    let high = aircraft(0x40_0B02, 91_200, 35_300)?;
-    let met = meeting(rt.alloc(), low, high, 760)?;
-    assert_eq!(rt; met.cycles(), 31);
-    for (own, target, sense) in [(0, 1, Sense::Down), (1, 0, Sense::Up)] {
-        let view = view_in(&met, own, target, 26)?;
-        assert!(rt; view.threat);
-        assert_eq!(rt; pick(&view), sense);
-        assert_eq!(rt; least(&view, sense, true), Strength::Positive);
-    }
-    Ok(())
-}
-
-// At 1,099 ft each sees the other one a foot higher. To descend is not allowed there, so both climb, across the other's
-// altitude.
-#[test]
-fn choose_to_climb_near_the_ground(rt: HostRuntime) -> Result<(), Fail> {
-    let low = aircraft(0x40_0A01, 0, 1_099)?;
-    let high = aircraft(0x40_0B02, 12_000, 1_099)?;
-    let met = meeting(rt.alloc(), low, high, 200)?;
-    assert_eq!(rt; met.cycles(), 31);
-    for (own, target) in [(0, 1), (1, 0)] {
-        let view = view_in(&met, own, target, 16)?;
-        assert_eq!(rt; view.side, Sense::Down);
-        assert_eq!(rt; pick(&view), Sense::Up);
-        assert_eq!(rt; least(&view, Sense::Up, true), Strength::Positive);
-    }
+    assert_eq!(rt; lines_with(done.sink.bytes(), b"c,"), 9600);
     Ok(())
 }

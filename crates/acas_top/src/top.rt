@@ -34,8 +34,8 @@ fn read_input<S: Source>(
 /// Does what the words of a command line say: reads the source, writes the sink, and says how it ended.
 ///
 /// `serial` reads an encounter and writes the recording of its serial run, or where it is refused the line
-/// `refused,RECORD,CODE`. An encounter in which an aircraft gives resolution advisories can't be played yet: it is
-/// `refused,0,13`. Every other list of words is [`Status::Usage`]. All memory is taken before the first byte is written.
+/// `refused,RECORD,CODE`. Every other list of words is [`Status::Usage`]. All memory is taken before the first byte is
+/// written.
 pub fn acas<S: Source, K: Sink>(
     alloc: Global,
     words: &[String],
@@ -63,8 +63,10 @@ pub fn acas<S: Source, K: Sink>(
         → (Rose (S.faults source.old) (S.faults source.new) → ⊥) → (Rose (K.faults sink.old) (K.faults sink.new) → ⊥)
         → IsAnswer result ⊎ (result ≡ Status.OutOfMemory) }
 
-    // The bytes that `serial` read, to their end, say an encounter without resolution advisories; those that were written
-    // are the recording of its serial journal, which is legal, complete and safe.
+    // The bytes that `serial` read, to their end, say an encounter; those that were written are the recording of its
+    // serial journal. It is legal and complete; no aircraft commits an advisory in the sense that the message in force from
+    // a threat of lower address forbids; and where that message was sent since the threat took its present sense, the
+    // senses are opposite.
     ensures played { map string_bytes words.now ≡ words_of Command.Serial → result ≡ Status.Done
         → PlaysSerial (S.left source.old) (S.left source.new) (Grew (K.written sink.old) (K.written sink.new)) }
 {
