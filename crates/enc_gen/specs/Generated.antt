@@ -1,0 +1,38 @@
+-- The generated encounter of a number.
+use Rattle.std.specs.Prelude.{ℕ, nat_le, if◌then◌else◌, pos, List, [], map}
+use Rattle.std.specs.List.{flat_map}
+use Rattle.acas_base.specs.Encounter.{Parts}
+use Rattle.acas_base.specs.declared.craft.CraftSpec.{CraftSpec}
+use Rattle.enc_gen.specs.Crafts.{draft, legs_of, spec_of}
+use Rattle.enc_gen.specs.Draws.{seed}
+use Rattle.enc_gen.specs.Fates.{fates}
+use Rattle.enc_gen.specs.Making.{Made, each}
+use Rattle.enc_gen.specs.Misses.{misses}
+use Rattle.enc_gen.specs.declared.crafts.Draft.{Draft}
+
+-- What is drawn for the aircraft.
+abbrev pub drafts_of : ℕ → ℕ → Made Draft
+drafts_of number crafts = each draft crafts (seed number)
+
+abbrev pub crafts_of : ℕ → ℕ → List CraftSpec
+crafts_of number crafts = map spec_of (drafts_of number crafts).items
+
+-- The encounter of this number, of so many aircraft and cycles: all aircraft are drawn first, then the misses, then the fates
+-- of messages.
+unfoldable pub generated : ℕ → ℕ → ℕ → Parts
+generated number crafts cycles =
+    let drafts = drafts_of number crafts in
+    let list = map spec_of drafts.items in
+    let missed = misses list cycles drafts.state in
+    record {
+      version = if nat_le crafts 8 then 1 else 2;
+      cycles = cycles;
+      elevation = pos 0;
+      range = record { alpha = 683; beta = 256 };
+      altitude = record { alpha = 512; beta = 128 };
+      crafts = list;
+      legs = flat_map (legs_of cycles) drafts.items;
+      misses = missed.items;
+      plans = [];
+      fates = (fates list cycles missed.state).items;
+    }

@@ -1,0 +1,9 @@
+pub mod Draws
+pub mod Making
+pub mod Crafts
+pub mod Misses
+pub mod Fates
+pub mod Generated
+pub mod Near
+pub use Rattle.acas_base.specs.Encounter
+pub use Rattle.flight.specs.Inside

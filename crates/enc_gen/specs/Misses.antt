@@ -1,0 +1,36 @@
+-- The misses of a generated encounter.
+use Rattle.std.specs.Prelude.{ℕ, ◌+◌, ◌==◌, Bool, false, not, if◌then◌else◌, List, length, min, slice_get}
+use Rattle.std.specs.Option.{option_map_or}
+use Rattle.acas_base.specs.Encounter.{is_active}
+use Rattle.acas_base.specs.declared.craft.CraftSpec.{CraftSpec}
+use Rattle.acas_base.specs.declared.craft.Miss.{Miss}
+use Rattle.enc_gen.specs.Draws.{draw}
+use Rattle.enc_gen.specs.Making.{Made, each, nothing, one, only}
+
+abbrev pub is_active_at : List CraftSpec → ℕ → Bool
+is_active_at crafts craft = option_map_or is_active (slice_get crafts craft) false
+
+-- A miss within the run.
+abbrev pub some_miss : ℕ → ℕ → ℕ → ℕ → Made Miss
+some_miss cycles own target s =
+    let first = draw cycles s in
+    let more = draw 8 first.state in
+    one (record { own = own; target = target; from = 1 + first.number; to = min cycles (1 + first.number + more.number) }) more.state
+
+-- One pair in four has a miss.
+unfoldable pub miss : ℕ → ℕ → ℕ → ℕ → Made Miss
+miss cycles own target s =
+    let d = draw 4 s in
+    if d.number == 0 then some_miss cycles own target d.state else nothing d.state
+
+-- That of an own aircraft and a target, where they are two.
+abbrev pub pair_miss : ℕ → ℕ → ℕ → ℕ → Made Miss
+pair_miss cycles own target = only (not (target == own)) (miss cycles own target)
+
+-- Those of an own aircraft, where it is active, by target.
+abbrev pub own_misses : List CraftSpec → ℕ → ℕ → ℕ → Made Miss
+own_misses crafts cycles own = only (is_active_at crafts own) (each (pair_miss cycles own) (length crafts))
+
+-- Those of all aircraft, by own aircraft.
+abbrev pub misses : List CraftSpec → ℕ → ℕ → Made Miss
+misses crafts cycles = each (own_misses crafts cycles) (length crafts)

@@ -1,0 +1,7 @@
+//! Encounters that are made up: the number of one decides all of it.
+#![tactic(auto)]
+
+mod crafts;
+mod draws;
+mod fates;
+mod misses;
