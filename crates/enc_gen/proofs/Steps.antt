@@ -1,7 +1,7 @@
 -- What is made one after another.
 use Rattle.std.proofs.Common.{◌≡◌, ℕ, ◌+◌, Bool, true, false, List, [], ◌∷◌, ◌++◌, append_assoc, add-one, refl, sym, ◌∙◌, ap}
 use Rattle.std.proofs.lemmas.List.{append-nil}
-use Rattle.enc_gen.specs.Making.{Made, Makes, each, nothing, one, only}
+use Rattle.enc_gen.specs.Making.{Made, Makes, each, only}
 
 -- Nothing is made for the numbers below 0.
 pub none-made : {X : Type 0} (make : ℕ → ℕ → Made X) (s : ℕ) (xs : List X) → Makes (each make 0) s xs s xs

@@ -1,6 +1,5 @@
 -- The aircraft of a generated encounter, and how they fly.
-use Rattle.std.specs.Prelude.{ℕ, ◌+◌, ◌*◌, ◌==◌, if◌then◌else◌, nat_le, ℤ, pos, neg_ℤ, ◌+ℤ◌, ◌-ℤ◌, ◌*ℤ◌, int_div, List, [], ◌∷◌, None, filter, map}
-use Rattle.std.specs.List.{flat_map}
+use Rattle.std.specs.Prelude.{ℕ, ◌+◌, ◌*◌, ◌==◌, if◌then◌else◌, nat_le, ℤ, pos, neg_ℤ, ◌-ℤ◌, ◌*ℤ◌, int_div, List, [], ◌∷◌, None, filter}
 use Rattle.acas_base.specs.Ranges.{IsBetween, IsWithin}
 use Rattle.acas_base.specs.declared.craft.CraftSpec.{CraftSpec}
 use Rattle.acas_base.specs.declared.craft.Kind.{Kind}

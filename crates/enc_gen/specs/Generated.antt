@@ -1,8 +1,7 @@
 -- The generated encounter of a number.
-use Rattle.std.specs.Prelude.{ℕ, nat_le, if◌then◌else◌, pos, List, [], map}
+use Rattle.std.specs.Prelude.{ℕ, nat_le, if◌then◌else◌, pos, [], map}
 use Rattle.std.specs.List.{flat_map}
 use Rattle.acas_base.specs.Encounter.{Parts}
-use Rattle.acas_base.specs.declared.craft.CraftSpec.{CraftSpec}
 use Rattle.enc_gen.specs.Crafts.{draft, legs_of, spec_of}
 use Rattle.enc_gen.specs.Draws.{seed}
 use Rattle.enc_gen.specs.Fates.{fates}
@@ -10,12 +9,13 @@ use Rattle.enc_gen.specs.Making.{Made, each}
 use Rattle.enc_gen.specs.Misses.{misses}
 use Rattle.enc_gen.specs.declared.crafts.Draft.{Draft}
 
+-- The version of the format, by the number of aircraft.
+abbrev pub version_of : ℕ → ℕ
+version_of crafts = if nat_le crafts 8 then 1 else 2
+
 -- What is drawn for the aircraft.
 abbrev pub drafts_of : ℕ → ℕ → Made Draft
 drafts_of number crafts = each draft crafts (seed number)
-
-abbrev pub crafts_of : ℕ → ℕ → List CraftSpec
-crafts_of number crafts = map spec_of (drafts_of number crafts).items
 
 -- The encounter of this number, of so many aircraft and cycles: all aircraft are drawn first, then the misses, then the fates
 -- of messages.
@@ -25,7 +25,7 @@ generated number crafts cycles =
     let list = map spec_of drafts.items in
     let missed = misses list cycles drafts.state in
     record {
-      version = if nat_le crafts 8 then 1 else 2;
+      version = version_of crafts;
       cycles = cycles;
       elevation = pos 0;
       range = record { alpha = 683; beta = 256 };

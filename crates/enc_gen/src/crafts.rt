@@ -1,5 +1,5 @@
 // The aircraft, and how they fly.
-ghost use Rattle.std.specs.Prelude.{◌≡◌, ◌∷◌, ◌++◌, ◌<◌, ◌≤◌, [], All, IfOk, OnOk, filter, map, nat_le, neg_ℤ, pos};
+ghost use Rattle.std.specs.Prelude.{◌≡◌, ◌∷◌, ◌++◌, ◌<◌, ◌≤◌, [], All, IfOk, OnOk, filter, length, map, nat_le, neg_ℤ, pos};
 ghost use Rattle.std.specs.List.{flat_map};
 ghost use Rattle.acas_base.specs.Ranges.{IsBetween, IsWithin};
 ghost use Rattle.acas_base.specs.declared.craft.Leg.{Leg};
@@ -98,6 +98,7 @@ pub(crate) fn draw_drafts(
 ) -> Result<Vec<Draft>, AllocError>
     ensures made { IfOk result (λ drafts. Makes (each draft count) draws.old [] draws.new drafts.items) }
     ensures near { IfOk result (λ drafts. All IsDraft drafts.items) }
+    ensures long { IfOk result (λ drafts. length drafts.items ≡ count) }
 {
     let mut drafts = Vec::with_capacity(alloc, usize::from(count))?;
     for craft in 0..count {
@@ -130,7 +131,8 @@ fn spec_of(draft: &Draft) -> CraftSpec
 
 // The aircraft.
 pub(crate) fn crafts_of(alloc: Global, drafts: &[Draft]) -> Result<Vec<CraftSpec>, AllocError>
-    ensures { IfOk result (λ crafts. crafts.items ≡ map spec_of drafts.now) }
+    ensures made { IfOk result (λ crafts. crafts.items ≡ map spec_of drafts.now) }
+    ensures long { IfOk result (λ crafts. length crafts.items ≡ length drafts.now) }
 {
     let mut crafts = Vec::with_capacity(alloc, drafts.len())?;
     for draft in drafts {
@@ -206,11 +208,7 @@ fn add_legs(legs: &mut Vec<Leg>, cycles: u16, draft: &Draft) -> Result<(), Alloc
 }
 
 // The legs of all aircraft.
-pub(crate) fn legs_of(
-    alloc: Global,
-    drafts: &[Draft],
-    cycles: u16,
-) -> Result<Vec<Leg>, AllocError>
+pub(crate) fn legs_of(alloc: Global, drafts: &[Draft], cycles: u16) -> Result<Vec<Leg>, AllocError>
     requires { All IsDraft drafts.now }
     ensures { IfOk result (λ legs. legs.items ≡ flat_map (legs_of cycles) drafts.now) }
 {

@@ -71,13 +71,7 @@ fn draw_damaged(draws: &mut Draws) -> CopyPlan
 
 // The fate for a number that is drawn.
 #[tactic(auto, unfolding(crate::specs::Fates::fate_by))]
-fn fate_by(
-    draws: &mut Draws,
-    number: u32,
-    sender: u8,
-    receiver: u8,
-    message: u16,
-) -> Option<Fate>
+fn fate_by(draws: &mut Draws, number: u32, sender: u8, receiver: u8, message: u16) -> Option<Fate>
     ensures items { option_to_list result ≡ (fate_by number sender receiver message draws.old).items }
     ensures state { draws.new ≡ (fate_by number sender receiver message draws.old).state }
 {

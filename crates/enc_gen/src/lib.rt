@@ -4,4 +4,10 @@
 mod crafts;
 mod draws;
 mod fates;
+mod making;
 mod misses;
+
+pub use making::{made_law, make};
+
+#[cfg(test)]
+mod tests;

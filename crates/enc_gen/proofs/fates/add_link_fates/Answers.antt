@@ -1,4 +1,4 @@
-use Rattle.std.proofs.Common.{◌≡◌, ◌∙◌, sym, subst, arith, length, true, false, ℕ}
+use Rattle.std.proofs.Common.{◌≡◌, ◌∙◌, sym, subst, arith, true, false, ℕ}
 use Rattle.enc_gen.proofs.Steps.{next-made, none-made, skip-made, where-made}
 use Rattle.enc_gen.specs.Fates.{is_link, fate}
 use Rattle.enc_gen.specs.Making.{Makes, each}

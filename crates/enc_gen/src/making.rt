@@ -1,0 +1,69 @@
+// Encounters of a number.
+ghost use Rattle.std.specs.Prelude.{◌≡◌, ◌≤◌, ℕ, IfOk};
+ghost use Rattle.acas_base.specs.Encounter.{IsEncounter};
+ghost use Rattle.acas_base.specs.Ranges.{IsCycle};
+ghost use Rattle.acas_base.specs.declared.TheConstants.{CRAFTS};
+ghost use Rattle.enc_gen.specs.Generated.{generated, version_of};
+ghost use Rattle.enc_gen.specs.Near.{StaysNear};
+ghost use Rattle.flight.specs.Inside.{IsInside};
+
+use crate::crafts::{crafts_of, draw_drafts, legs_of};
+use crate::draws::Draws;
+use crate::fates::draw_fates;
+use crate::misses::draw_misses;
+use acas_base::{Encounter, Gains};
+use std::alloc::{AllocError, Global};
+
+const RANGE: Gains = Gains {
+    alpha: 683,
+    beta: 256,
+};
+
+const ALTITUDE: Gains = Gains {
+    alpha: 512,
+    beta: 128,
+};
+
+// The version of the format, by the number of aircraft.
+fn version_of(crafts: u8) -> u8
+    ensures { result ≡ version_of crafts }
+{
+    if crafts <= 8 { 1 } else { 2 }
+}
+
+/// The encounter of a number, of `crafts` aircraft and `cycles` cycles: version 1 up to eight aircraft,
+/// version 2 above (this project's profile). It is in the box, and has no ceiling and no plan.
+///
+/// The error says that memory was wanting.
+pub fn make(alloc: Global, number: u32, crafts: u8, cycles: u16) -> Result<Encounter, AllocError>
+    requires some { 1 ≤ crafts }
+    requires few { crafts ≤ CRAFTS }
+    requires cycles { IsCycle cycles }
+    ensures value { IfOk result (λ encounter. encounter ≡ generated number crafts cycles) }
+    ensures valid { IfOk result IsEncounter }
+    ensures inside { IfOk result IsInside }
+{
+    let mut draws = Draws::new(number);
+    let drafts = draw_drafts(alloc, &mut draws, crafts)?;
+    let list = crafts_of(alloc, &drafts)?;
+    let legs = legs_of(alloc, &drafts, cycles)?;
+    let misses = draw_misses(alloc, &mut draws, &list, cycles)?;
+    let fates = draw_fates(alloc, &mut draws, &list, cycles)?;
+    let plans = Vec::new(alloc);
+    let version = version_of(crafts);
+    match Encounter::make(
+        version, cycles, 0, RANGE, ALTITUDE, list, legs, misses, plans, fates,
+    ) {
+        Some(encounter) => Ok(encounter),
+        None => unreachable!(),
+    }
+}
+
+/// A law: the encounter of any number, of one to sixteen aircraft and 1 to 600 cycles, is an encounter, in
+/// the box. Its aircraft stay within 60,000 ft of zero in x and y, and between 1,600 and 38,300 ft in
+/// altitude.
+pub fn made_law()
+    ensures valid { (number crafts cycles : ℕ) → 1 ≤ crafts → crafts ≤ CRAFTS → IsCycle cycles → IsEncounter (generated number crafts cycles) }
+    ensures near { (number crafts cycles : ℕ) → crafts ≤ CRAFTS → IsCycle cycles → StaysNear (generated number crafts cycles) }
+    ensures inside { (number crafts cycles : ℕ) → crafts ≤ CRAFTS → IsCycle cycles → IsInside (generated number crafts cycles) }
+{}
