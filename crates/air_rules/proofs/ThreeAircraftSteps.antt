@@ -25,8 +25,9 @@ few : (sender receiver number : ℕ) → AreFew (copies_of sender receiver numbe
 few sender receiver number =
     let one = λ (copies : List CopyPlan) (h : AreFew copies) (b : Bool) (rest : List CopyPlan) (g : AreFew rest). either AreFew b copies rest h g in
     one (no_copy ∷ spoilt ∷ []) (omega arith) (eqb sender 0 && (eqb receiver 1 && eqb number 1)) _
-    (one (held ∷ []) (omega arith) (eqb sender 0 && (eqb receiver 2 && eqb number 1)) _
-    (one [] (omega arith) (eqb sender 0 && (eqb receiver 2 && eqb number 2)) (no_copy ∷ []) (omega arith)))
+    (one (held 2 ∷ held 2 ∷ []) (omega arith) (eqb sender 0 && (eqb receiver 2 && eqb number 1)) _
+    (one [] (omega arith) (eqb sender 0 && (eqb receiver 2 && eqb number 2)) _
+    (one (held 1 ∷ []) (omega arith) (eqb sender 2 && (eqb receiver 0 && eqb number 1)) (no_copy ∷ []) (omega arith))))
 
 counted : (own : ℕ) → is_active three own ≡ true → own < 3
 counted zero e = omega arith
@@ -58,7 +59,8 @@ threatens zero other cycle =
     either Threatens (eqb other 1) (ends_in_three cycle) (cond (eqb other 2) (starts_in_two cycle) quiet) (threat-ends cycle)
     (either Threatens (eqb other 2) (starts_in_two cycle) quiet (threat-starts cycle) (no-threat quiet refl))
 threatens (suc zero) other cycle = either Threatens (eqb other 0) (starts_in_three cycle) quiet (threat-starts-later cycle) (no-threat quiet refl)
-threatens (suc (suc own)) other cycle = no-threat quiet refl
+threatens (suc (suc zero)) other cycle = either Threatens (eqb other 0) (starts_in_three cycle) quiet (threat-starts-later cycle) (no-threat quiet refl)
+threatens (suc (suc (suc own))) other cycle = no-threat quiet refl
 
 resolves : (own other cycle : ℕ) → (view_of own other cycle).resolves ≡ true → is_ra three own ≡ true
 resolves zero other cycle e = refl

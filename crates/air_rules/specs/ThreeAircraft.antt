@@ -1,7 +1,7 @@
 -- A second worked journal. Three aircraft of kind RA, of which the third has the lowest address. In the second cycle the
 -- first one advises against both others, up against the second and down against the third. The advisory against the
 -- second ends in the third cycle. There the second one, which would choose to climb, descends, since the first one asked
--- it not to pass above.
+-- it not to pass above. The third one climbs.
 use Rattle.std.specs.Prelude.{◌≡◌, ℕ, zero, suc, Bool, true, false, ◌&&◌, if◌then◌else◌, ◌==◌, List, [], ◌∷◌, ◌++◌, reverse, take, Option, Some, None, pos}
 use Rattle.acas_base.specs.Encounter.{no_copy}
 use Rattle.acas_base.specs.declared.advisory.Cell.{Cell}
@@ -49,7 +49,7 @@ threat side = view_with true true true side
 abbrev pub near : View
 near = view_with true false false Up
 
--- By cycle: what the first aircraft sees of the second, the first of the third, and the second of the first.
+-- By cycle: what the first aircraft sees of the second, the first of the third, and both others of the first.
 abbrev pub ends_in_three : ℕ → View
 ends_in_three cycle = if cycle == 2 then threat Up else if cycle == 3 then near else quiet
 
@@ -62,21 +62,23 @@ starts_in_three cycle = if cycle == 1 then quiet else if cycle == 2 then near el
 abbrev pub view_of : ℕ → ℕ → ℕ → View
 view_of zero other cycle = if other == 1 then ends_in_three cycle else if other == 2 then starts_in_two cycle else quiet
 view_of (suc zero) other cycle = if other == 0 then starts_in_three cycle else quiet
-view_of (suc (suc own)) other cycle = quiet
+view_of (suc (suc zero)) other cycle = if other == 0 then starts_in_three cycle else quiet
+view_of (suc (suc (suc own))) other cycle = quiet
 
--- The first message to the second aircraft has a spoilt copy beside the good one. Of those to the third one the first is
--- held for two commits, and the second is lost.
+-- The first message to the second aircraft has a spoilt copy beside the good one. Of those to the third one the first has
+-- two copies that are held for two commits, and the second is lost. The third one's first message is held for one.
 abbrev pub spoilt : CopyPlan
 spoilt = record { hold = 0; mask = 7 }
 
-abbrev pub held : CopyPlan
-held = record { hold = 2; mask = 0 }
+abbrev pub held : ℕ → CopyPlan
+held commits = record { hold = commits; mask = 0 }
 
 abbrev pub copies_of : ℕ → ℕ → ℕ → List CopyPlan
 copies_of sender receiver number =
     if sender == 0 && (receiver == 1 && number == 1) then no_copy ∷ spoilt ∷ []
-    else if sender == 0 && (receiver == 2 && number == 1) then held ∷ []
+    else if sender == 0 && (receiver == 2 && number == 1) then held 2 ∷ held 2 ∷ []
     else if sender == 0 && (receiver == 2 && number == 2) then []
+    else if sender == 2 && (receiver == 0 && number == 1) then held 1 ∷ []
     else no_copy ∷ []
 
 abbrev pub kind_of : ℕ → Option Kind
@@ -122,37 +124,44 @@ abbrev pub second_round : List Entry
 second_round =
     commit 0 2 Clear (advisory Up 1 false) (advisory Down 1 false) ∷
     commit 1 2 Traffic Clear Clear ∷
-    commit 2 2 Clear Clear Clear ∷
+    commit 2 2 Traffic Clear Clear ∷
     Send 0 1 1 2012 ∷
     Send 0 2 1 1012 ∷
     Take 1 6 0 true ∷
     Take 1 6 1 false ∷
     []
 
--- The first aircraft cancels what it said to the second one, and has one threat left. The second one descends.
+-- The first aircraft cancels what it said to the second one, and has one threat left. The second one descends, and the
+-- third one climbs. It tells that to the first one, which has to wait.
 abbrev pub third_round : List Entry
 third_round =
     commit 0 3 Clear Traffic (advisory Down 2 false) ∷
     commit 1 3 (advisory Down 1 true) Clear Clear ∷
-    commit 2 3 Clear Clear Clear ∷
+    commit 2 3 (advisory Up 1 false) Clear Clear ∷
     Send 0 1 2 202 ∷
     Send 0 2 2 1002 ∷
     Send 1 0 1 1003 ∷
+    Send 2 0 1 2001 ∷
     Take 0 15 0 true ∷
     Take 1 13 0 true ∷
     []
 
--- There is nothing more to cancel. The third aircraft has made two commits since the message that was held.
+-- There is nothing more to cancel. The first and the third aircraft have made the commits for which messages were held,
+-- and take these first, each copy.
 abbrev pub fourth_round : List Entry
 fourth_round =
     commit 0 4 Clear Clear (advisory Down 3 false) ∷
     commit 1 4 (advisory Down 2 true) Clear Clear ∷
-    commit 2 4 Clear Clear Clear ∷
+    commit 2 4 (advisory Up 2 false) Clear Clear ∷
     Send 0 2 3 1002 ∷
     Send 1 0 2 1003 ∷
-    Take 0 22 0 true ∷
+    Send 2 0 2 2001 ∷
+    Take 0 16 0 true ∷
+    Take 0 23 0 true ∷
+    Take 0 24 0 true ∷
     Take 2 7 0 true ∷
-    Take 2 21 0 true ∷
+    Take 2 7 1 true ∷
+    Take 2 22 0 true ∷
     []
 
 abbrev pub entries : List Entry
@@ -165,10 +174,10 @@ worked = reverse entries
 abbrev pub after_first : ℕ → List Entry → List Entry
 after_first n others = reverse (take n entries ++ others)
 
--- After its third round the third aircraft goes ahead, and takes the held copy before the others have committed. It has
+-- After its third round the third aircraft goes ahead, and takes a held copy before the others have committed. It has
 -- then made four commits.
 abbrev pub goes_ahead : List Entry
-goes_ahead = after_first 18 (commit 2 4 Clear Clear Clear ∷ Take 2 7 0 true ∷ [])
+goes_ahead = after_first 19 (commit 2 4 (advisory Up 2 false) Clear Clear ∷ Take 2 7 0 true ∷ [])
 
 -- What isn't allowed after a beginning of it: to send to the third aircraft first; to send twice; to cancel again; to
 -- take a copy twice, before its time, by another aircraft, or one that was lost.
@@ -178,11 +187,11 @@ IsRefused n entry = IsLegal three (after_first n (entry ∷ [])) → ⊥
 pub record RefusesOthers : Type 0 where
   pub order_of_sends : IsRefused 6 (Send 0 2 1 1012)
   pub sent_twice : IsRefused 7 (Send 0 1 2 2012)
-  pub cancelled_twice : IsRefused 21 (Send 0 1 3 202)
+  pub cancelled_twice : IsRefused 22 (Send 0 1 3 202)
   pub taken_twice : IsRefused 10 (Take 1 6 0 true)
-  pub held_back : IsRefused 18 (Take 2 7 0 true)
+  pub held_back : IsRefused 19 (Take 2 7 0 true)
   pub not_its_own : IsRefused 8 (Take 2 6 0 true)
-  pub lost : IsRefused 18 (Take 2 14 0 true)
+  pub lost : IsRefused 19 (Take 2 14 0 true)
 
 -- What the rules say of it.
 pub record IsWorkedOutForThree : Type 0 where
