@@ -11,7 +11,7 @@ use Rattle.air_rules.proofs.Legal.{allowed}
 use Rattle.air_rules.specs.Air.{IsMessageOf, IsSound, is_active, is_ra}
 use Rattle.air_rules.specs.Rules.{IsLegal}
 use Rattle.air_rules.specs.Serial.{IsSerial}
-use Rattle.air_rules.specs.ThreeAircraft.{RefusesOthers, copies_of, ends_in_three, goes_ahead, held, near, quiet, spoilt, starts_in_three, starts_in_two, three, threat, view_of, worked}
+use Rattle.air_rules.specs.ThreeAircraft.{RefusesOthers, copies_of, ends_in_three, goes_ahead, held, near, quiet, spoilt, starts_in_three, starts_in_two, takes_older_last, three, threat, view_of, worked}
 
 -- What holds of both holds of either.
 either : {X : Type 0} (P : X → Type 0) (b : Bool) (x y : X) → P x → P y → P (cond b x y)
@@ -90,6 +90,9 @@ three-serial = serial-by three three-sound worked refl refl refl
 
 pub ahead-legal : IsLegal three goes_ahead
 ahead-legal = legal-by three three-sound goes_ahead refl refl
+
+pub older-last-legal : IsLegal three takes_older_last
+older-last-legal = legal-by three three-sound takes_older_last refl refl
 
 pub refuses-others : RefusesOthers
 refuses-others = record {

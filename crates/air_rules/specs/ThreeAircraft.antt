@@ -179,6 +179,10 @@ after_first n others = reverse (take n entries ++ others)
 abbrev pub goes_ahead : List Entry
 goes_ahead = after_first 19 (commit 2 4 (advisory Up 2 false) Clear Clear ∷ Take 2 7 0 true ∷ [])
 
+-- In its fourth round the third aircraft takes the newer message first, and then the older one, which was held.
+abbrev pub takes_older_last : List Entry
+takes_older_last = after_first 25 (Take 2 22 0 true ∷ Take 2 7 0 true ∷ [])
+
 -- What isn't allowed after a beginning of it: to send to the third aircraft first; to send twice; to cancel again; to
 -- take a copy twice, before its time, by another aircraft, or one that was lost.
 abbrev pub IsRefused : ℕ → Entry → Type 0
@@ -201,4 +205,6 @@ pub record IsWorkedOutForThree : Type 0 where
   pub complete : IsComplete three worked
   pub ahead : IsLegal three goes_ahead
   pub taken : last_take three goes_ahead 2 0 ≡ Some (record { send = 7; vrc = NotBelow; commits = 4 })
+  pub older_last : IsLegal three takes_older_last
+  pub older_taken : last_take three takes_older_last 2 0 ≡ Some (record { send = 7; vrc = NotBelow; commits = 4 })
   pub refused : RefusesOthers

@@ -12,8 +12,8 @@ pub fn example_law()
 /// Three aircraft, of which one has two threats, with copies that are doubled, spoilt, held back and
 /// lost, and an advisory that starts late and ends: their worked journal is the serial one, legal and
 /// complete. A held copy is taken as soon as its receiver has made the commits, whatever the others
-/// have made. What is sent or taken twice, too early, in the wrong order or by another aircraft isn't
-/// legal.
+/// have made. The last take counts, also where it is of an older message. What is sent or taken twice,
+/// too early, in the wrong order or by another aircraft isn't legal.
 pub fn three_aircraft_law()
     ensures { IsWorkedOutForThree }
 {}

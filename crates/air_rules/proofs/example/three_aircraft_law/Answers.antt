@@ -1,7 +1,7 @@
 use Rattle.air_rules.proofs.example.three_aircraft_law.Goals as goal
 use Rattle.std.proofs.Common.{refl}
 use Rattle.air_rules.proofs.InOrder.{in-order-legal, serial-complete}
-use Rattle.air_rules.proofs.ThreeAircraftSteps.{ahead-legal, refuses-others, three-serial, three-sound}
+use Rattle.air_rules.proofs.ThreeAircraftSteps.{ahead-legal, older-last-legal, refuses-others, three-serial, three-sound}
 use Rattle.air_rules.specs.ThreeAircraft.{three, worked}
 
 pub returns : goal.returns
@@ -12,5 +12,7 @@ returns c = record {
   complete = serial-complete three worked three-sound three-serial;
   ahead = ahead-legal;
   taken = refl;
+  older_last = older-last-legal;
+  older_taken = refl;
   refused = refuses-others;
 }
