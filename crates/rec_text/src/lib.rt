@@ -11,3 +11,6 @@ pub use entries::entry_line;
 pub use laws::{line_law, text_law};
 pub use recording::{Closing, Recording, write};
 pub use report::report_count;
+
+#[cfg(test)]
+mod tests;
