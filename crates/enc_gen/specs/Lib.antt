@@ -5,5 +5,3 @@ pub mod Misses
 pub mod Fates
 pub mod Generated
 pub mod Near
-pub use Rattle.acas_base.specs.Encounter
-pub use Rattle.flight.specs.Inside

@@ -17,7 +17,7 @@ some_miss cycles own target s =
     let more = draw 8 first.state in
     one (record { own = own; target = target; from = 1 + first.number; to = min cycles (1 + first.number + more.number) }) more.state
 
--- One pair in four has a miss.
+-- The miss of a pair, if one is drawn.
 unfoldable pub miss : ℕ → ℕ → ℕ → ℕ → Made Miss
 miss cycles own target s =
     let d = draw 4 s in
