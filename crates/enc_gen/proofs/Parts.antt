@@ -36,14 +36,14 @@ any-draft = record { craft = 0; kind = Ra; x = pos 0; y = pos 0; alt = pos 0; cl
 
 -- The version suits the number of aircraft.
 format-of : (n : ℕ) → IsVersion (version_of n)
-format-of n = by_test (nat_le n 8) where
+format-of n = by_test (nat_le n (most_crafts 1)) where
   by_test : (b : Bool) → IsVersion (if b then 1 else 2)
   by_test true = (omega arith, omega arith)
   by_test false = (omega arith, omega arith)
 
 few-enough : (n : ℕ) → n ≤ 16 → n ≤ most_crafts (version_of n)
-few-enough n few = by_test (nat_le n 8) refl where
-  by_test : (b : Bool) → nat_le n 8 ≡ b → n ≤ most_crafts (if b then 1 else 2)
+few-enough n few = by_test (nat_le n (most_crafts 1)) refl where
+  by_test : (b : Bool) → nat_le n (most_crafts 1) ≡ b → n ≤ most_crafts (if b then 1 else 2)
   by_test true on = grind (arith, nat_tests)
   by_test false off = few
 

@@ -1,7 +1,7 @@
 -- The generated encounter of a number.
 use Rattle.std.specs.Prelude.{ℕ, nat_le, if◌then◌else◌, pos, [], map}
 use Rattle.std.specs.List.{flat_map}
-use Rattle.acas_base.specs.Encounter.{Parts}
+use Rattle.acas_base.specs.Encounter.{Parts, most_crafts}
 use Rattle.enc_gen.specs.Crafts.{draft, legs_of, spec_of}
 use Rattle.enc_gen.specs.Draws.{seed}
 use Rattle.enc_gen.specs.Fates.{fates}
@@ -9,9 +9,9 @@ use Rattle.enc_gen.specs.Making.{Made, each}
 use Rattle.enc_gen.specs.Misses.{misses}
 use Rattle.enc_gen.specs.declared.crafts.Draft.{Draft}
 
--- The version of the format, by the number of aircraft.
+-- The version of the format: the first where it has room for so many aircraft.
 abbrev pub version_of : ℕ → ℕ
-version_of crafts = if nat_le crafts 8 then 1 else 2
+version_of crafts = if nat_le crafts (most_crafts 1) then 1 else 2
 
 -- What is drawn for the aircraft.
 abbrev pub drafts_of : ℕ → ℕ → Made Draft

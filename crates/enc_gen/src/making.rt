@@ -11,7 +11,7 @@ use crate::crafts::{crafts_of, draw_drafts, legs_of};
 use crate::draws::Draws;
 use crate::fates::draw_fates;
 use crate::misses::draw_misses;
-use acas_base::{Encounter, Gains};
+use acas_base::{Encounter, Gains, most_crafts};
 use std::alloc::{AllocError, Global};
 
 const RANGE: Gains = Gains {
@@ -24,11 +24,15 @@ const ALTITUDE: Gains = Gains {
     beta: 128,
 };
 
-// The version of the format, by the number of aircraft.
+// The version of the format: the first where it has room for so many aircraft.
 fn version_of(crafts: u8) -> u8
     ensures { result ≡ version_of crafts }
 {
-    if crafts <= 8 { 1 } else { 2 }
+    if usize::from(crafts) <= most_crafts(1) {
+        1
+    } else {
+        2
+    }
 }
 
 /// The encounter of a number, of `crafts` aircraft and `cycles` cycles: version 1 up to eight aircraft,
