@@ -1,5 +1,5 @@
 -- The journal of two aircraft, by computation.
-use Rattle.std.proofs.Common.{◌≡◌, ℕ, zero, suc, ◌<◌, true, false, reverse, Some, sym, refl, ap, arith, inl, inr}
+use Rattle.std.proofs.Common.{◌≡◌, ℕ, zero, suc, ◌<◌, true, false, reverse, Some, sym, refl, ap, ◌∙◌, arith, inl, inr}
 use Rattle.acas_base.specs.Senses.{sense_of}
 use Rattle.acas_base.specs.declared.advisory.Cells.{Cells}
 use Rattle.acas_base.specs.declared.advisory.ResMsg.{ResMsg}
@@ -9,7 +9,7 @@ use Rattle.air_rules.proofs.Deciding.{in-order-of-takes, legal-by, serial-by}
 use Rattle.air_rules.proofs.ExampleWords.{IsSender, apart, reads}
 use Rattle.air_rules.proofs.Legal.{allowed}
 use Rattle.air_rules.specs.Air.{IsMessageOf, IsSound, is_active, is_ra}
-use Rattle.air_rules.specs.Example.{IsTwiceEqual, MeetsPremises, example, is_here, past_a_copy, twice_equal, view_of, word_of, worked, wrong_order, wrong_sense, wrong_word}
+use Rattle.air_rules.specs.Example.{IsTwiceEqual, MeetsPremises, example, is_here, past_a_copy, twice_equal, view_of, watched, watching, word_of, worked, wrong_order, wrong_sense, wrong_word}
 use Rattle.air_rules.specs.Journal.{cell_at}
 use Rattle.air_rules.specs.Rules.{IsLegal}
 use Rattle.air_rules.specs.Serial.{IsSerial}
@@ -39,6 +39,33 @@ example-sound = record {
   plain = λ word. refl;
   apart = λ own sent copy plan message read is e r. apart message read plan.mask (sender own message is) r;
 }
+
+unresolved : (own : ℕ) → is_ra watching own ≡ false
+unresolved zero = refl
+unresolved (suc zero) = refl
+unresolved (suc (suc n)) = refl
+
+nobody : (own : ℕ) → is_ra watching own ≡ true → ⊥
+nobody own e = let f : false ≡ true = sym (unresolved own) ∙ e in cc
+
+watching-counted : (own : ℕ) → is_active watching own ≡ true → own < 2
+watching-counted zero e = omega arith
+watching-counted (suc zero) e = omega arith
+watching-counted (suc (suc n)) e = absurd (cc)
+
+watching-sound : IsSound watching
+watching-sound = record {
+  few = λ sender receiver number. omega arith;
+  counted = watching-counted;
+  threatens = λ own other cycle e. e;
+  resolves = λ own other cycle e. absurd (cc);
+  reads = λ own message is. absurd (nobody own is.resolves);
+  plain = λ word. refl;
+  apart = λ own sent copy plan message read is e r. absurd (nobody own is.resolves);
+}
+
+pub watched-serial : IsSerial watching watched
+watched-serial = serial-by watching watching-sound watched refl refl refl
 
 pub example-serial : IsSerial example worked
 example-serial = serial-by example example-sound worked refl refl refl

@@ -204,6 +204,19 @@ pub record MeetsPremises : Type 0 where
   pub sent : WasSent told 2 0 1 (record { sender = 0; receiver = 1; number = 1; word = 2001 })
   pub bound : IsBoundBy example told 1 0 (record { send = 2; vrc = NotAbove; commits = 1 })
 
+-- Another air, in which nobody resolves: one aircraft of kind TA, which commits, and one of kind XPDR, which makes no
+-- entries.
+abbrev pub watching_kind : ℕ → Option Kind
+watching_kind zero = Some kinds.Ta
+watching_kind (suc zero) = Some kinds.Xpdr
+watching_kind (suc (suc n)) = None
+
+abbrev pub watching : Air
+watching = record example { kind = watching_kind; view = λ own other cycle. view_of false }
+
+abbrev pub watched : List Entry
+watched = commit 0 2 1 Clear ∷ commit 0 1 1 Clear ∷ []
+
 -- What the rules say of it.
 pub record IsWorkedOut : Type 0 where
   pub sound : IsSound example
@@ -217,3 +230,4 @@ pub record IsWorkedOut : Type 0 where
   pub past : IsLegal example (reverse past_a_copy) → ⊥
   pub twice : IsTwiceEqual
   pub in_force : IsInForce
+  pub without_messages : IsSerial watching watched

@@ -4,7 +4,8 @@ ghost use Rattle.air_rules.specs.ThreeAircraft.{IsWorkedOutForThree};
 
 /// Two aircraft in conflict: their worked journal is the serial one, legal and complete. With one wrong
 /// sense, one wrong word, a take before its send, or a commit past a due copy it isn't legal. The
-/// premises of the laws about opposite senses hold of it.
+/// premises of the laws about opposite senses hold of it. Where one aircraft of kind TA and one of kind
+/// XPDR are in the air, the serial journal has the commits of the first.
 pub fn example_law()
     ensures { IsWorkedOut }
 {}

@@ -1,6 +1,6 @@
 use Rattle.air_rules.proofs.example.example_law.Goals as goal
 use Rattle.std.proofs.Common.{refl}
-use Rattle.air_rules.proofs.ExampleSteps.{example-serial, example-sound, past-a-copy-refused, premises-met, twice-legal, wrong-order-refused, wrong-sense-refused, wrong-word-refused}
+use Rattle.air_rules.proofs.ExampleSteps.{example-serial, example-sound, past-a-copy-refused, premises-met, twice-legal, watched-serial, wrong-order-refused, wrong-sense-refused, wrong-word-refused}
 use Rattle.air_rules.proofs.InOrder.{in-order-legal, serial-complete}
 use Rattle.air_rules.specs.Example.{example, worked}
 
@@ -17,4 +17,5 @@ returns c = record {
   past = past-a-copy-refused;
   twice = twice-legal;
   in_force = record { kept = refl; spoilt = refl; binds = refl; lapses = refl; by_own_commits = refl; not_by_others = refl };
+  without_messages = watched-serial;
 }
