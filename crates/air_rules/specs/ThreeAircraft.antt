@@ -15,7 +15,7 @@ use Rattle.acas_base.specs.declared.entry.Entry.{Entry}
 use Rattle.acas_base.specs.declared.entry.Entry.TheVariants.{Commit, Send, Take}
 use Rattle.acas_base.specs.declared.link.CopyPlan.{CopyPlan}
 use Rattle.acas_base.specs.declared.view.View.{View}
-use Rattle.air_rules.specs.Air.{Air, IsSound}
+use Rattle.air_rules.specs.Air.{Air, IsSecond, IsSound}
 use Rattle.air_rules.specs.Example.{advisory, flip, read_word, separations, word_of}
 use Rattle.air_rules.specs.Rules.{IsLegal, IsComplete}
 use Rattle.air_rules.specs.Serial.{IsSerial}
@@ -197,9 +197,10 @@ pub record RefusesOthers : Type 0 where
   pub not_its_own : IsRefused 8 (Take 2 6 0 true)
   pub lost : IsRefused 19 (Take 2 14 0 true)
 
--- What the rules say of it.
+-- What the rules say of it. The first aircraft gives way to the third one, since that has the lower address.
 pub record IsWorkedOutForThree : Type 0 where
   pub sound : IsSound three
+  pub gives_way : IsSecond three 0 2
   pub serial : IsSerial three worked
   pub legal : IsLegal three worked
   pub complete : IsComplete three worked

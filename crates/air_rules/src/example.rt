@@ -14,7 +14,8 @@ pub fn example_law()
 /// lost, and an advisory that starts late and ends: their worked journal is the serial one, legal and
 /// complete. A held copy is taken as soon as its receiver has made the commits, whatever the others
 /// have made. The last take counts, also where it is of an older message. What is sent or taken twice,
-/// too early, in the wrong order or by another aircraft isn't legal.
+/// too early, in the wrong order or by another aircraft isn't legal. The higher address gives way,
+/// whatever its index.
 pub fn three_aircraft_law()
     ensures { IsWorkedOutForThree }
 {}

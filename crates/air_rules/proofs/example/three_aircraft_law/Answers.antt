@@ -1,5 +1,5 @@
 use Rattle.air_rules.proofs.example.three_aircraft_law.Goals as goal
-use Rattle.std.proofs.Common.{refl}
+use Rattle.std.proofs.Common.{refl, arith}
 use Rattle.air_rules.proofs.InOrder.{in-order-legal, serial-complete}
 use Rattle.air_rules.proofs.ThreeAircraftSteps.{ahead-legal, older-last-legal, refuses-others, three-serial, three-sound}
 use Rattle.air_rules.specs.ThreeAircraft.{three, worked}
@@ -7,6 +7,7 @@ use Rattle.air_rules.specs.ThreeAircraft.{three, worked}
 pub returns : goal.returns
 returns c = record {
   sound = three-sound;
+  gives_way = record { apart = λ e. omega (arith, e); rank = refl };
   serial = three-serial;
   legal = in-order-legal three worked three-sound three-serial.in_order;
   complete = serial-complete three worked three-sound three-serial;
