@@ -77,7 +77,7 @@ some-where : {X : Type 0} (o : Option X) → is_some o ≡ true → (x : X) × (
 some-where None e = absurd (cc)
 some-where (Some x) e = (x, refl)
 
-owes-nothing : (air : Air) → IsSound air → (K : List Entry) (own : ℕ) → owes_nobody air K own ≡ true → OwesNothing air K own
+pub owes-nothing : (air : Air) → IsSound air → (K : List Entry) (own : ℕ) → owes_nobody air K own ≡ true → OwesNothing air K own
 owes-nothing air sound K own e other = elim (some-or-none (owed air K own other)) [
   | inl (m, o) ↦ absurd (let f : true ≡ false = sym (ap is_some o) ∙ below-none (λ j. is_some (owed air K own j)) air.count e other (owed-within air sound K own other m o).receiver in cc)
   | inr n ↦ n

@@ -1,17 +1,17 @@
 -- The journal of three aircraft, by computation.
-use Rattle.std.proofs.Common.{◌≡◌, ℕ, zero, suc, ◌<◌, ◌≤◌, Bool, true, false, ◌&&◌, cond, eqb, List, [], ◌∷◌, length, sym, refl, ◌∙◌, arith, inl, inr}
+use Rattle.std.proofs.Common.{◌≡◌, ℕ, zero, suc, ◌<◌, ◌≤◌, Bool, true, false, ◌&&◌, cond, eqb, eq-eqb, List, [], ◌∷◌, length, sym, refl, ◌∙◌, arith, inl, inr}
 use Rattle.acas_base.specs.Encounter.{no_copy}
 use Rattle.acas_base.specs.declared.advisory.ResMsg.{ResMsg}
 use Rattle.acas_base.specs.declared.advisory.Sense.TheVariants.{Down, Up}
 use Rattle.acas_base.specs.declared.link.CopyPlan.{CopyPlan}
 use Rattle.acas_base.specs.declared.view.View.{View}
-use Rattle.air_rules.proofs.Deciding.{legal-by, serial-by}
+use Rattle.air_rules.proofs.Deciding.{legal-by, owes-nothing, serial-by}
 use Rattle.air_rules.proofs.ExampleWords.{IsSender, apart, reads}
 use Rattle.air_rules.proofs.Legal.{allowed}
 use Rattle.air_rules.specs.Air.{IsMessageOf, IsSound, is_active, is_ra}
-use Rattle.air_rules.specs.Rules.{IsLegal}
+use Rattle.air_rules.specs.Rules.{IsComplete, IsLegal}
 use Rattle.air_rules.specs.Serial.{IsSerial}
-use Rattle.air_rules.specs.ThreeAircraft.{RefusesOthers, copies_of, ends_in_three, goes_ahead, held, near, quiet, spoilt, starts_in_three, starts_in_two, takes_older_last, three, threat, view_of, worked}
+use Rattle.air_rules.specs.ThreeAircraft.{IsCompleteOnceSent, RefusesOthers, after_first, copies_of, ends_in_three, goes_ahead, held, near, quiet, spoilt, starts_in_three, starts_in_two, takes_older_last, three, threat, view_of, worked}
 
 -- What holds of both holds of either.
 either : {X : Type 0} (P : X → Type 0) (b : Bool) (x y : X) → P x → P y → P (cond b x y)
@@ -93,6 +93,22 @@ ahead-legal = legal-by three three-sound goes_ahead refl refl
 
 pub older-last-legal : IsLegal three takes_older_last
 older-last-legal = legal-by three three-sound takes_older_last refl refl
+
+pub complete-once-sent : IsCompleteOnceSent
+complete-once-sent = record {
+  uncommitted = λ all. differ 3 4 refl (all 0 refl).all_cycles;
+  unsent = λ all. let e = (all 2 refl).owes_nothing 0 in cc;
+  untaken = all;
+}
+  where
+    differ : (a b : ℕ) → eqb a b ≡ false → a ≡ b → ⊥
+    differ a b e f = let g : false ≡ true = sym e ∙ eq-eqb a b f in cc
+
+    all : IsComplete three (after_first 25 [])
+    all zero a = record { all_cycles = refl; owes_nothing = owes-nothing three three-sound (after_first 25 []) 0 refl }
+    all (suc zero) a = record { all_cycles = refl; owes_nothing = owes-nothing three three-sound (after_first 25 []) 1 refl }
+    all (suc (suc zero)) a = record { all_cycles = refl; owes_nothing = owes-nothing three three-sound (after_first 25 []) 2 refl }
+    all (suc (suc (suc n))) a = absurd (cc)
 
 pub refuses-others : RefusesOthers
 refuses-others = record {

@@ -197,6 +197,12 @@ pub record RefusesOthers : Type 0 where
   pub not_its_own : IsRefused 8 (Take 2 6 0 true)
   pub lost : IsRefused 19 (Take 2 14 0 true)
 
+-- The journal is complete as soon as all is committed and sent, though copies are due.
+pub record IsCompleteOnceSent : Type 0 where
+  pub uncommitted : IsComplete three (after_first 19 []) → ⊥
+  pub unsent : IsComplete three (after_first 24 []) → ⊥
+  pub untaken : IsComplete three (after_first 25 [])
+
 -- What the rules say of it. The first aircraft gives way to the third one, since that has the lower address.
 pub record IsWorkedOutForThree : Type 0 where
   pub sound : IsSound three
@@ -209,3 +215,4 @@ pub record IsWorkedOutForThree : Type 0 where
   pub older_last : IsLegal three takes_older_last
   pub older_taken : last_take three takes_older_last 2 0 ≡ Some (record { send = 7; vrc = NotBelow; commits = 4 })
   pub refused : RefusesOthers
+  pub once_sent : IsCompleteOnceSent

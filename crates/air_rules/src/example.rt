@@ -15,7 +15,8 @@ pub fn example_law()
 /// complete. A held copy is taken as soon as its receiver has made the commits, whatever the others
 /// have made. The last take counts, also where it is of an older message. What is sent or taken twice,
 /// too early, in the wrong order or by another aircraft isn't legal. The higher address gives way,
-/// whatever its index.
+/// whatever its index. The journal is complete as soon as all is committed and sent, though copies are
+/// due.
 pub fn three_aircraft_law()
     ensures { IsWorkedOutForThree }
 {}

@@ -1,7 +1,7 @@
 use Rattle.air_rules.proofs.example.three_aircraft_law.Goals as goal
 use Rattle.std.proofs.Common.{refl, arith}
 use Rattle.air_rules.proofs.InOrder.{in-order-legal, serial-complete}
-use Rattle.air_rules.proofs.ThreeAircraftSteps.{ahead-legal, older-last-legal, refuses-others, three-serial, three-sound}
+use Rattle.air_rules.proofs.ThreeAircraftSteps.{ahead-legal, complete-once-sent, older-last-legal, refuses-others, three-serial, three-sound}
 use Rattle.air_rules.specs.ThreeAircraft.{three, worked}
 
 pub returns : goal.returns
@@ -16,4 +16,5 @@ returns c = record {
   older_last = older-last-legal;
   older_taken = refl;
   refused = refuses-others;
+  once_sent = complete-once-sent;
 }
