@@ -98,6 +98,20 @@ impl Craft {
         self.picture(places)
     }
 
+    /// What [`Craft::look_among`] does. The picture is put where an earlier one was, so that no room is cleared for it.
+    pub fn look_into(&mut self, places: &Places, picture: &mut Picture)
+        requires belongs { Belongs places.now.encounter self.old }
+        requires left { self.old.cycle < places.now.encounter.cycles }
+        requires next { places.now.cycle ≡ self.old.cycle + 1 }
+        ensures picture { picture.new ≡ picture_of places.now.encounter self.old.own (self.old.cycle + 1) }
+        ensures own { self.new.own ≡ self.old.own }
+        ensures cycle { self.new.cycle ≡ self.old.cycle + 1 }
+        ensures belongs { Belongs places.now.encounter self.new }
+    {
+        self.step(places);
+        *picture = self.picture(places);
+    }
+
     // Each track goes on by what is measured in the next cycle.
     fn step(&mut self, places: &Places)
         requires belongs { Belongs places.now.encounter self.old }

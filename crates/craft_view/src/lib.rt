@@ -14,6 +14,7 @@ mod tracks;
 pub use craft::Craft;
 pub use laws::{sight_law, view_law};
 pub use own::is_active;
+pub use pair::no_picture;
 
 #[cfg(test)]
 mod tests;

@@ -1,5 +1,6 @@
 // The view of one other aircraft.
-ghost use Rattle.std.specs.Prelude.{◌≡◌, if◌then◌else◌, int_le};
+ghost use Rattle.std.specs.Prelude.{◌≡◌, if◌then◌else◌, int_le, replicate};
+ghost use Rattle.acas_base.specs.declared.TheConstants.{CRAFTS};
 ghost use Rattle.craft_view.specs.Own.{AreRows};
 ghost use Rattle.craft_view.specs.KnownTracks.{IsMotion};
 ghost use Rattle.craft_view.specs.Views.{no_view, plain_view, resolving_view, tested_view, view_by};
@@ -10,7 +11,7 @@ use crate::motion::{Motion, difference, motion_of};
 use crate::own::OwnAircraft;
 use crate::separations::{FIRST, LATER, approach_of, separations};
 use crate::tracks::Tracks;
-use acas_base::{Row, Sense, Seps, View};
+use acas_base::{CRAFTS, Picture, Row, Sense, Seps, View};
 use alt_track::AltTrack;
 
 // The view of an aircraft by its tracks and the track of own altitude.
@@ -30,6 +31,17 @@ pub(crate) fn no_view() -> View
     ensures { result ≡ no_view }
 {
     plain_view(false, false, false)
+}
+
+/// A picture of nothing.
+pub fn no_picture() -> Picture
+    ensures { result.views ≡ replicate CRAFTS no_view }
+{
+    Picture {
+        own: 0,
+        cycle: 0,
+        views: [no_view(); CRAFTS],
+    }
 }
 
 fn tested_view(own: &OwnAircraft, motion: &Motion) -> View

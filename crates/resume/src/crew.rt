@@ -6,27 +6,28 @@ ghost use Rattle.resume.specs.Crews.{AreReady, IsReady, LookedOn, MayLook};
 
 use acas_base::{CRAFTS, Encounter, Picture};
 use air_journal::AirState;
-use craft_view::{Craft, is_active};
+use craft_view::{Craft, is_active, no_picture};
 use flight::Places;
 use std::array::from_fn;
 
-/// The active aircraft, each at its place.
+/// The active aircraft, each at its place, and the picture of who looked last.
 #[derive(Drop)]
 pub(crate) struct Crew {
     pub crafts: [Option<Craft>; CRAFTS],
+    pub picture: Picture,
 }
 
 impl Crew {
-    /// The picture of an active aircraft in the next cycle, whose places are given.
-    pub(crate) fn look(&mut self, own: u8, places: &Places) -> Picture
+    /// An active aircraft looks in the next cycle, whose places are given.
+    pub(crate) fn look(&mut self, own: u8, places: &Places)
         requires own { own < CRAFTS }
         requires there { IsSome (slice_index_or self.old.crafts own None) }
         requires left { places.now.cycle ≤ places.now.encounter.cycles }
         requires ready { MayLook places.now own (slice_index_or self.old.crafts own None) }
-        ensures { LookedOn places.now own self.old.crafts self.new.crafts result }
+        ensures { LookedOn places.now own self.old.crafts self.new.crafts self.new.picture }
     {
         match &mut self.crafts[usize::from(own)] {
-            Some(craft) => craft.look_among(places),
+            Some(craft) => craft.look_into(places, &mut self.picture),
             None => unreachable!(),
         }
     }
@@ -60,5 +61,8 @@ pub(crate) fn crew_of(state: &AirState, enc: &Encounter) -> Crew
     for own in 0..enc.crafts().len() as u8 {
         crafts[usize::from(own)] = craft_at(state, enc, own);
     }
-    Crew { crafts }
+    Crew {
+        crafts,
+        picture: no_picture(),
+    }
 }

@@ -35,8 +35,8 @@ fn commit_of(
     if !is_active(enc, own) {
         return;
     }
-    let picture = crew.look(own, places);
-    let _ = state.commit(own, &picture);
+    crew.look(own, places);
+    let _ = state.commit(own, &crew.picture);
 }
 
 // Sends all that an aircraft owes.

@@ -146,8 +146,8 @@ fn commit_next(state: &mut AirState, enc: &Encounter, crew: &mut Crew, own: u8)
 {
     enc.valid_law();
     let places = Places::new(enc, state.commits(own) + 1);
-    let picture = crew.look(own, &places);
-    let _ = state.commit(own, &picture);
+    crew.look(own, &places);
+    let _ = state.commit(own, &crew.picture);
 }
 
 /// Adds the entry that comes next, until all have equally many commits, nobody owes and nothing is due.

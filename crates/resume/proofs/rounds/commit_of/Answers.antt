@@ -13,7 +13,7 @@ use Rattle.resume.proofs.Looking.{may-look, moment, picture-after, ready-after, 
 use Rattle.resume.proofs.Turns.{commit-done, commit-one, commit-skip, free-before}
 use Rattle.resume.specs.Filling.{unfilled}
 use Rattle.resume.proofs.rounds.commit_of.Goals as goal
-use Rattle.resume.proofs.rounds.commit_of.Goals.{After-is_active, After-look-picture}
+use Rattle.resume.proofs.rounds.commit_of.Goals.{After-is_active, After-look}
 
 pub returns-then-not-is_active : goal.returns-then-not-is_active
 returns-then-not-is_active c = record {
@@ -26,45 +26,45 @@ returns-then-not-is_active c = record {
 own : (c : After-is_active) → c.args.own < CRAFTS
 own c = omega (arith, c.requires.own, few-crafts c.args.enc.now c.valid_law.ensures)
 
-active : (c : After-look-picture) → is_active (air_of c.args.enc.now) c.args.own ≡ true
+active : (c : After-look) → is_active (air_of c.args.enc.now) c.args.own ≡ true
 active c = told-active c.args.enc.now c.args.own c.is_active.result c.is_active.ensures ∙ c.if-not-is_active.false
 
-mine : (c : After-look-picture) → commits c.args.state.now.journal c.args.own ≡ c.args.done
+mine : (c : After-look) → commits c.args.state.now.journal c.args.own ≡ c.args.done
 mine c = c.requires.before.others c.args.own (active c) (omega arith)
 
-pub look-picture-requires-clause-there : goal.look-picture-requires-clause-there
-look-picture-requires-clause-there c =
-    ready-some c.args.enc.now c.args.state.now.journal c.args.crew.now.crafts c.args.own (own (goal.at.look-picture-requires-clause-there c).After-is_active) c.requires.crew
+pub look-requires-clause-there : goal.look-requires-clause-there
+look-requires-clause-there c =
+    ready-some c.args.enc.now c.args.state.now.journal c.args.crew.now.crafts c.args.own (own (goal.at.look-requires-clause-there c).After-is_active) c.requires.crew
     (told-active c.args.enc.now c.args.own c.is_active.result c.is_active.ensures ∙ c.if-not-is_active.false)
 
-pub look-picture-requires-clause-ready : goal.look-picture-requires-clause-ready
-look-picture-requires-clause-ready c =
-    may-look c.args.enc.now c.args.state.now.journal c.args.crew.now.crafts c.args.own c.args.done c.args.places.now c.requires.places (own (goal.at.look-picture-requires-clause-ready c).After-is_active) c.requires.crew
+pub look-requires-clause-ready : goal.look-requires-clause-ready
+look-requires-clause-ready c =
+    may-look c.args.enc.now c.args.state.now.journal c.args.crew.now.crafts c.args.own c.args.done c.args.places.now c.requires.places (own (goal.at.look-requires-clause-ready c).After-is_active) c.requires.crew
     (λ a. c.requires.before.others c.args.own a (omega arith))
 
 pub commit-requires-clause-active : goal.commit-requires-clause-active
 commit-requires-clause-active c =
-    subst (λ (e : Parts). IsActive e c.args.own) (sym c.requires.same) (to-active c.args.enc.now c.args.own (active (goal.at.commit-requires-clause-active c).After-look-picture))
+    subst (λ (e : Parts). IsActive e c.args.own) (sym c.requires.same) (to-active c.args.enc.now c.args.own (active (goal.at.commit-requires-clause-active c).After-look))
 
 pub commit-requires-clause-picture : goal.commit-requires-clause-picture
-commit-requires-clause-picture c = λ _. picture-after c.args.enc.now c.args.own c.args.done _ _ c.look-picture.result c.args.places.now c.requires.places c.look-picture.ensures
-    ∙ ap (λ (n : ℕ). picture_of c.args.enc.now c.args.own (n + 1)) (sym (mine (goal.at.commit-requires-clause-picture c).After-look-picture)) ∙ ap (λ (e : Parts). picture_of e c.args.own (commits c.args.state.now.journal c.args.own + 1)) (sym c.requires.same)
+commit-requires-clause-picture c = λ _. picture-after c.args.enc.now c.args.own c.args.done _ _ c.look.new.self.picture c.args.places.now c.requires.places c.look.ensures
+    ∙ ap (λ (n : ℕ). picture_of c.args.enc.now c.args.own (n + 1)) (sym (mine (goal.at.commit-requires-clause-picture c).After-look)) ∙ ap (λ (e : Parts). picture_of e c.args.own (commits c.args.state.now.journal c.args.own + 1)) (sym c.requires.same)
 
 pub returns-clause-fills : goal.returns-clause-fills
 returns-clause-fills c =
-    (commit-one (air_of c.args.enc.now) c.args.state.now.journal c.commit.new.self.journal c.args.own c.args.done c.commit.result c.requires.before (active (goal.at.returns-clause-fills c).After-look-picture) c.requires.left
+    (commit-one (air_of c.args.enc.now) c.args.state.now.journal c.commit.new.self.journal c.args.own c.args.done c.commit.result c.requires.before (active (goal.at.returns-clause-fills c).After-look) c.requires.left
     (subst (λ (e : Parts). Commits (air_of e) c.args.state.now.journal c.args.own c.commit.new.self.journal c.commit.result) c.requires.same c.commit.ensures.commits)).fills
 
 pub returns-clause-after : goal.returns-clause-after
 returns-clause-after c =
-    (commit-one (air_of c.args.enc.now) c.args.state.now.journal c.commit.new.self.journal c.args.own c.args.done c.commit.result c.requires.before (active (goal.at.returns-clause-after c).After-look-picture) c.requires.left
+    (commit-one (air_of c.args.enc.now) c.args.state.now.journal c.commit.new.self.journal c.args.own c.args.done c.commit.result c.requires.before (active (goal.at.returns-clause-after c).After-look) c.requires.left
     (subst (λ (e : Parts). Commits (air_of e) c.args.state.now.journal c.args.own c.commit.new.self.journal c.commit.result) c.requires.same c.commit.ensures.commits)).after
 
 pub returns-clause-crew : goal.returns-clause-crew
 returns-clause-crew c =
-    let at = (goal.at.returns-clause-crew c).After-look-picture in
+    let at = (goal.at.returns-clause-crew c).After-look in
     let air = air_of c.args.enc.now in
     let done = commit-done air c.args.state.now.journal c.commit.new.self.journal c.args.own c.commit.result (free-before air c.args.state.now.journal c.args.own c.args.done c.requires.before (active at) c.requires.left)
     (subst (λ (e : Parts). Commits (air_of e) c.args.state.now.journal c.args.own c.commit.new.self.journal c.commit.result) c.requires.same c.commit.ensures.commits) in
-    ready-after c.args.enc.now c.args.state.now.journal c.commit.new.self.journal c.args.crew.now.crafts c.look-picture.new.self.crafts c.args.own (length c.args.state.now.journal) c.look-picture.result c.args.places.now
-    (c.requires.places ∙ ap (λ (n : ℕ). moment c.args.enc.now (n + 1)) (sym (mine at))) (own (goal.at.returns-clause-crew c).After-is_active) c.requires.crew c.look-picture.ensures done
+    ready-after c.args.enc.now c.args.state.now.journal c.commit.new.self.journal c.args.crew.now.crafts c.look.new.self.crafts c.args.own (length c.args.state.now.journal) c.look.new.self.picture c.args.places.now
+    (c.requires.places ∙ ap (λ (n : ℕ). moment c.args.enc.now (n + 1)) (sym (mine at))) (own (goal.at.returns-clause-crew c).After-is_active) c.requires.crew c.look.ensures done

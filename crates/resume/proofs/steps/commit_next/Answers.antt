@@ -22,17 +22,17 @@ returns-clause-crew c =
     let hi : c.args.own < CRAFTS = below-all e c.valid_law.ensures c.args.own a in
     let done = commit-done air c.args.state.now.journal c.commit.new.self.journal c.args.own c.commit.result c.requires.free
     (subst (λ (e : Parts). Commits (air_of e) c.args.state.now.journal c.args.own c.commit.new.self.journal c.commit.result) c.requires.same c.commit.ensures.commits) in
-    ready-after e c.args.state.now.journal c.commit.new.self.journal c.args.crew.now.crafts c.look-picture.new.self.crafts c.args.own (length c.args.state.now.journal) c.look-picture.result c.new-places.result
-    (c.new-places.ensures ∙ ap (λ (n : ℕ). moment e (n + 1)) c.commits.ensures) hi c.requires.crew c.look-picture.ensures done
+    ready-after e c.args.state.now.journal c.commit.new.self.journal c.args.crew.now.crafts c.look.new.self.crafts c.args.own (length c.args.state.now.journal) c.look.new.self.picture c.new-places.result
+    (c.new-places.ensures ∙ ap (λ (n : ℕ). moment e (n + 1)) c.commits.ensures) hi c.requires.crew c.look.ensures done
 
-pub look-picture-requires-clause-there : goal.look-picture-requires-clause-there
-look-picture-requires-clause-there c =
+pub look-requires-clause-there : goal.look-requires-clause-there
+look-requires-clause-there c =
     let e = c.args.enc.now in
     let a = active-is e c.args.own c.requires.active in
     ready-some e c.args.state.now.journal c.args.crew.now.crafts c.args.own (below-all e c.valid_law.ensures c.args.own a) c.requires.crew a
 
-pub look-picture-requires-clause-ready : goal.look-picture-requires-clause-ready
-look-picture-requires-clause-ready c =
+pub look-requires-clause-ready : goal.look-requires-clause-ready
+look-requires-clause-ready c =
     let e = c.args.enc.now in
     let a = active-is e c.args.own c.requires.active in
     let hi : c.args.own < CRAFTS = below-all e c.valid_law.ensures c.args.own a in
