@@ -1,7 +1,16 @@
 -- Plain decimals: an optional `-` and digits, with no zero in front but in `0`, and never `-0`.
-use Rattle.std.specs.Prelude.{◌≡◌, ℕ, ℤ, ◌<◌, ◌^◌, List, unsigned_abs}
-use Rattle.std.specs.Fmt.{signed_decimal}
+use Rattle.std.specs.Prelude.{◌≡◌, ◌≢◌, ℕ, ℤ, ◌<◌, ◌≤◌, ◌^◌, List, MatchOption, Option, unsigned_abs}
+use Rattle.std.specs.Fmt.{decimal, signed_decimal}
 
 -- These bytes are the plain decimal of this number, which has at most ten digits.
 abbrev pub IsPlain : List ℕ → ℤ → Type 0
 IsPlain bytes n = (bytes ≡ signed_decimal n) × (unsigned_abs n < 10 ^ 10)
+
+-- A number of a range, both ends included.
+abbrev pub IsWithin : ℕ → ℕ → ℕ → Type 0
+IsWithin low high n = (low ≤ n) × (n ≤ high)
+
+-- The bytes are the plain decimal of this number of a range; or of none of its numbers.
+abbrev pub SpellsWithin : ℕ → ℕ → List ℕ → Option ℕ → Type 0
+SpellsWithin low high bytes found =
+    MatchOption found ((n : ℕ) → IsWithin low high n → decimal n ≢ bytes) (λ n. IsWithin low high n × (bytes ≡ decimal n))

@@ -1,6 +1,6 @@
 // Plain decimals.
 ghost use Rattle.std.specs.Prelude.{◌≡◌, ℤ, IfSome, IfNone};
-ghost use Rattle.acas_text.specs.Decimal.{IsPlain};
+ghost use Rattle.acas_text.specs.Decimal.{IsPlain, SpellsWithin};
 
 use itoa::Buffer;
 use std::str;
@@ -33,4 +33,23 @@ pub fn parse(bytes: &[u8]) -> Option<i64>
     } else {
         None
     }
+}
+
+/// The number from `low` to `high` whose plain decimal the bytes are. `None` comes exactly where they are that of none of
+/// these.
+pub fn parse_within(bytes: &[u8], low: u32, high: u32) -> Option<u32>
+    ensures { SpellsWithin low high bytes.now result }
+{
+    let Some(value) = parse(bytes) else {
+        return None;
+    };
+    let least = i64::from(low);
+    if value < least {
+        return None;
+    }
+    let greatest = i64::from(high);
+    if greatest < value {
+        return None;
+    }
+    Some(value as u32)
 }

@@ -8,7 +8,7 @@ mod decimal;
 mod hexadecimal;
 mod line;
 
-pub use decimal::parse;
+pub use decimal::{parse, parse_within};
 pub use hexadecimal::parse_hex;
 pub use line::{ADDRESS_BYTES, I32_BYTES, LINE_BYTES, Line, U16_BYTES, U32_BYTES};
 

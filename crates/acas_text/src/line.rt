@@ -1,5 +1,5 @@
 // Short lines, as they are made.
-ghost use Rattle.std.specs.Prelude.{◌≡◌, ◌+◌, ◌≤◌, ◌<◌, ◌^◌, ◌++◌, [], length};
+ghost use Rattle.std.specs.Prelude.{◌≡◌, ◌+◌, ◌≤◌, ◌<◌, ◌^◌, ◌∷◌, ◌++◌, [], length};
 ghost use Rattle.std.specs.Fmt.{decimal, signed_decimal};
 ghost use Rattle.std.specs.Str.Parse.{digits_value};
 ghost use Rattle.acas_text.specs.Hex.{hex};
@@ -52,13 +52,25 @@ impl Line {
         }
     }
 
+    /// Empties it.
+    pub fn clear(&mut self)
+        ensures { self.new ≡ [] }
+    {
+        self.len = 0;
+    }
+
     /// Adds a number as a plain decimal.
     pub fn u16(&mut self, value: u16)
         requires { length self.old + U16_BYTES ≤ LINE_BYTES }
         ensures added { self.new ≡ self.old ++ decimal value }
         ensures short { length self.new ≤ length self.old + U16_BYTES }
     {
-        self.number(value);
+        // Most numbers that are told have one digit: a thirtieth of the instructions of a run of 16 aircraft in conflict.
+        if value < 10 {
+            self.push(b'0' + value as u8);
+        } else {
+            self.number(value);
+        }
     }
 
     /// Adds a number as a plain decimal.
@@ -129,6 +141,14 @@ impl Line {
     {
         let mut buffer = Buffer::new();
         self.add(buffer.format(value).as_bytes());
+    }
+
+    fn push(&mut self, byte: u8)
+        requires { length self.old < LINE_BYTES }
+        ensures { self.new ≡ self.old ++ byte ∷ [] }
+    {
+        self.bytes[self.len] = byte;
+        self.len += 1;
     }
 
     fn add(&mut self, piece: &[u8])
