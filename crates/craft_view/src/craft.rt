@@ -133,6 +133,7 @@ impl Craft {
     }
 
     // The picture of the present cycle.
+    #[inline(always)]
     #[tactic(auto, unfolding(crate::specs::Views::picture_of))]
     fn picture(&self, places: &Places) -> Picture
         requires belongs { Belongs places.now.encounter self.now }
