@@ -11,5 +11,6 @@ pub mod Ranges
 pub mod Pages
 pub mod Written
 pub mod Found
+pub mod EntryRefs
 pub use Rattle.acas_base.specs.Encounter
 pub use Rattle.air_rules.specs.Air

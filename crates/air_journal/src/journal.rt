@@ -4,11 +4,13 @@ ghost use Rattle.acas_base.specs.declared.TheConstants.{CRAFTS};
 ghost use Rattle.acas_base.specs.declared.entry.Entry.{Entry};
 ghost use Rattle.acas_base.specs.declared.entry.Entry.TheVariants as kinds;
 ghost use Rattle.air_journal.specs.Cells.{clear_cells, commit_cells, place_of};
+ghost use Rattle.air_journal.specs.EntryRefs.{entry_of};
 ghost use Rattle.air_journal.specs.Rooms.{page_room};
 ghost use Rattle.air_journal.specs.Written.{IsNote, Written, told};
 
+use crate::entry_ref::EntryRef;
 use crate::log::{Log, Note};
-use acas_base::{CRAFTS, Cell, Cells, Entry};
+use acas_base::{CRAFTS, Cell, Cells};
 use std::alloc::{AllocError, Global};
 use std::marker::Model;
 
@@ -54,22 +56,22 @@ fn new_cells(alloc: Global, cycles: usize) -> Result<Vec<Cells>, AllocError>
 }
 
 // The entry of a note.
-fn entry_of(note: &Note, cells: &[Cells]) -> Entry
+fn entry_of<'a>(note: &Note, cells: &'a [Cells]) -> EntryRef<'a>
     requires { IsNote (length cells.now) note.now }
-    ensures { result ≡ told cells.now note.now }
+    ensures { entry_of result ≡ told cells.now note.now }
 {
     match *note {
-        Note::Commit { own, cycle } => Entry::Commit {
+        Note::Commit { own, cycle } => EntryRef::Commit {
             own,
             cycle,
-            cells: cells[place_of(own, cycle)],
+            cells: &cells[place_of(own, cycle)],
         },
         Note::Send {
             own,
             target,
             number,
             word,
-        } => Entry::Send {
+        } => EntryRef::Send {
             own,
             target,
             number,
@@ -80,7 +82,7 @@ fn entry_of(note: &Note, cells: &[Cells]) -> Entry
             send,
             copy,
             good,
-        } => Entry::Take {
+        } => EntryRef::Take {
             own,
             send,
             copy,
@@ -156,8 +158,8 @@ impl Journal {
     }
 
     /// The entry at a position, from 0.
-    pub(crate) fn entry(&self, at: usize) -> Option<Entry>
-        ensures { result ≡ slice_get (reverse self.now.entries) at }
+    pub(crate) fn entry(&self, at: usize) -> Option<EntryRef<'_>>
+        ensures { option_map entry_of result ≡ slice_get (reverse self.now.entries) at }
     {
         match self.log.get(at) {
             Some(note) => Some(entry_of(note, &self.cells)),

@@ -10,6 +10,7 @@ mod answers;
 mod commits;
 mod crafts;
 mod due;
+mod entry_ref;
 mod journal;
 mod kept;
 mod laws;
@@ -27,7 +28,11 @@ mod tables;
 mod takes;
 
 pub use answers::{Commit, Sent, Took, TookThis};
+pub use entry_ref::EntryRef;
 pub use kept::Waiting;
 pub use laws::{air_law, alike_law, entries_law, sound_law};
 pub use state::AirState;
 pub use state_laws::{priority_law, settled_law, worlds_law};
+
+#[cfg(test)]
+mod tests;

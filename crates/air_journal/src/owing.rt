@@ -30,6 +30,9 @@ fn owed_to(
     requires address { address ≡ address_of encounter.now own }
     ensures { result ≡ owed_in (air_of encounter.now) tables.now own target }
 {
+    if tables.has_sent(own, target) {
+        return None;
+    }
     let link = tables.link(own, target);
     if is_ra(encounter, own) && is_ra(encounter, target) && own != target && !link.sent {
         next_message(&link.cell, link.said, tables.made(own).many, address)

@@ -169,6 +169,14 @@ impl Rows {
         self.links[pair_of(own, other)]
     }
 
+    pub(crate) fn has_sent(&self, own: u8, other: u8) -> bool
+        requires own { own < CRAFTS }
+        requires other { other < CRAFTS }
+        ensures { result ≡ (link_at self.now own other).sent }
+    {
+        self.links[pair_of(own, other)].sent
+    }
+
     pub(crate) fn queue(&self, sender: u8, receiver: u8) -> &[Waiting]
         requires sender { sender < CRAFTS }
         requires receiver { receiver < CRAFTS }

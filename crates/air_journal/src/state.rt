@@ -1,8 +1,9 @@
 // The state of the air.
-ghost use Rattle.std.specs.Prelude.{◌≡◌, ◌↔◌, ◌<◌, ◌≤◌, [], length, reverse, slice_get, option_copied, IfOk, IsTrue, MatchBool, List};
+ghost use Rattle.std.specs.Prelude.{◌≡◌, ◌↔◌, ◌<◌, ◌≤◌, [], length, reverse, slice_get, option_copied, option_map, IfOk, IsTrue, MatchBool, List};
 ghost use Rattle.acas_base.specs.Encounter.{IsEncounter};
 ghost use Rattle.air_journal.specs.Airs.{air_of};
 ghost use Rattle.air_journal.specs.Cells.{commit_cells};
+ghost use Rattle.air_journal.specs.EntryRefs.{entry_of};
 ghost use Rattle.air_journal.specs.Kept.{waiting as waiting_of};
 ghost use Rattle.air_journal.specs.Queues.{IsQueue};
 ghost use Rattle.air_rules.specs.Journal.{commits};
@@ -10,6 +11,7 @@ ghost use Rattle.air_rules.specs.Rules.{IsComplete, IsDone, IsLegal};
 ghost use Rattle.flight.specs.Inside.{IsInside};
 
 use crate::crafts::{count_of, is_active, pages_for};
+use crate::entry_ref::EntryRef;
 use crate::journal::Journal;
 use crate::kept::Waiting;
 use crate::owing::first_owed;
@@ -79,11 +81,21 @@ impl AirState {
         self.journal.len() as u32
     }
 
+    /// The entry at a position, from 0, read where it is kept; none at or past the count.
+    pub fn entry_ref(&self, at: u32) -> Option<EntryRef<'_>>
+        ensures { option_map entry_of result ≡ slice_get (reverse self.now.journal) at }
+    {
+        self.journal.entry(at as usize)
+    }
+
     /// The entry at a position, from 0; none at or past the count.
     pub fn entry(&self, at: u32) -> Option<Entry>
         ensures { result ≡ slice_get (reverse self.now.journal) at }
     {
-        self.journal.entry(at as usize)
+        match self.entry_ref(at) {
+            Some(entry) => Some(entry.entry()),
+            None => None,
+        }
     }
 
     /// How many cycles an aircraft has committed.

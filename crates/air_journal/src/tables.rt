@@ -89,6 +89,14 @@ impl Tables {
         self.rows.link(own, other)
     }
 
+    pub(crate) fn has_sent(&self, own: u8, other: u8) -> bool
+        requires own { own < CRAFTS }
+        requires other { other < CRAFTS }
+        ensures { result ≡ (link_at self.now own other).sent }
+    {
+        self.rows.has_sent(own, other)
+    }
+
     pub(crate) fn queue(&self, sender: u8, receiver: u8) -> &[Waiting]
         requires sender { sender < CRAFTS }
         requires receiver { receiver < CRAFTS }

@@ -1,0 +1,99 @@
+// Entries, read where they are kept.
+ghost use Rattle.std.specs.Prelude.{◌≡◌};
+ghost use Rattle.air_journal.specs.EntryRefs.{entry_of};
+
+use acas_base::{Cells, Entry};
+
+/// An entry with the cells of a commit where they are kept. All else is as in [`Entry`].
+#[derive(Clone, Copy)]
+pub enum EntryRef<'a> {
+    Commit {
+        own: u8,
+        cycle: u16,
+        cells: &'a Cells,
+    },
+    Send {
+        own: u8,
+        target: u8,
+        number: u16,
+        word: u64,
+    },
+    Take {
+        own: u8,
+        send: u32,
+        copy: u8,
+        good: bool,
+    },
+}
+
+impl<'a> EntryRef<'a> {
+    /// Reads an entry that is kept elsewhere.
+    pub fn of(entry: &'a Entry) -> EntryRef<'a>
+        ensures { entry_of result ≡ entry.now }
+    {
+        match entry {
+            Entry::Commit { own, cycle, cells } => EntryRef::Commit {
+                own: *own,
+                cycle: *cycle,
+                cells,
+            },
+            Entry::Send {
+                own,
+                target,
+                number,
+                word,
+            } => EntryRef::Send {
+                own: *own,
+                target: *target,
+                number: *number,
+                word: *word,
+            },
+            Entry::Take {
+                own,
+                send,
+                copy,
+                good,
+            } => EntryRef::Take {
+                own: *own,
+                send: *send,
+                copy: *copy,
+                good: *good,
+            },
+        }
+    }
+
+    /// The entry itself.
+    pub fn entry(&self) -> Entry
+        ensures { result ≡ entry_of self.now }
+    {
+        match *self {
+            EntryRef::Commit { own, cycle, cells } => Entry::Commit {
+                own,
+                cycle,
+                cells: *cells,
+            },
+            EntryRef::Send {
+                own,
+                target,
+                number,
+                word,
+            } => Entry::Send {
+                own,
+                target,
+                number,
+                word,
+            },
+            EntryRef::Take {
+                own,
+                send,
+                copy,
+                good,
+            } => Entry::Take {
+                own,
+                send,
+                copy,
+                good,
+            },
+        }
+    }
+}
