@@ -8,6 +8,7 @@ ghost use Rattle.acas_text.specs.Hex.{hex};
 ghost use Rattle.acas_text.specs.declared.line.TheConstants.{LINE_BYTES};
 ghost use Rattle.advisory_report.specs.Cells.{cell_text};
 ghost use Rattle.advisory_report.specs.declared.cells.TheConstants.{CELL_BYTES};
+ghost use Rattle.air_journal.specs.EntryRefs.{entry_of};
 ghost use Rattle.air_journal.specs.Ranges.{IsEntry};
 ghost use Rattle.rec_text.specs.Entries.{entry_line, entry_lines, outcome};
 
@@ -15,7 +16,7 @@ use acas_base::{CRAFTS, Cells, Entry};
 use acas_lines::LineSink;
 use acas_text::Line;
 use advisory_report::{CELL_BYTES, add_cell};
-use air_journal::AirState;
+use air_journal::{AirState, EntryRef};
 
 fn outcome_letter(good: bool) -> &'static str
     ensures text { result.now ≡ outcome good }
@@ -81,6 +82,30 @@ fn add_take(line: &mut Line, own: u8, send: u32, copy: u8, good: bool, count: u8
     line.text("\n");
 }
 
+// Makes the line of an entry.
+fn set_line(line: &mut Line, entry: &EntryRef<'_>, count: u8)
+    requires few { count ≤ CRAFTS }
+    requires fits { IsEntry count (entry_of entry.now) }
+    ensures { line.new ≡ entry_line count (entry_of entry.now) }
+{
+    line.clear();
+    match *entry {
+        EntryRef::Commit { own, cycle, cells } => add_commit(line, own, cycle, cells, count),
+        EntryRef::Send {
+            own,
+            target,
+            number,
+            word,
+        } => add_send(line, own, target, number, word, count),
+        EntryRef::Take {
+            own,
+            send,
+            copy,
+            good,
+        } => add_take(line, own, send, copy, good, count),
+    }
+}
+
 /// The line of an entry that an encounter of so many aircraft can have, with its line feed.
 pub fn entry_line(entry: &Entry, count: u8) -> Line
     requires few { count ≤ CRAFTS }
@@ -88,21 +113,7 @@ pub fn entry_line(entry: &Entry, count: u8) -> Line
     ensures { result ≡ entry_line count entry.now }
 {
     let mut line = Line::new();
-    match entry {
-        Entry::Commit { own, cycle, cells } => add_commit(&mut line, *own, *cycle, cells, count),
-        Entry::Send {
-            own,
-            target,
-            number,
-            word,
-        } => add_send(&mut line, *own, *target, *number, *word, count),
-        Entry::Take {
-            own,
-            send,
-            copy,
-            good,
-        } => add_take(&mut line, *own, *send, *copy, *good, count),
-    }
+    set_line(&mut line, &EntryRef::of(entry), count);
     line
 }
 
@@ -111,9 +122,11 @@ pub(crate) fn put_entries<S: LineSink>(state: &AirState, sink: &mut S)
     ensures { S.took sink.old sink.new (entry_lines (length state.now.encounter.crafts) state.now.journal) }
 {
     let count = state.enc().crafts().len() as u8;
+    let mut line = Line::new();
     for at in 0..state.count() {
-        if let Some(entry) = state.entry(at) {
-            sink.line(&entry_line(&entry, count));
+        if let Some(entry) = state.entry_ref(at) {
+            set_line(&mut line, &entry, count);
+            sink.line(&line);
         }
     }
 }
