@@ -1,0 +1,17 @@
+pub mod Forms
+pub mod Placed
+pub mod Whole
+pub mod FirstLine
+pub mod Comparing
+pub mod Ready
+pub mod Asked
+pub mod Making
+pub mod Ending
+pub mod Cutting
+pub mod Beginning
+pub mod Recorded
+pub mod Once
+pub mod OneWay
+pub mod OneOpening
+pub mod OneVerdict
+pub mod Activity

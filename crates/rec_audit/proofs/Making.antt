@@ -1,0 +1,82 @@
+-- One line, and the entry that is made for it.
+use Rattle.std.proofs.Common.{◌≡◌, ◌≢◌, ℕ, ◌+◌, Bool, true, false, not, eqb, List, [], ◌∷◌, ◌++◌, map, length, refl, sym, ap, ◌∙◌, subst, append_assoc, arith}
+use Rattle.std.specs.Prelude.{reverse}
+use Rattle.std.specs.Cmp.Lexicographic.{pointwise}
+use Rattle.std.proofs.lemmas.Bool.Decides.{Decides-eqb}
+use Rattle.std.proofs.lemmas.List.{map-append, reverse-append}
+use Rattle.std.proofs.lemmas.List.Elements.{All-head}
+use Rattle.std.proofs.lemmas.Slice.Eq.{slice_eq-Decides}
+use Rattle.acas_base.specs.Encounter.{IsEncounter, Parts}
+use Rattle.acas_base.specs.declared.entry.Entry.{Entry}
+use Rattle.air_journal.proofs.WellFormed.{entries-fit}
+use Rattle.air_journal.specs.Airs.{air_of}
+use Rattle.air_journal.specs.Ranges.{IsEntry}
+use Rattle.air_rules.specs.Air.{Air}
+use Rattle.air_rules.specs.Rules.{IsAllowed, IsLegal, empty, extended}
+use Rattle.rec_audit.specs.Asking.{Added}
+use Rattle.rec_audit.specs.Cursors.{Cursor, Took}
+use Rattle.rec_audit.specs.Engine.{AddedLine}
+use Rattle.rec_audit.specs.Keys.{key}
+use Rattle.rec_audit.specs.Replays.{IsWrongLine, Replays, changed}
+use Rattle.rec_audit.specs.declared.verdict.Reason.TheVariants.{OtherContent}
+use Rattle.rec_text.specs.Entries.{entry_line, entry_lines}
+
+flipped : (b : Bool) → not b ≡ false → b ≡ true
+flipped true h = refl
+flipped false h = absurd cc
+
+-- What `!=` says of two texts.
+pub unequal : (xs ys : List ℕ) (r : Bool) → r ≡ not (pointwise eqb xs ys) → r ≡ true → xs ≢ ys
+unequal xs ys r h t = λ e. let same = (slice_eq-Decides Decides-eqb xs ys (pointwise eqb xs ys) refl).1 e in absurd cc
+
+pub equal : (xs ys : List ℕ) (r : Bool) → r ≡ not (pointwise eqb xs ys) → r ≡ false → xs ≡ ys
+equal xs ys r h t = (slice_eq-Decides Decides-eqb xs ys (pointwise eqb xs ys) refl).0 (flipped (pointwise eqb xs ys) (sym h ∙ t))
+
+-- What `==` says of them.
+pub same-slice : (xs ys : List ℕ) (r : Bool) → r ≡ pointwise eqb xs ys → r ≡ true → xs ≡ ys
+same-slice xs ys r h t = (slice_eq-Decides Decides-eqb xs ys r h).0 t
+
+pub other-slice : (xs ys : List ℕ) (r : Bool) → r ≡ pointwise eqb xs ys → r ≡ false → xs ≢ ys
+other-slice xs ys r h f = λ e. let t = (slice_eq-Decides Decides-eqb xs ys r h).1 e in absurd cc
+
+-- An entry that is allowed after a legal journal has its parts in their ranges.
+pub allowed-fits : (e : Parts) (K : List Entry) (entry : Entry) → IsEncounter e → IsLegal (air_of e) K → IsAllowed (air_of e) K entry → IsEntry (length e.crafts) entry
+allowed-fits e K entry is legal may = All-head (IsEntry (length e.crafts)) entry K (entries-fit e (entry ∷ K) is (extended legal may))
+
+pub other-entry : (air : Air) (K J : List Entry) (entry made : Entry) (line text : List ℕ) → IsEntry air.count entry → line ≡ entry_line air.count entry → Added air K J (key entry) made → text ≡ entry_line air.count made → text ≢ line →
+    IsWrongLine air K line OtherContent
+other-entry air K J entry made line text fits spelled a is ne = changed entry made fits spelled a.about_is a.allowed (λ same. ne (is ∙ ap (entry_line air.count) same ∙ sym spelled))
+
+pub same-entry : (air : Air) (K J : List Entry) (entry made : Entry) (line text : List ℕ) → Added air K J (key entry) made → text ≡ entry_line air.count made → text ≡ line → AddedLine air K J line
+same-entry air K J entry made line text a is same = record { entry = made; line_is = sym same ∙ is; allowed = a.allowed; new_is = a.new_is }
+
+-- ---- from line to line
+
+pub lines-more : (count : ℕ) (entry : Entry) (K : List Entry) → entry_lines count (entry ∷ K) ≡ entry_lines count K ++ entry_line count entry ∷ []
+lines-more count entry K = ap (map (entry_line count)) (reverse-append (entry ∷ []) K) ∙ map-append (entry_line count) (reverse K) (entry ∷ [])
+
+-- One entry more.
+pub replays-more : (air : Air) (lines : List (List ℕ)) (K J : List Entry) (line : List ℕ) (rest : List (List ℕ)) → Replays air lines K (line ∷ rest) → AddedLine air K J line → Replays air lines J rest
+replays-more air lines K J line rest r a =
+    subst (λ (L : List Entry). Replays air lines L rest) (sym a.new_is) (record {
+      legal = extended r.legal a.allowed;
+      begins = r.begins ∙ ap (λ l. entry_lines air.count K ++ l ∷ rest) a.line_is ∙ sym (append_assoc (entry_lines air.count K) (entry_line air.count a.entry ∷ []) rest)
+          ∙ ap (λ t. t ++ rest) (sym (lines-more air.count a.entry K));
+    })
+
+-- Where the entries so far leave the lines.
+pub record Reaches (air : Air) (before now : Cursor) (entries : ℕ) (journal : List Entry) : Type 0 where
+  pub replays : Replays air before.left journal now.left
+  pub count_is : length journal ≡ entries
+  pub taken_is : now.taken ≡ before.taken + entries
+
+pub reaches-none : (air : Air) (before : Cursor) (K : List Entry) → K ≡ [] → Reaches air before before 0 K
+reaches-none air before K none =
+    subst (λ J. Reaches air before before 0 J) (sym none) (record { replays = record { legal = empty; begins = refl }; count_is = refl; taken_is = omega arith })
+
+pub reaches-more : (air : Air) (before now new : Cursor) (entries : ℕ) (K J : List Entry) (line : List ℕ) → Reaches air before now entries K → Took now new (line ∷ []) → AddedLine air K J line → Reaches air before new (entries + 1) J
+reaches-more air before now new entries K J line r t a = record {
+  replays = replays-more air before.left K J line new.left (subst (λ l. Replays air before.left K l) t.lines_are r.replays) a;
+  count_is = ap length a.new_is ∙ omega (arith, r.count_is);
+  taken_is = omega (arith, t.taken_is, r.taken_is);
+}

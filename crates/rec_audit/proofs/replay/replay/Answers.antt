@@ -1,0 +1,27 @@
+use Rattle.std.proofs.Common.{◌∙◌, sym, subst, refl}
+use Rattle.acas_base.specs.Encounter.{Parts}
+use Rattle.acas_base.specs.declared.entry.Entry.{Entry}
+use Rattle.std.proofs.Common.{List}
+use Rattle.air_journal.specs.Airs.{air_of}
+use Rattle.rec_audit.proofs.Making.{reaches-more, reaches-none}
+use Rattle.rec_audit.specs.Crews.{AreReady}
+use Rattle.rec_audit.proofs.replay.replay.Goals as goal
+
+pub loop-init : goal.loop-init
+loop-init c = record {
+  encounter = refl;
+  sky = c.requires.same;
+  crew = subst (λ (K : List Entry). AreReady c.args.state.now.encounter K c.args.crew.now.crafts) (sym c.requires.empty) c.requires.crew;
+  reaches = reaches-none (air_of c.args.state.now.encounter) c.args.lines.now c.args.state.now.journal c.requires.empty;
+}
+
+pub loop-preserved : goal.loop-preserved
+loop-preserved c =
+    let i = c.loop.invariant in
+    let added = rw (i.encounter) at c.in_default-add_line.ensures.added in
+    record {
+      encounter = c.add_line.ensures.encounter ∙ i.encounter;
+      sky = c.add_line.ensures.sky ∙ i.encounter;
+      crew = subst (λ (e : Parts). AreReady e c.add_line.new.state.journal c.add_line.new.crew.crafts) i.encounter c.in_default-add_line.ensures.crew;
+      reaches = reaches-more (air_of c.args.state.now.encounter) c.args.lines.now c.loop.lines c.next.new.self c.loop.counter c.loop.state.journal c.add_line.new.state.journal c.in-Some.line.now i.reaches c.in-Some.ensures added;
+    }

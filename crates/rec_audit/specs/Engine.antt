@@ -1,0 +1,88 @@
+-- The entries of lines, made again one after the other.
+use Rattle.std.specs.Prelude.{◌≡◌, ◌⊎◌, ℕ, ◌+◌, ◌<◌, ◌≤◌, List, [], ◌∷◌, length}
+use Rattle.acas_base.specs.Encounter.{IsEncounter, Parts}
+use Rattle.acas_base.specs.declared.entry.Entry.{Entry}
+use Rattle.acas_lines.specs.Lines.{joined}
+use Rattle.air_journal.specs.Airs.{air_of}
+use Rattle.air_rules.specs.Air.{Air}
+use Rattle.air_rules.specs.Rules.{IsAllowed, IsComplete}
+use Rattle.enc_file.specs.Canonical.{canonical_lines}
+use Rattle.enc_file.specs.Reading.{Says}
+use Rattle.flight.specs.Inside.{IsInside}
+use Rattle.rec_audit.specs.Cursors.{Cursor, Took}
+use Rattle.rec_audit.specs.Differing.{DifferAt}
+use Rattle.rec_audit.specs.Judging.{IsWrongAfter, IsWrongBeginning}
+use Rattle.rec_audit.specs.Opening.{IsCut, Opens, first_entry}
+use Rattle.rec_audit.specs.Replays.{Replays, StopsAt}
+use Rattle.rec_audit.specs.declared.verdict.Loaded.{Loaded}
+use Rattle.rec_audit.specs.declared.verdict.Loaded.TheVariants as loaded
+use Rattle.rec_audit.specs.declared.fault.Fault.{Fault}
+use Rattle.rec_text.specs.Entries.{entry_line}
+use Rattle.rec_text.specs.Recording.{closing_lines}
+
+-- The entry of a line was added.
+pub record AddedLine (air : Air) (old new : List Entry) (line : List ℕ) : Type 0 where
+  pub entry : Entry
+  pub line_is : line ≡ entry_line air.count entry
+  pub allowed : IsAllowed air old entry
+  pub new_is : new ≡ entry ∷ old
+
+-- Lines were taken, at most so many, and the journal is theirs. It stopped there, or no line is left.
+pub record Replayed (air : Air) (before after : Cursor) (most : ℕ) (journal : List Entry) : Type 0 where
+  pub replays : Replays air before.left journal after.left
+  pub taken_is : after.taken ≡ before.taken + length journal
+  pub within : length journal ≤ most
+  pub ends : (length journal ≡ most) ⊎ (after.left ≡ [])
+
+-- One of them is wrong.
+pub record StoppedAt (air : Air) (before : Cursor) (most : ℕ) (fault : Fault) : Type 0 where
+  pub entries : ℕ
+  pub stops : StopsAt air before.left entries fault.reason
+  pub within : entries < most
+  pub line_is : fault.line ≡ before.taken + 1 + entries
+
+-- All lines are those of a complete journal of so many entries and of what follows them.
+pub record ReplayedAll (e : Parts) (lines : List (List ℕ)) (count : ℕ) (journal : List Entry) : Type 0 where
+  pub replays : Replays (air_of e) lines journal (closing_lines e journal)
+  pub count_is : length journal ≡ count
+  pub complete : IsComplete (air_of e) journal
+
+-- All lines are those of a legal journal of at most so many entries.
+pub record ReplayedFirst (e : Parts) (lines : List (List ℕ)) (count : ℕ) (journal : List Entry) : Type 0 where
+  pub replays : Replays (air_of e) lines journal []
+  pub within : length journal ≤ count
+
+-- What comes first differs from these lines at the line of this number.
+pub record DiffersFrom (before : Cursor) (line : ℕ) (lines : List (List ℕ)) : Type 0 where
+  pub same : ℕ
+  pub differ : DifferAt same before.left lines
+  pub line_is : line ≡ before.taken + 1 + same
+
+-- The lines up to the first end were taken.
+pub record SkippedPart (before after : Cursor) : Type 0 where
+  pub part : List (List ℕ)
+  pub cut : IsCut before.left part after.left
+  pub took : Took before after part
+
+-- The canonical lines of an encounter were taken, up to the first end.
+pub record ReadPart (before : Cursor) (e : Parts) (after : Cursor) : Type 0 where
+  pub valid : IsEncounter e
+  pub inside : IsInside e
+  pub says : Says (joined (canonical_lines e)) e
+  pub cut : IsCut before.left (canonical_lines e) after.left
+  pub took : Took before after (canonical_lines e)
+
+-- An encounter and the number of entries were read.
+pub record IsOpened (lines : List (List ℕ)) (e : Parts) (count : ℕ) (after : Cursor) : Type 0 where
+  pub opens : Opens e count lines after.left
+  pub first : after.taken + 1 ≡ first_entry e
+
+-- What the entries and the end of a recording give.
+abbrev pub IsReplayed : Parts → ℕ → List (List ℕ) → Loaded → Type 0
+IsReplayed e count lines (loaded.Legal state) = (state.encounter ≡ e) × ReplayedAll e lines count state.journal
+IsReplayed e count lines (loaded.Wrong line reason) = IsWrongAfter e count lines line reason
+
+-- What the entries of a beginning give.
+abbrev pub IsPartReplayed : Parts → ℕ → List (List ℕ) → Loaded → Type 0
+IsPartReplayed e count lines (loaded.Legal state) = (state.encounter ≡ e) × ReplayedFirst e lines count state.journal
+IsPartReplayed e count lines (loaded.Wrong line reason) = IsWrongBeginning e count lines line reason

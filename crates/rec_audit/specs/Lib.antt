@@ -1,0 +1,13 @@
+pub mod Fields
+pub mod Reading
+pub mod Keys
+pub mod Reasons
+pub mod Replays
+pub mod Opening
+pub mod Differing
+pub mod Judging
+pub mod Cursors
+pub mod Crews
+pub mod Asking
+pub mod Engine
+pub mod Compared

@@ -1,0 +1,107 @@
+// What follows the number of entries.
+ghost use Rattle.std.specs.Prelude.{◌≡◌, ◌+◌, ◌≤◌, [], IfSome, MatchOption, MatchResult, length};
+ghost use Rattle.air_journal.specs.Airs.{air_of};
+ghost use Rattle.rec_audit.specs.Crews.{AreReady};
+ghost use Rattle.rec_audit.specs.Engine.{DiffersFrom, ReplayedAll, ReplayedFirst};
+ghost use Rattle.rec_audit.specs.Judging.{IsWrongAfter, IsWrongBeginning};
+ghost use Rattle.rec_audit.specs.Opening.{first_entry};
+ghost use Rattle.rec_text.specs.Recording.{closing_lines};
+
+use crate::compare::take_text;
+use crate::crew::{Crew, Sky};
+use crate::fault::Fault;
+use crate::lines::TextLines;
+use crate::replay::replay;
+use crate::verdict::Reason;
+use air_journal::AirState;
+use rec_text::Closing;
+
+// The number of the first line that isn't the one of the report and the close, where there is one.
+fn other_end(state: &AirState, lines: &mut TextLines<'_>) -> Option<u32>
+    ensures { MatchOption result
+        (lines.old.left ≡ closing_lines state.now.encounter state.now.journal)
+        (λ line. DiffersFrom lines.old line (closing_lines state.now.encounter state.now.journal)) }
+{
+    let same = take_text(&Closing(state), lines);
+    let number = lines.number();
+    if !same {
+        return Some(number);
+    }
+    match lines.next() {
+        Some(_) => Some(number),
+        None => None,
+    }
+}
+
+/// Replays the entries of a whole recording, and compares what follows them. The journal has to be empty. It takes no memory.
+pub(crate) fn replay_whole(
+    state: &mut AirState,
+    crew: &mut Crew,
+    sky: &mut Sky<'_>,
+    lines: &mut TextLines<'_>,
+    count: u32,
+) -> Result<(), Fault>
+    requires same { sky.old.encounter ≡ state.old.encounter }
+    requires empty { state.old.journal ≡ [] }
+    requires crew { AreReady state.old.encounter [] crew.old.crafts }
+    requires first { lines.old.taken + 1 ≡ first_entry state.old.encounter }
+    ensures encounter { state.new.encounter ≡ state.old.encounter }
+    ensures read { MatchResult result
+        (λ _. ReplayedAll state.old.encounter lines.old.left count state.new.journal)
+        (λ fault. IsWrongAfter state.old.encounter count lines.old.left fault.line fault.reason) }
+{
+    if let Err(fault) = replay(state, crew, sky, lines, count) {
+        return Err(fault);
+    }
+    let line = lines.number();
+    if state.count() < count {
+        return Err(Fault {
+            line,
+            reason: Reason::Spelling,
+        });
+    }
+    if !state.complete() {
+        return Err(Fault {
+            line,
+            reason: Reason::Incomplete,
+        });
+    }
+    match other_end(state, lines) {
+        Some(line) => Err(Fault {
+            line,
+            reason: Reason::Report,
+        }),
+        None => Ok(()),
+    }
+}
+
+/// Replays the entries of a beginning of a recording, which may end after any of them. The journal has to be empty. It takes
+/// no memory.
+pub(crate) fn replay_part(
+    state: &mut AirState,
+    crew: &mut Crew,
+    sky: &mut Sky<'_>,
+    lines: &mut TextLines<'_>,
+    count: u32,
+) -> Result<(), Fault>
+    requires same { sky.old.encounter ≡ state.old.encounter }
+    requires empty { state.old.journal ≡ [] }
+    requires crew { AreReady state.old.encounter [] crew.old.crafts }
+    requires first { lines.old.taken + 1 ≡ first_entry state.old.encounter }
+    ensures encounter { state.new.encounter ≡ state.old.encounter }
+    ensures read { MatchResult result
+        (λ _. ReplayedFirst state.old.encounter lines.old.left count state.new.journal)
+        (λ fault. IsWrongBeginning state.old.encounter count lines.old.left fault.line fault.reason) }
+{
+    if let Err(fault) = replay(state, crew, sky, lines, count) {
+        return Err(fault);
+    }
+    let line = lines.number();
+    match lines.next() {
+        Some(_) => Err(Fault {
+            line,
+            reason: Reason::Report,
+        }),
+        None => Ok(()),
+    }
+}

@@ -1,0 +1,116 @@
+// Recordings judged and loaded.
+ghost use Rattle.std.specs.Prelude.{◌≡◌, ◌+◌, ◌-◌, ◌<◌, ◌^◌, [], IfOk, length};
+ghost use Rattle.flight.specs.Inside.{IsInside};
+ghost use Rattle.rec_audit.specs.Engine.{IsPartReplayed, IsReplayed};
+ghost use Rattle.rec_audit.specs.Judging.{IsLoaded, IsPartLoaded, Judged};
+ghost use Rattle.rec_audit.specs.Opening.{first_entry};
+
+use crate::crew::{Crew, Sky};
+use crate::endings::{replay_part, replay_whole};
+use crate::lines::TextLines;
+use crate::opening::{Opened, open};
+use crate::verdict::{Loaded, Verdict};
+use acas_base::Encounter;
+use air_journal::AirState;
+use std::alloc::{AllocError, Global};
+
+// Replays what follows the number of entries.
+fn load_entries(
+    mut state: AirState,
+    encounter: &Encounter,
+    mut lines: TextLines<'_>,
+    count: u32,
+) -> Loaded
+    requires same { state.encounter ≡ encounter.now }
+    requires inside { IsInside encounter.now }
+    requires empty { state.journal ≡ [] }
+    requires first { lines.taken + 1 ≡ first_entry encounter.now }
+    ensures { IsReplayed encounter.now count lines.entry.left result }
+{
+    let mut crew = Crew::new(encounter);
+    let mut sky = Sky::new(encounter);
+    match replay_whole(&mut state, &mut crew, &mut sky, &mut lines, count) {
+        Ok(()) => Loaded::Legal(state),
+        Err(fault) => Loaded::Wrong(fault.line, fault.reason),
+    }
+}
+
+/// Loads a recording: the state of the air exactly where the bytes are the recording of an encounter inside the box and a
+/// legal and complete journal, with that encounter and journal. Else the line, from 1, and the reason of the first step of the
+/// judge that fails.
+///
+/// It takes memory for the encounter that it reads and for a whole run of that, and none by the number of entries that a
+/// recording tells. Its time is linear in the bytes.
+pub fn load(alloc: Global, bytes: &[u8]) -> Result<Loaded, AllocError>
+    requires { length bytes.now < 2 ^ 32 - 1 }
+    ensures { IfOk result (IsLoaded bytes.now) }
+{
+    match open(alloc, bytes)? {
+        Ok(opened) => {
+            let Opened {
+                encounter,
+                count,
+                lines,
+            } = opened;
+            let state = AirState::new(alloc, &encounter)?;
+            Ok(load_entries(state, &encounter, lines, count))
+        }
+        Err(fault) => Ok(Loaded::Wrong(fault.line, fault.reason)),
+    }
+}
+
+// Replays what follows the number of entries in a beginning.
+fn load_first_entries(
+    mut state: AirState,
+    encounter: &Encounter,
+    mut lines: TextLines<'_>,
+    count: u32,
+) -> Loaded
+    requires same { state.encounter ≡ encounter.now }
+    requires inside { IsInside encounter.now }
+    requires empty { state.journal ≡ [] }
+    requires first { lines.taken + 1 ≡ first_entry encounter.now }
+    ensures { IsPartReplayed encounter.now count lines.entry.left result }
+{
+    let mut crew = Crew::new(encounter);
+    let mut sky = Sky::new(encounter);
+    match replay_part(&mut state, &mut crew, &mut sky, &mut lines, count) {
+        Ok(()) => Loaded::Legal(state),
+        Err(fault) => Loaded::Wrong(fault.line, fault.reason),
+    }
+}
+
+/// Loads a beginning of a recording, which may end after the number of entries or after any entry: the state of the air exactly
+/// where the bytes are such a beginning, of an encounter inside the box and a legal journal. Else the line, from 1, and the
+/// reason of the first step that fails.
+///
+/// It takes memory as [`load`] does, and time linear in the bytes.
+pub fn load_part(alloc: Global, bytes: &[u8]) -> Result<Loaded, AllocError>
+    requires { length bytes.now < 2 ^ 32 - 1 }
+    ensures { IfOk result (IsPartLoaded bytes.now) }
+{
+    match open(alloc, bytes)? {
+        Ok(opened) => {
+            let Opened {
+                encounter,
+                count,
+                lines,
+            } = opened;
+            let state = AirState::new(alloc, &encounter)?;
+            Ok(load_first_entries(state, &encounter, lines, count))
+        }
+        Err(fault) => Ok(Loaded::Wrong(fault.line, fault.reason)),
+    }
+}
+
+/// Judges a recording, as [`load`] does: Legal, with the number of entries, exactly where the bytes are the recording of an
+/// encounter inside the box and a legal and complete journal.
+pub fn judge(alloc: Global, bytes: &[u8]) -> Result<Verdict, AllocError>
+    requires { length bytes.now < 2 ^ 32 - 1 }
+    ensures { IfOk result (Judged bytes.now) }
+{
+    match load(alloc, bytes)? {
+        Loaded::Legal(state) => Ok(Verdict::Legal(state.count())),
+        Loaded::Wrong(line, reason) => Ok(Verdict::Wrong(line, reason)),
+    }
+}

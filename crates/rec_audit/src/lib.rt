@@ -1,0 +1,24 @@
+//! The judge of recordings.
+#![tactic(auto)]
+
+mod asking;
+mod compare;
+mod crew;
+mod endings;
+mod entries;
+mod fault;
+mod fields;
+mod judging;
+mod laws;
+mod lines;
+mod opening;
+mod replay;
+mod values;
+mod verdict;
+
+pub use judging::{judge, load, load_part};
+pub use laws::verdict_law;
+pub use verdict::{Loaded, Reason, Verdict};
+
+#[cfg(test)]
+mod tests;

@@ -1,0 +1,109 @@
+// The lines of a text, taken one after the other.
+ghost use Rattle.std.specs.Prelude.{◌≡◌, ◌≢◌, ◌∷◌, ◌+◌, ◌<◌, ◌≤◌, ◌-◌, ◌^◌, [], List, ℕ, MatchBool, MatchOption, length, take, drop};
+ghost use Rattle.acas_lines.specs.Cut.{lines_of};
+ghost use Rattle.acas_lines.specs.Lines.{joined};
+ghost use Rattle.rec_audit.specs.Cursors.{Took};
+
+use memchr::memchr;
+use std::marker::Model;
+
+const LINE_FEED: u8 = b'\n';
+
+/// The lines of a text that are still to come, and how many were taken before them.
+#[derive(Drop)]
+pub(crate) struct TextLines<'a> {
+    rest: &'a [u8],
+    taken: u32,
+}
+
+impl<'a> Model for TextLines<'a> {
+    ghost use Rattle.std.specs.Prelude.{◌+◌, ◌<◌, length};
+    ghost use Rattle.acas_lines.specs.Cut.{lines_of};
+    ghost use Rattle.rec_audit.specs.Cursors.{Cursor};
+
+    ghost Value = { Cursor };
+
+    ghost view = { λ a. record { left = lines_of a.rest.now; taken = a.taken } };
+
+    ghost invariant = { λ a. a.taken + length (lines_of a.rest.now) < 4294967295 };
+}
+
+impl<'a> TextLines<'a> {
+    /// All lines of a text. Their numbers, and the one after, fit 32 bits.
+    pub fn of(text: &'a [u8]) -> TextLines<'a>
+        requires { length text.now < 2 ^ 32 - 1 }
+        ensures left { result.left ≡ lines_of text.now }
+        ensures taken { result.taken ≡ 0 }
+    {
+        TextLines {
+            rest: text,
+            taken: 0,
+        }
+    }
+
+    /// The same lines, to be taken again.
+    pub fn again(&self) -> TextLines<'a>
+        ensures { result ≡ self.now }
+    {
+        TextLines {
+            rest: self.rest,
+            taken: self.taken,
+        }
+    }
+
+    /// The bytes of the lines that are still to come.
+    pub fn rest(&self) -> &'a [u8]
+        ensures { result.now ≡ joined self.now.left }
+    {
+        self.rest
+    }
+
+    /// The number of the next line, from 1; where none is left, the one after the last.
+    pub fn number(&self) -> u32
+        ensures { result ≡ self.now.taken + 1 }
+    {
+        self.taken + 1
+    }
+
+    /// The next line, with its line feed where it has one.
+    pub fn next(&mut self) -> Option<&'a [u8]>
+        ensures { MatchOption result ((self.old.left ≡ []) × (self.new ≡ self.old)) (λ line. Took self.old self.new (line.now ∷ [])) }
+    {
+        if self.rest.is_empty() {
+            return None;
+        }
+        let (line, rest) = self.rest.split_at(line_len(self.rest));
+        self.rest = rest;
+        self.taken += 1;
+        Some(line)
+    }
+
+    /// Takes the next line where it is this one.
+    pub fn take_line(&mut self, line: &[u8]) -> bool
+        ensures { MatchBool result (Took self.old self.new (line.now ∷ [])) ((self.new ≡ self.old) × ((rest : List (List ℕ)) → self.old.left ≢ line.now ∷ rest)) }
+    {
+        let mut after = self.again();
+        match after.next() {
+            Some(next) => {
+                if next != line {
+                    return false;
+                }
+                *self = after;
+                true
+            }
+            None => false,
+        }
+    }
+}
+
+// How long the first line is.
+fn line_len(text: &[u8]) -> usize
+    requires { 0 < length text.now }
+    ensures within { result ≤ length text.now }
+    ensures first { lines_of text.now ≡ take result text.now ∷ lines_of (drop result text.now) }
+{
+    match memchr(LINE_FEED, text) {
+        Some(at) => at + 1,
+        None => text.len(),
+    }
+}
