@@ -8,7 +8,7 @@ use Rattle.acas_top.specs.Words.{limit_of, words_of}
 use Rattle.acas_top.specs.declared.status.Status.{Status}
 use Rattle.acas_top.specs.declared.status.Status.TheVariants.{Done}
 use Rattle.acas_top.specs.declared.words.Command.{Command}
-use Rattle.acas_top.specs.declared.words.Command.TheVariants.{Serial}
+use Rattle.acas_top.specs.declared.words.Command.TheVariants.{Audit, Gen, Serial}
 
 pub within-long : (limit : Option ℕ) (left : Option (List ℕ)) → IsTooLong limit left → ForSome limit (λ n. IsSomeAnd left (λ bytes. length bytes ≤ n)) → ⊥
 within-long None left long within = long
@@ -29,3 +29,5 @@ plays-serial Serial words Done old new bytes text IsPut said also plays done rea
   put = subst IsPut plays.text_is put;
 }
 plays-serial Serial words status old new bytes text IsPut said also plays done read put = absurd cc
+plays-serial (Gen number crafts cycles) words status old new bytes text IsPut said also plays done read put = absurd cc
+plays-serial Audit words status old new bytes text IsPut said also plays done read put = absurd cc

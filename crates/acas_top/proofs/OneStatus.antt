@@ -1,10 +1,13 @@
 -- At most one status answers a command on the bytes that it read.
 use Rattle.std.proofs.Common.{◌≡◌, List, ℕ, refl}
-use Rattle.acas_top.specs.Answers.{Answers, Plays, Refuses}
+use Rattle.acas_top.specs.Answers.{Answers, IsLegal, IsWrong, Plays, Refuses}
+use Rattle.rec_audit.specs.Judging.{Judged}
+use Rattle.rec_audit.specs.declared.verdict.Verdict.{Verdict}
+use Rattle.rec_audit.specs.declared.verdict.Verdict.TheVariants as verdicts
 use Rattle.acas_top.specs.declared.status.Status.{Status}
-use Rattle.acas_top.specs.declared.status.Status.TheVariants.{Done, Refused}
+use Rattle.acas_top.specs.declared.status.Status.TheVariants.{Done, Refused, Wrong}
 use Rattle.acas_top.specs.declared.words.Command.{Command}
-use Rattle.acas_top.specs.declared.words.Command.TheVariants.{Serial}
+use Rattle.acas_top.specs.declared.words.Command.TheVariants.{Audit, Gen, Serial}
 
 -- What can be played has no cause to be refused.
 not-both : (bytes text other : List ℕ) → Plays bytes text → Refuses bytes other → ⊥
@@ -20,7 +23,33 @@ refused-only bytes text other Done refused is = absurd (not-both bytes other tex
 refused-only bytes text other Refused refused is = refl
 refused-only bytes text other also refused is = absurd is
 
-pub one-status : (command : Command) (bytes text other : List ℕ) (status also : Status) → Answers command bytes status text → Answers command bytes also other → status ≡ also
-one-status Serial bytes text other Done also is other_is = done-only bytes text other also is other_is
-one-status Serial bytes text other Refused also is other_is = refused-only bytes text other also is other_is
-one-status Serial bytes text other status also is other_is = absurd is
+-- At most one verdict is given on bytes.
+abbrev pub HasOneVerdict : Type 0
+HasOneVerdict = (bytes : List ℕ) (one two : Verdict) → Judged bytes one → Judged bytes two → one ≡ two
+
+-- A recording that is legal isn't wrong.
+not-wrong : HasOneVerdict → (bytes text other : List ℕ) → IsLegal bytes text → IsWrong bytes other → ⊥
+not-wrong law bytes text other legal wrong =
+    let same = law bytes (verdicts.Legal legal.entries) (verdicts.Wrong wrong.line wrong.reason) legal.is wrong.is in
+    cc
+
+legal-only : HasOneVerdict → (bytes text other : List ℕ) (also : Status) → IsLegal bytes text → Answers Audit bytes also other → Done ≡ also
+legal-only law bytes text other Done legal is = refl
+legal-only law bytes text other Wrong legal is = absurd (not-wrong law bytes text other legal is)
+legal-only law bytes text other also legal is = absurd is
+
+wrong-only : HasOneVerdict → (bytes text other : List ℕ) (also : Status) → IsWrong bytes text → Answers Audit bytes also other → Wrong ≡ also
+wrong-only law bytes text other Done wrong is = absurd (not-wrong law bytes other text is wrong)
+wrong-only law bytes text other Wrong wrong is = refl
+wrong-only law bytes text other also wrong is = absurd is
+
+pub one-status : HasOneVerdict → (command : Command) (bytes text other : List ℕ) (status also : Status) → Answers command bytes status text → Answers command bytes also other → status ≡ also
+one-status law Serial bytes text other Done also is other_is = done-only bytes text other also is other_is
+one-status law Serial bytes text other Refused also is other_is = refused-only bytes text other also is other_is
+one-status law Serial bytes text other status also is other_is = absurd is
+one-status law Audit bytes text other Done also is other_is = legal-only law bytes text other also is other_is
+one-status law Audit bytes text other Wrong also is other_is = wrong-only law bytes text other also is other_is
+one-status law Audit bytes text other status also is other_is = absurd is
+one-status law (Gen number crafts cycles) bytes text other Done Done is other_is = refl
+one-status law (Gen number crafts cycles) bytes text other Done also is other_is = absurd other_is
+one-status law (Gen number crafts cycles) bytes text other status also is other_is = absurd is

@@ -4,18 +4,26 @@ use Rattle.std.specs.Fmt.{decimal}
 use Rattle.acas_base.specs.Encounter.{Parts}
 use Rattle.acas_base.specs.declared.entry.Entry.{Entry}
 use Rattle.acas_top.specs.declared.status.Status.{Status}
-use Rattle.acas_top.specs.declared.status.Status.TheVariants.{Done, Refused}
+use Rattle.acas_top.specs.declared.status.Status.TheVariants.{Done, Refused, Wrong}
 use Rattle.acas_top.specs.declared.words.Command.{Command}
-use Rattle.acas_top.specs.declared.words.Command.TheVariants.{Serial}
+use Rattle.acas_top.specs.declared.words.Command.TheVariants.{Audit, Gen, Serial}
 use Rattle.air_journal.specs.Airs.{air_of}
 use Rattle.air_rules.specs.Priority.{HasPriority}
-use Rattle.air_rules.specs.Rules.{IsComplete, IsLegal}
+use Rattle.air_rules.specs.Rules.{IsComplete, IsLegal as IsLegalJournal}
 use Rattle.air_rules.specs.Safe.{IsSafe}
 use Rattle.air_rules.specs.Serial.{IsSerial}
 use Rattle.air_rules.specs.Settled.{IsSettled}
+use Rattle.enc_file.specs.Canonical.{canonical_text}
 use Rattle.enc_file.specs.Codes.{code_number}
 use Rattle.enc_file.specs.Reading.{Says, reading_of}
 use Rattle.enc_file.specs.declared.refusal.Refusal.{Refusal}
+use Rattle.enc_gen.specs.Generated.{generated}
+use Rattle.rec_audit.specs.Judging.{Judged}
+use Rattle.rec_audit.specs.Reasons.{reason_number}
+use Rattle.rec_audit.specs.declared.verdict.Reason.{Reason}
+use Rattle.rec_audit.specs.declared.verdict.Reason.TheVariants.{Encounter}
+use Rattle.rec_audit.specs.declared.verdict.Verdict.{Verdict}
+use Rattle.rec_audit.specs.declared.verdict.Verdict.TheVariants as verdicts
 use Rattle.rec_text.specs.Recording.{recording}
 
 -- The line of a refusal: the number of the record, and that of the code.
@@ -32,7 +40,7 @@ pub record Refuses (bytes text : List ℕ) : Type 0 where
 -- commits an advisory in the sense that the message in force forbids to it; where that message was sent since the threat
 -- took its present sense, the senses are opposite; and who turns, and why, goes by the addresses.
 pub record IsRun (e : Parts) (journal : List Entry) : Type 0 where
-  pub legal : IsLegal (air_of e) journal
+  pub legal : IsLegalJournal (air_of e) journal
   pub complete : IsComplete (air_of e) journal
   pub safe : IsSafe (air_of e) journal
   pub settled : IsSettled (air_of e) journal
@@ -47,8 +55,40 @@ pub record Plays (bytes text : List ℕ) : Type 0 where
   pub run : IsRun encounter journal
   pub text_is : text ≡ recording encounter journal
 
+-- The text is the canonical one of the encounter that is made of a number.
+abbrev pub IsMade : ℕ → ℕ → ℕ → List ℕ → Type 0
+IsMade number crafts cycles text = text ≡ canonical_text (generated number crafts cycles)
+
+-- The text of a reason: its number, and behind the first one the code of the refusal.
+abbrev pub reason_text : Reason → List ℕ
+reason_text (Encounter code) = codes "1," ++ decimal (code_number code)
+reason_text reason = decimal (reason_number reason)
+
+-- The line of a verdict.
+abbrev pub verdict_line : Verdict → List ℕ
+verdict_line (verdicts.Legal entries) = codes "legal," ++ decimal entries ++ codes "\n"
+verdict_line (verdicts.Wrong line reason) = codes "wrong," ++ decimal line ++ codes "," ++ reason_text reason ++ codes "\n"
+
+-- The bytes are the recording of a legal and complete journal, and the text tells how many entries it has.
+pub record IsLegal (bytes text : List ℕ) : Type 0 where
+  pub entries : ℕ
+  pub is : Judged bytes (verdicts.Legal entries)
+  pub text_is : text ≡ verdict_line (verdicts.Legal entries)
+
+-- They are none, and the text tells the first line that is wrong, and why.
+pub record IsWrong (bytes text : List ℕ) : Type 0 where
+  pub line : ℕ
+  pub reason : Reason
+  pub is : Judged bytes (verdicts.Wrong line reason)
+  pub text_is : text ≡ verdict_line (verdicts.Wrong line reason)
+
 -- This status and this text answer a command on the bytes that it read. Every other status is no answer.
 abbrev pub Answers : Command → List ℕ → Status → List ℕ → Type 0
 Answers Serial bytes Done text = Plays bytes text
 Answers Serial bytes Refused text = Refuses bytes text
 Answers Serial bytes status text = ⊥
+Answers Audit bytes Done text = IsLegal bytes text
+Answers Audit bytes Wrong text = IsWrong bytes text
+Answers Audit bytes status text = ⊥
+Answers (Gen number crafts cycles) bytes Done text = IsMade number crafts cycles text
+Answers (Gen number crafts cycles) bytes status text = ⊥

@@ -5,7 +5,7 @@ use Rattle.acas_base.specs.Encounter.{Parts}
 use Rattle.acas_base.specs.declared.entry.Entry.{Entry}
 use Rattle.acas_io.specs.Stream.{TookAll}
 use Rattle.acas_top.specs.Answers.{Answers, IsRun}
-use Rattle.acas_top.specs.Words.{limit_of, words_of}
+use Rattle.acas_top.specs.Words.{IsCommand, limit_of, words_of}
 use Rattle.acas_top.specs.declared.status.Status.{Status}
 use Rattle.acas_top.specs.declared.status.Status.TheVariants.{Done, Refused, Wrong}
 use Rattle.acas_top.specs.declared.words.Command.{Command}
@@ -39,6 +39,7 @@ IsWithin words left = (command : Command) → words ≡ words_of command → For
 -- The words say a command, and its answer on the bytes that it read is this status and the text that was put out.
 pub record Answered (words : List (List ℕ)) (status : Status) (old new : Option (List ℕ)) (IsPut : List ℕ → Type 0) : Type 0 where
   pub command : Command
+  pub is : IsCommand command
   pub said : words ≡ words_of command
   pub bytes : List ℕ
   pub read : WasRead (limit_of command) old new bytes

@@ -1,19 +1,31 @@
 -- The answers as the code holds them.
 use Rattle.std.specs.Prelude.{ℕ, ◌≤◌, List, [], ◌∷◌, length, Option, None, Some}
 use Rattle.acas_lines.specs.Lines.{joined}
-use Rattle.acas_top.specs.Answers.{refused_line}
+use Rattle.acas_top.specs.Answers.{refused_line, verdict_line}
 use Rattle.acas_top.specs.declared.answers.Answer.{Answer}
-use Rattle.acas_top.specs.declared.answers.Answer.TheVariants.{Recorded, Refused}
+use Rattle.acas_top.specs.declared.answers.Answer.TheVariants.{Judged, Made, Recorded, Refused}
 use Rattle.acas_top.specs.declared.status.Status.{Status}
 use Rattle.acas_top.specs.declared.status.Status.TheVariants as statuses
+use Rattle.enc_file.specs.Canonical.{canonical_lines}
+use Rattle.rec_audit.specs.declared.verdict.Verdict.{Verdict}
+use Rattle.rec_audit.specs.declared.verdict.Verdict.TheVariants as verdicts
 use Rattle.rec_text.specs.Recording.{recording_lines}
+
+-- A recording that is wrong has a status of its own.
+abbrev pub verdict_status : Verdict → Status
+verdict_status (verdicts.Legal entries) = statuses.Done
+verdict_status (verdicts.Wrong line reason) = statuses.Wrong
 
 abbrev pub answer_status : Answer → Status
 answer_status (Recorded state) = statuses.Done
+answer_status (Made encounter) = statuses.Done
+answer_status (Judged verdict) = verdict_status verdict
 answer_status (Refused at code) = statuses.Refused
 
 abbrev pub answer_lines : Answer → List (List ℕ)
 answer_lines (Recorded state) = recording_lines state.encounter state.journal
+answer_lines (Made encounter) = canonical_lines encounter
+answer_lines (Judged verdict) = verdict_line verdict ∷ []
 answer_lines (Refused at code) = refused_line at code ∷ []
 
 abbrev pub answer_text : Answer → List ℕ

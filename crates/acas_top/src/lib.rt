@@ -6,6 +6,7 @@ mod answers;
 mod refusal;
 mod status;
 mod top;
+mod verdict;
 mod words;
 
 pub use status::Status;

@@ -403,3 +403,107 @@ fn plays_sixteen_aircraft(rt: HostRuntime) -> Result<(), Fail> {
     assert_eq!(rt; lines_with(done.sink.bytes(), b"c,"), 9600);
     Ok(())
 }
+
+// ---- recordings
+
+// The recording of the two at different altitudes.
+fn apart_recording(alloc: Global) -> Result<Vec<u8>, AllocError> {
+    let done = play(alloc, APART, b"end\n")?;
+    done.sink.bytes().to_vec(alloc)
+}
+
+// The lines of a text from one number on, from 1, as far as another one, with one of them replaced.
+fn lines_between(
+    alloc: Global,
+    text: &[u8],
+    first: u64,
+    last: u64,
+    replaced: u64,
+    other: &[u8],
+) -> Result<Vec<u8>, AllocError> {
+    let mut lines = Vec::new(alloc);
+    let mut number = 0u64;
+    for line in text.split(|byte| *byte == b'\n') {
+        number = number.saturating_add(1);
+        if number >= first && number <= last && !line.is_empty() {
+            let written = if number == replaced { other } else { line };
+            lines.extend_from_slice(written)?;
+            lines.push(b'\n')?;
+        }
+    }
+    Ok(lines)
+}
+
+// The number of a line, what stands there instead, how many lines are kept, and the line of the verdict.
+type Fault = (u64, &'static [u8], u64, &'static [u8]);
+
+const JUDGED: [Fault; 14] = [
+    (0, b"", 102, b"legal,86\n"),
+    (1, b"recording,2", 102, b"wrong,1,2\n"),
+    (2, b"encounter,3", 102, b"wrong,2,1,1\n"),
+    (3, b"run,031,0", 102, b"wrong,2,1,4\n"),
+    (4, b"gains,0683,256,512,128", 102, b"wrong,2,1,4\n"),
+    (9, b"end ", 102, b"wrong,103,2\n"),
+    (10, b"journal,086", 102, b"wrong,10,2\n"),
+    (10, b"journal,999999999", 102, b"wrong,97,2\n"),
+    (10, b"journal,85", 102, b"wrong,96,6\n"),
+    (10, b"journal,83", 102, b"wrong,94,5\n"),
+    (61, b"c,0,26,-,U5.1c", 102, b"wrong,61,4\n"),
+    (64, b"t,0,53,0,g", 102, b"wrong,64,3\n"),
+    (0, b"", 95, b"wrong,96,2\n"),
+    (0, b"", 96, b"wrong,97,6\n"),
+];
+
+#[test]
+fn judges_recordings(rt: HostRuntime) -> Result<(), Fail> {
+    let alloc = rt.alloc();
+    let recording = apart_recording(alloc)?;
+    for (replaced, other, last, verdict) in JUDGED {
+        let text = lines_between(alloc, recording.as_slice(), 1, last, replaced, other)?;
+        let judged = run(alloc, &["audit"], text.as_slice(), &[], &[])?;
+        let status = if replaced == 0 && last == 102 {
+            Status::Done
+        } else {
+            Status::Wrong
+        };
+        assert_eq!(rt; judged.status, status);
+        assert_eq!(rt; judged.sink.bytes(), verdict);
+    }
+    Ok(())
+}
+
+#[test]
+fn judges_a_journal_without_entries(rt: HostRuntime) -> Result<(), Fail> {
+    let alloc = rt.alloc();
+    let recording = apart_recording(alloc)?;
+    let mut text = lines_between(alloc, recording.as_slice(), 1, 10, 10, b"journal,0")?;
+    let rest = lines_between(alloc, recording.as_slice(), 97, 102, 0, b"")?;
+    text.extend_from_slice(rest.as_slice())?;
+    let judged = run(alloc, &["audit"], text.as_slice(), &[], &[])?;
+    assert_eq!(rt; judged.sink.bytes(), b"wrong,11,5\n".as_slice());
+    Ok(())
+}
+
+// ---- encounters of a number
+
+#[test]
+fn makes_encounters(rt: HostRuntime) -> Result<(), Fail> {
+    let alloc = rt.alloc();
+    let made = run(alloc, &["gen", "7", "1", "1"], b"", &[1], &[])?;
+    assert_eq!(rt; made.status, Status::Done);
+    assert_eq!(rt; made.sink.bytes(), ONE_CYCLE);
+    for words in [
+        ["gen", "7", "17", "1"],
+        ["gen", "7", "0", "1"],
+        ["gen", "7", "1", "601"],
+        ["gen", "07", "1", "1"],
+        ["gen", "4294967296", "1", "1"],
+        ["Gen", "7", "1", "1"],
+    ] {
+        let other = run(alloc, &words, b"", &[1], &[1])?;
+        assert_eq!(rt; other.status, Status::Usage);
+    }
+    let most = run(alloc, &["gen", "4294967295", "16", "600"], b"", &[1], &[])?;
+    assert_eq!(rt; most.status, Status::Done);
+    Ok(())
+}

@@ -12,6 +12,7 @@ use crate::words::parse;
 use crate::{Command, Status};
 use acas_io::{InError, Sink, Source, read_all};
 use acas_lines::write_text;
+use rec_audit::verdict_law;
 use std::alloc::Global;
 
 // What a command reads.
@@ -34,7 +35,9 @@ fn read_input<S: Source>(
 /// Does what the words of a command line say: reads the source, writes the sink, and says how it ended.
 ///
 /// `serial` reads an encounter and writes the recording of its serial run, or where it is refused the line
-/// `refused,RECORD,CODE`. Every other list of words is [`Status::Usage`]. All memory is taken before the first byte is
+/// `refused,RECORD,CODE`. `audit` reads a recording and writes `legal,ENTRIES`, or where it is wrong `wrong,LINE,REASON`.
+/// `gen NUMBER CRAFTS CYCLES` reads nothing and writes the encounter that is made of this number, with
+/// so many aircraft and cycles. Every other list of words is [`Status::Usage`]. All memory is taken before the first byte is
 /// written.
 pub fn acas<S: Source, K: Sink>(
     alloc: Global,
@@ -92,4 +95,6 @@ pub fn acas<S: Source, K: Sink>(
 pub fn one_status_law()
     ensures { (command : Command) (bytes text other : List ℕ) (status also : Status)
         → Answers command bytes status text → Answers command bytes also other → status ≡ also }
-{}
+{
+    verdict_law();
+}

@@ -1,0 +1,54 @@
+// The line of a verdict.
+ghost use Rattle.std.specs.Prelude.{◌≡◌, ◌++◌, ◌+◌, ◌≤◌, length};
+ghost use Rattle.acas_text.specs.declared.line.TheConstants.{LINE_BYTES};
+ghost use Rattle.acas_top.specs.Answers.{reason_text, verdict_line};
+
+use acas_text::Line;
+use rec_audit::{Reason, Verdict};
+
+// Adds the number of a reason, and behind the first one the code of the refusal.
+fn add_reason(line: &mut Line, reason: Reason)
+    requires { length line.old + 20 ≤ LINE_BYTES }
+    ensures added { line.new ≡ line.old ++ reason_text reason }
+    ensures short { length line.new ≤ length line.old + 20 }
+{
+    match reason {
+        Reason::Encounter(code) => {
+            line.text("1,");
+            line.u16(u16::from(code.number()));
+        }
+        _ => line.u16(u16::from(reason.number())),
+    }
+}
+
+fn wrong_line(number: u32, reason: Reason) -> Line
+    ensures { result ≡ verdict_line (Verdict.Wrong number reason) }
+{
+    let mut line = Line::new();
+    line.text("wrong,");
+    line.u32(number);
+    line.text(",");
+    add_reason(&mut line, reason);
+    line.text("\n");
+    line
+}
+
+fn legal_line(entries: u32) -> Line
+    ensures { result ≡ verdict_line (Verdict.Legal entries) }
+{
+    let mut line = Line::new();
+    line.text("legal,");
+    line.u32(entries);
+    line.text("\n");
+    line
+}
+
+/// The line that tells how many entries a legal recording has, or which line of a wrong one is wrong, from 1, and why.
+pub(crate) fn verdict_line(verdict: Verdict) -> Line
+    ensures { result ≡ verdict_line verdict }
+{
+    match verdict {
+        Verdict::Legal(entries) => legal_line(entries),
+        Verdict::Wrong(number, reason) => wrong_line(number, reason),
+    }
+}
