@@ -6,7 +6,7 @@ mod pair;
 mod ranks;
 
 pub use messages::next_message;
-pub use pair::next_cell;
+pub use pair::{changes_sense, ends, next_cell};
 pub use ranks::rank_of;
 
 #[cfg(test)]

@@ -91,8 +91,9 @@ fn continuation_of(prev: &Intent, view: &View) -> Cell
     )
 }
 
-// A continuing advisory changes its sense.
-fn changes_sense(prev: &Intent, view: &View, rac: Vrc, rank: Rank) -> bool
+/// Whether an advisory that goes on changes its sense: that of a `Second` aircraft where the complement forbids it, that
+/// of any other once, by a geometric reversal.
+pub fn changes_sense(prev: &Intent, view: &View, rac: Vrc, rank: Rank) -> bool
     ensures { result ≡ changes_sense prev.now view.now rac rank }
 {
     match rank {
@@ -143,8 +144,9 @@ fn starting_cell(view: &View, rac: Vrc) -> Cell
     }
 }
 
-// The advisory ends.
-fn ends(prev: &Intent, view: &View) -> bool
+/// Whether an advisory ends: own aircraft doesn't resolve any more, or the advisory is five cycles old and there is no
+/// threat.
+pub fn ends(prev: &Intent, view: &View) -> bool
     ensures { result ≡ ends prev.now view.now }
 {
     !view.resolves || (!view.threat && prev.age >= ENDS_FROM)

@@ -9,7 +9,7 @@ mod place;
 mod places;
 
 pub use flying::{inside, inside_law, position};
-pub use measuring::{Meas, measure, own_altitude, slant_range_law};
+pub use measuring::{Meas, measure, own_altitude, slant_range, slant_range_law};
 pub use place::Place;
 pub use places::Places;
 

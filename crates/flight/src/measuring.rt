@@ -81,7 +81,8 @@ pub(crate) fn measured(here: Place, there: Place) -> Option<Meas>
     })
 }
 
-fn slant_range(here: Place, there: Place) -> u64
+/// The slant range between two places in ft, rounded down, however long it is (this project's profile).
+pub fn slant_range(here: Place, there: Place) -> u64
     requires here { IsReachable here }
     requires there { IsReachable there }
     ensures { result ≡ slant_range here there }

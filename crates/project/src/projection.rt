@@ -4,7 +4,6 @@ ghost use Rattle.project.specs.Projection.{projected, rates};
 ghost use Rattle.project.specs.Gained.{toward};
 
 use crate::gained::sum_gained;
-use acas_num::floor_div;
 
 /// The altitude, in 1/1024 ft, after so many half-seconds (this project's profile).
 ///
@@ -22,7 +21,7 @@ pub fn project(z: i64, v: i64, goal: i64, delay: u8, step: i64, halves: u16) -> 
     ensures bound { unsigned_abs result ≤ 2 ^ 41 }
 {
     let total = sum_of_rates(v, goal, delay, step, halves);
-    sum(z, floor_div(total, 2))
+    sum(z, total >> 1)
 }
 
 // The sum of the rates of the half-seconds, in closed form: as if none moved, and what the moves gain.

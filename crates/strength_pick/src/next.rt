@@ -29,8 +29,9 @@ fn is_at_least(strength: Strength, other: Strength) -> bool
     other.place() <= strength.place()
 }
 
-// The advisory weakens to `Level`.
-fn weakens(prev: &Intent, view: &View) -> bool
+/// Whether the advisory weakens to `Level`: it is at least five cycles old and at least `Level`, and its sense
+/// already has ALIM (this project's profile).
+pub fn weakens(prev: &Intent, view: &View) -> bool
     ensures { result ≡ weakens prev.now view.now }
 {
     prev.age >= WEAKENS_FROM
