@@ -2,10 +2,12 @@
 #![tactic(auto)]
 
 mod batch;
+mod counting;
 mod cut;
 mod lines;
 mod writer;
 
+pub use counting::count_lines;
 pub use cut::cut_law;
 pub use lines::{LineSink, Text};
 pub use writer::write_text;

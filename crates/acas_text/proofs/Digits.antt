@@ -1,8 +1,9 @@
--- Digits that are written from the last one on, and read from the first one on.
-use Rattle.std.proofs.Common.{◌≡◌, ℕ, zero, suc, ◌+◌, ◌*◌, ◌/◌, ◌%◌, ◌^◌, ◌<◌, ◌≤◌, true, List, [], ◌∷◌, ◌++◌, length, get_or, set, take, drop, refl, sym, ap, ◌∙◌, append_assoc, arith, length-append, pow-suc, inl, inr}
-use Rattle.std.proofs.Math.Nat.{pow-le-pow_right}
+-- Digits that are written and read from the first one on.
+use Rattle.std.proofs.Common.{◌≡◌, ℕ, zero, suc, ◌+◌, ◌-◌, ◌*◌, ◌/◌, ◌%◌, ◌^◌, ◌<◌, true, List, [], ◌∷◌, ◌++◌, length, get_or, refl, sym, ap, ap₂, ◌∙◌, arith, length-append, pow-suc, inl, inr}
+use Rattle.std.proofs.Math.Nat.{div-div-eq-div-mul, pow-le-pow_right}
 use Rattle.std.proofs.Math.Seq.{get_or-append_seam}
 use Rattle.std.proofs.lemmas.Bool.{cases_lt}
+use Rattle.std.proofs.lemmas.Nat.{pow-add}
 use Rattle.std.proofs.lemmas.List.{append-nil, get_or_append_left}
 use Rattle.std.specs.Fmt.{digit_glyph}
 use Rattle.std.specs.Char.{digit_value}
@@ -10,42 +11,32 @@ use Rattle.std.specs.Str.Parse.{digits_value}
 use Rattle.std.proofs.lemmas.Int.Digits.{digits_value_push}
 use Rattle.acas_text.specs.Hex.{hex}
 
--- What stands from a place on, once it is written.
-drop-set-here : (xs : List ℕ) (k y : ℕ) → k < length xs → drop k (set xs k y) ≡ y ∷ drop (suc k) xs
-drop-set-here [] k y h = absurd (omega arith)
-drop-set-here (x ∷ xs) zero y h = refl
-drop-set-here (x ∷ xs) (suc k) y h = drop-set-here xs k y (omega arith)
+-- Four bits are a digit.
+pub power-of-two : (k : ℕ) → 2 ^ (4 * k) ≡ 16 ^ k
+power-of-two zero = refl
+power-of-two (suc k) =
+    let four : 4 * suc k ≡ 4 * k + 4 = omega arith in
+    ap (λ n. 2 ^ n) four ∙ pow-add 2 (4 * k) 4 ∙ ap (λ p. p * 16) (power-of-two k) ∙ sym (pow-suc 16 k)
 
--- The same, within a front of the list.
-drop-take-set : (xs : List ℕ) (n k y : ℕ) → k < n → n ≤ length xs → drop k (take n (set xs k y)) ≡ y ∷ drop (suc k) (take n xs)
-drop-take-set [] n k y h l = absurd (omega arith)
-drop-take-set (x ∷ xs) zero k y h l = absurd (omega arith)
-drop-take-set (x ∷ xs) (suc n) zero y h l = refl
-drop-take-set (x ∷ xs) (suc n) (suc k) y h l = drop-take-set xs n k y (omega arith) (omega arith)
-
--- One digit was written before the others.
-pub digit-before : (xs all : List ℕ) (n k rest glyph : ℕ) → k < n → n ≤ length xs → glyph ≡ digit_glyph true (rest % 16) → hex (suc k) rest ++ drop (suc k) (take n xs) ≡ all
-    → hex k (rest / 16) ++ drop k (take n (set xs k glyph)) ≡ all
+-- Before the first digit.
+pub hex-start : (line : List ℕ) (k n : ℕ) → line ≡ line ++ hex (k - k) n
 unfolding hex
-digit-before xs all n k rest glyph h l is e =
-    ap (λ t. hex k (rest / 16) ++ t) (drop-take-set xs n k glyph h l ∙ ap (λ g. g ∷ drop (suc k) (take n xs)) is)
-    ∙ sym (append_assoc (hex k (rest / 16)) (digit_glyph true (rest % 16) ∷ []) (drop (suc k) (take n xs))) ∙ e
+hex-start line k n = let none : k - k ≡ 0 = omega arith in rw none (sym (append-nil line))
 
--- No digit is left to write.
-pub no-digit : (xs all : List ℕ) (n rest : ℕ) → hex 0 rest ++ drop 0 (take n xs) ≡ all → take n xs ≡ all
+-- After the last one.
+pub hex-all : (k n left : ℕ) → left ≡ 0 → hex (k - left) (n / 16 ^ left) ≡ hex k n
+hex-all k n left none =
+    let digits : k - left ≡ k = omega (arith, none) in
+    let number : n / 16 ^ left ≡ n = ap (λ i. n / 16 ^ i) none ∙ omega arith in
+    ap₂ (λ (i j : ℕ). hex i j) digits number
+
+-- With one digit more, down to a place.
+pub hex-next : (k place n : ℕ) → hex k (n / 16 ^ suc place) ++ digit_glyph true (n / 16 ^ place % 16) ∷ [] ≡ hex (suc k) (n / 16 ^ place)
 unfolding hex
-no-digit xs all n rest e = e
-
--- Nothing stands behind the taken ones.
-drop-taken : (xs : List ℕ) (n : ℕ) → drop n (take n xs) ≡ []
-drop-taken [] zero = refl
-drop-taken [] (suc n) = refl
-drop-taken (x ∷ xs) zero = refl
-drop-taken (x ∷ xs) (suc n) = drop-taken xs n
-
--- All digits are left to write.
-pub all-left : (xs : List ℕ) (n value : ℕ) → n ≤ length xs → hex n value ++ drop n (take n xs) ≡ hex n value
-all-left xs n value h = ap (λ t. hex n value ++ t) (drop-taken xs n) ∙ append-nil (hex n value)
+hex-next k place n =
+    let power : 16 ^ place * 16 ≡ 16 ^ suc place = omega (arith, pow-suc 16 place) in
+    let rest : n / 16 ^ place / 16 ≡ n / 16 ^ suc place = div-div-eq-div-mul n (16 ^ place) 16 ∙ ap (λ p. n / p) power in
+    ap (λ r. hex k r ++ digit_glyph true (n / 16 ^ place % 16) ∷ []) (sym rest)
 
 -- There are as many digits as were asked for.
 pub length-hex : (k n : ℕ) → length (hex k n) ≡ k

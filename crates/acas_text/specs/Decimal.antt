@@ -1,5 +1,5 @@
 -- Plain decimals: an optional `-` and digits, with no zero in front but in `0`, and never `-0`.
-use Rattle.std.specs.Prelude.{◌≡◌, ◌≢◌, ℕ, ℤ, ◌<◌, ◌≤◌, ◌^◌, List, MatchOption, Option, unsigned_abs}
+use Rattle.std.specs.Prelude.{◌≡◌, ◌≢◌, ℕ, ℤ, ◌<◌, ◌≤◌, ◌^◌, List, MatchOption, Option, length, slice_index, unsigned_abs}
 use Rattle.std.specs.Fmt.{decimal, signed_decimal}
 
 -- These bytes are the plain decimal of this number, which has at most ten digits.
@@ -14,3 +14,8 @@ IsWithin low high n = (low ≤ n) × (n ≤ high)
 abbrev pub SpellsWithin : ℕ → ℕ → List ℕ → Option ℕ → Type 0
 SpellsWithin low high bytes found =
     MatchOption found ((n : ℕ) → IsWithin low high n → decimal n ≢ bytes) (λ n. IsWithin low high n × (bytes ≡ decimal n))
+
+-- Something is there, and no zero stands in front of other bytes.
+pub record IsShort (bytes : List ℕ) : Type 0 where
+  pub some : 0 < length bytes
+  pub lead : slice_index bytes 0 ≡ 48 → length bytes ≡ 1

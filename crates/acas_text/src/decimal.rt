@@ -1,12 +1,49 @@
 // Plain decimals.
-ghost use Rattle.std.specs.Prelude.{◌≡◌, ℤ, IfSome, IfNone};
-ghost use Rattle.acas_text.specs.Decimal.{IsPlain, SpellsWithin};
+ghost use Rattle.std.specs.Prelude.{◌≡◌, ◌<◌, ◌≤◌, ◌^◌, ℤ, IfSome, IfNone, MatchBool, MatchOption};
+ghost use Rattle.std.specs.Char.{digit_value};
+ghost use Rattle.acas_text.specs.Decimal.{IsPlain, IsShort, SpellsWithin};
 
-use itoa::Buffer;
-use std::str;
+// The greatest number of ten digits.
+const MOST: u64 = 9_999_999_999;
 
-// A plain decimal of at most ten digits lies below it, on either side of zero.
-const BOUND: u64 = 10_000_000_000;
+// The value of a digit 0-9.
+fn digit_of(glyph: u8) -> Option<u8>
+    ensures { MatchOption result (10 ≤ digit_value glyph) (λ digit. (digit < 10) × (digit_value glyph ≡ digit)) }
+{
+    match glyph {
+        b'0'..=b'9' => Some(glyph - b'0'),
+        _ => None,
+    }
+}
+
+// Whether something is there, and no zero stands in front of other bytes.
+fn is_short(bytes: &[u8]) -> bool
+    ensures { MatchBool result (IsShort bytes.now) (IsShort bytes.now → ⊥) }
+{
+    match bytes {
+        [] => false,
+        [first, rest @ ..] => *first != b'0' || rest.is_empty(),
+    }
+}
+
+// The number up to `high` whose plain decimal the bytes are.
+fn parse_up_to(bytes: &[u8], high: u64) -> Option<u64>
+    requires { high < 10 ^ 10 }
+    ensures { SpellsWithin 0 high bytes.now result }
+{
+    if !is_short(bytes) {
+        return None;
+    }
+    let mut value = 0u64;
+    for glyph in bytes {
+        let digit = digit_of(*glyph)?;
+        value = value * 10 + u64::from(digit);
+        if high < value {
+            return None;
+        }
+    }
+    Some(value)
+}
 
 /// The number that a plain decimal of at most ten digits spells.
 ///
@@ -16,22 +53,22 @@ pub fn parse(bytes: &[u8]) -> Option<i64>
     ensures some { IfSome result (IsPlain bytes.now) }
     ensures none { IfNone result ((n : ℤ) → IsPlain bytes.now n → ⊥) }
 {
-    let Ok(text) = str::from_utf8(bytes) else {
-        return None;
-    };
-    let Ok(number) = text.parse::<i64>() else {
-        return None;
-    };
-    if number.unsigned_abs() >= BOUND {
-        return None;
-    }
-
-    // std reads other spellings too, as `+1` and `007`: only the number's own text is plain.
-    let mut buffer = Buffer::new();
-    if buffer.format(number) == text {
-        Some(number)
-    } else {
-        None
+    match bytes {
+        [b'-', digits @ ..] => {
+            let Some(size) = parse_up_to(digits, MOST) else {
+                return None;
+            };
+            if size == 0 {
+                return None;
+            }
+            Some(-(size as i64))
+        }
+        _ => {
+            let Some(size) = parse_up_to(bytes, MOST) else {
+                return None;
+            };
+            Some(size as i64)
+        }
     }
 }
 
@@ -40,15 +77,10 @@ pub fn parse(bytes: &[u8]) -> Option<i64>
 pub fn parse_within(bytes: &[u8], low: u32, high: u32) -> Option<u32>
     ensures { SpellsWithin low high bytes.now result }
 {
-    let Some(value) = parse(bytes) else {
+    let Some(value) = parse_up_to(bytes, u64::from(high)) else {
         return None;
     };
-    let least = i64::from(low);
-    if value < least {
-        return None;
-    }
-    let greatest = i64::from(high);
-    if greatest < value {
+    if value < u64::from(low) {
         return None;
     }
     Some(value as u32)

@@ -4,7 +4,7 @@ ghost use Rattle.std.specs.Fmt.{decimal, signed_decimal};
 ghost use Rattle.std.specs.Str.Parse.{digits_value};
 ghost use Rattle.acas_text.specs.Hex.{hex};
 
-use crate::hexadecimal::digits_of;
+use crate::hexadecimal::digit_at;
 use itoa::{Buffer, Integer};
 use std::marker::Model;
 
@@ -112,8 +112,11 @@ impl Line {
         // No digit is missing: what was added reads as the number.
         ensures whole { digits_value 16 (hex digits value) ≡ value }
     {
-        let count = usize::from(digits);
-        self.add(&digits_of(value, count)[..count]);
+        let mut left = digits;
+        while left > 0 {
+            left -= 1;
+            self.push(digit_at(value, left));
+        }
     }
 
     /// Adds a text.
