@@ -1,5 +1,5 @@
 // The canonical text of an encounter.
-ghost use Rattle.std.specs.Prelude.{◌≡◌, List, ℕ, map};
+ghost use Rattle.std.specs.Prelude.{◌≡◌, [], List, ℕ, map};
 ghost use Rattle.std.specs.List.{flat_map};
 ghost use Rattle.acas_base.specs.declared.craft.CraftSpec.{CraftSpec};
 ghost use Rattle.acas_io.specs.Stream.{Puts};
@@ -7,8 +7,8 @@ ghost use Rattle.enc_file.specs.Canonical.{canonical_text};
 ghost use Rattle.enc_file.specs.Spelling.{climb_records, line_of};
 
 use crate::spelling::{
-    climb_line, craft_line, end_line, fate_line, gains_line, header_line, leg_line, miss_line,
-    plan_line, run_line,
+    climb_line, end_line, gains_line, header_line, run_line, spell_craft, spell_fate, spell_leg,
+    spell_miss, spell_plan,
 };
 use acas_base::{CraftSpec, Encounter, Fate, Leg, LinkPlan, Miss};
 use acas_io::{Failed, Sink};
@@ -19,8 +19,10 @@ use acas_text::Line;
 trait Spelled {
     ghost spelling: { List CraftSpec → Self → List ℕ };
 
-    fn line(&self, crafts: &[CraftSpec]) -> Line
-        ensures { result ≡ spelling crafts.now self.now };
+    /// Makes its line.
+    fn spell(&self, crafts: &[CraftSpec], line: &mut Line)
+        requires { line.old ≡ [] }
+        ensures { line.new ≡ spelling crafts.now self.now };
 }
 
 impl Spelled for CraftSpec {
@@ -28,8 +30,8 @@ impl Spelled for CraftSpec {
 
     ghost spelling = { λ _ craft. line_of (craft_record craft) };
 
-    fn line(&self, _: &[CraftSpec]) -> Line {
-        craft_line(self)
+    fn spell(&self, _: &[CraftSpec], line: &mut Line) {
+        spell_craft(line, self)
     }
 }
 
@@ -38,8 +40,8 @@ impl Spelled for Leg {
 
     ghost spelling = { λ crafts leg. line_of (leg_record crafts leg) };
 
-    fn line(&self, crafts: &[CraftSpec]) -> Line {
-        leg_line(crafts, self)
+    fn spell(&self, crafts: &[CraftSpec], line: &mut Line) {
+        spell_leg(line, crafts, self)
     }
 }
 
@@ -48,8 +50,8 @@ impl Spelled for Miss {
 
     ghost spelling = { λ crafts miss. line_of (miss_record crafts miss) };
 
-    fn line(&self, crafts: &[CraftSpec]) -> Line {
-        miss_line(crafts, self)
+    fn spell(&self, crafts: &[CraftSpec], line: &mut Line) {
+        spell_miss(line, crafts, self)
     }
 }
 
@@ -58,8 +60,8 @@ impl Spelled for LinkPlan {
 
     ghost spelling = { λ crafts plan. line_of (plan_record crafts plan) };
 
-    fn line(&self, crafts: &[CraftSpec]) -> Line {
-        plan_line(crafts, self)
+    fn spell(&self, crafts: &[CraftSpec], line: &mut Line) {
+        spell_plan(line, crafts, self)
     }
 }
 
@@ -68,8 +70,8 @@ impl Spelled for Fate {
 
     ghost spelling = { λ crafts fate. line_of (fate_record crafts fate) };
 
-    fn line(&self, crafts: &[CraftSpec]) -> Line {
-        fate_line(crafts, self)
+    fn spell(&self, crafts: &[CraftSpec], line: &mut Line) {
+        spell_fate(line, crafts, self)
     }
 }
 
@@ -77,8 +79,11 @@ impl Spelled for Fate {
 fn put_each<T: Spelled, S: LineSink>(crafts: &[CraftSpec], records: &[T], sink: &mut S)
     ensures { S.took sink.old sink.new (map (T.spelling crafts.now) records.now) }
 {
+    let mut line = Line::new();
     for item in records {
-        sink.line(&item.line(crafts));
+        line.clear();
+        item.spell(crafts, &mut line);
+        sink.line(&line);
     }
 }
 

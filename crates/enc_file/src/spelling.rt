@@ -1,5 +1,5 @@
 // The lines of an encounter's canonical text.
-ghost use Rattle.std.specs.Prelude.{◌≡◌, ◌+◌, ◌<◌, ◌≤◌, ◌^◌, ◌∷◌, ◌++◌, length, pos};
+ghost use Rattle.std.specs.Prelude.{◌≡◌, ◌+◌, ◌<◌, ◌≤◌, ◌^◌, ◌∷◌, ◌++◌, [], length, pos};
 ghost use Rattle.std.specs.Fmt.{signed_decimal};
 ghost use Rattle.std.specs.List.{flat_map};
 ghost use Rattle.acas_text.specs.Hex.{hex};
@@ -104,19 +104,18 @@ pub(crate) fn gains_line(range: Gains, altitude: Gains) -> Line
     line
 }
 
-pub(crate) fn craft_line(craft: &CraftSpec) -> Line
-    ensures { result ≡ line_of (craft_record craft.now) }
+pub(crate) fn spell_craft(line: &mut Line, craft: &CraftSpec)
+    requires { line.old ≡ [] }
+    ensures { line.new ≡ line_of (craft_record craft.now) }
 {
-    let mut line = Line::new();
     line.text("craft");
-    add_address(&mut line, craft.address.value());
+    add_address(line, craft.address.value());
     line.text(",");
     line.text(kind_name(craft.kind));
-    add_number(&mut line, craft.x);
-    add_number(&mut line, craft.y);
-    add_number(&mut line, craft.alt);
+    add_number(line, craft.x);
+    add_number(line, craft.y);
+    add_number(line, craft.alt);
     line.text("\n");
-    line
 }
 
 pub(crate) fn climb_line(craft: &CraftSpec, limit: i32) -> Line
@@ -130,31 +129,29 @@ pub(crate) fn climb_line(craft: &CraftSpec, limit: i32) -> Line
     line
 }
 
-pub(crate) fn leg_line(crafts: &[CraftSpec], leg: &Leg) -> Line
-    ensures { result ≡ line_of (leg_record crafts.now leg.now) }
+pub(crate) fn spell_leg(line: &mut Line, crafts: &[CraftSpec], leg: &Leg)
+    requires { line.old ≡ [] }
+    ensures { line.new ≡ line_of (leg_record crafts.now leg.now) }
 {
-    let mut line = Line::new();
     line.text("leg");
-    add_address(&mut line, address_in(crafts, leg.craft));
-    add_count(&mut line, leg.from);
-    add_number(&mut line, leg.vx);
-    add_number(&mut line, leg.vy);
-    add_number(&mut line, leg.vz);
+    add_address(line, address_in(crafts, leg.craft));
+    add_count(line, leg.from);
+    add_number(line, leg.vx);
+    add_number(line, leg.vy);
+    add_number(line, leg.vz);
     line.text("\n");
-    line
 }
 
-pub(crate) fn miss_line(crafts: &[CraftSpec], miss: &Miss) -> Line
-    ensures { result ≡ line_of (miss_record crafts.now miss.now) }
+pub(crate) fn spell_miss(line: &mut Line, crafts: &[CraftSpec], miss: &Miss)
+    requires { line.old ≡ [] }
+    ensures { line.new ≡ line_of (miss_record crafts.now miss.now) }
 {
-    let mut line = Line::new();
     line.text("miss");
-    add_address(&mut line, address_in(crafts, miss.own));
-    add_address(&mut line, address_in(crafts, miss.target));
-    add_count(&mut line, miss.from);
-    add_count(&mut line, miss.to);
+    add_address(line, address_in(crafts, miss.own));
+    add_address(line, address_in(crafts, miss.target));
+    add_count(line, miss.from);
+    add_count(line, miss.to);
     line.text("\n");
-    line
 }
 
 // Adds the hold and the mask of a copy, in at most nine bytes.
@@ -180,29 +177,27 @@ fn add_copies(line: &mut Line, copies: u8, first: CopyPlan, second: CopyPlan, th
     }
 }
 
-pub(crate) fn plan_line(crafts: &[CraftSpec], plan: &LinkPlan) -> Line
-    ensures { result ≡ line_of (plan_record crafts.now plan.now) }
+pub(crate) fn spell_plan(line: &mut Line, crafts: &[CraftSpec], plan: &LinkPlan)
+    requires { line.old ≡ [] }
+    ensures { line.new ≡ line_of (plan_record crafts.now plan.now) }
 {
-    let mut line = Line::new();
     line.text("plan");
-    add_address(&mut line, address_in(crafts, plan.sender));
-    add_address(&mut line, address_in(crafts, plan.receiver));
-    add_copies(&mut line, plan.copies, plan.first, plan.second, plan.third);
+    add_address(line, address_in(crafts, plan.sender));
+    add_address(line, address_in(crafts, plan.receiver));
+    add_copies(line, plan.copies, plan.first, plan.second, plan.third);
     line.text("\n");
-    line
 }
 
-pub(crate) fn fate_line(crafts: &[CraftSpec], fate: &Fate) -> Line
-    ensures { result ≡ line_of (fate_record crafts.now fate.now) }
+pub(crate) fn spell_fate(line: &mut Line, crafts: &[CraftSpec], fate: &Fate)
+    requires { line.old ≡ [] }
+    ensures { line.new ≡ line_of (fate_record crafts.now fate.now) }
 {
-    let mut line = Line::new();
     line.text("fate");
-    add_address(&mut line, address_in(crafts, fate.sender));
-    add_address(&mut line, address_in(crafts, fate.receiver));
-    add_count(&mut line, fate.number);
-    add_copies(&mut line, fate.copies, fate.first, fate.second, fate.third);
+    add_address(line, address_in(crafts, fate.sender));
+    add_address(line, address_in(crafts, fate.receiver));
+    add_count(line, fate.number);
+    add_copies(line, fate.copies, fate.first, fate.second, fate.third);
     line.text("\n");
-    line
 }
 
 pub(crate) fn end_line() -> Line

@@ -1,7 +1,7 @@
 use Rattle.std.proofs.Common.{◌∷◌, ◌++◌, ◌∙◌, ap, w32, FitsSigned, rules, append_assoc}
 use Rattle.std.specs.Fmt.{signed_decimal}
 use Rattle.std.proofs.lemmas.Int.{to_z-of_z}
-use Rattle.enc_file.proofs.spelling.leg_line.Goals as goal
+use Rattle.enc_file.proofs.spelling.spell_leg.Goals as goal
 
 pub returns : goal.returns
 returns c =
@@ -12,4 +12,4 @@ returns c =
     let vx = c.add_number.ensures.added ∙ ap (λ z. c.add_count.new.line ++ 44 ∷ signed_decimal z) (to_z-of_z w32 leg.vx vx_fits) in
     let vy = c.add_number-2.ensures.added ∙ ap (λ z. c.add_number.new.line ++ 44 ∷ signed_decimal z) (to_z-of_z w32 leg.vy vy_fits) in
     let vz = c.add_number-3.ensures.added ∙ ap (λ z. c.add_number-2.new.line ++ 44 ∷ signed_decimal z) (to_z-of_z w32 leg.vz vz_fits) in
-    rw (c.text-2.ensures.added, vz, vy, vx, c.add_count.ensures.added, c.add_address.ensures.added, c.address_in.ensures.value, c.text.ensures.added, c.new-line.ensures) (simp append_assoc)
+    rw (c.text-2.ensures.added, vz, vy, vx, c.add_count.ensures.added, c.add_address.ensures.added, c.address_in.ensures.value, c.text.ensures.added, c.requires) (simp append_assoc)
