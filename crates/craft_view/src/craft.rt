@@ -1,15 +1,18 @@
 // An aircraft that looks at the others, second by second.
-ghost use Rattle.std.specs.Prelude.{◌≡◌, ℕ, ◌+◌, ◌<◌, ◌≤◌, length};
+ghost use Rattle.std.specs.Prelude.{◌≡◌, ℕ, ◌+◌, ◌<◌, ◌≤◌, length, IfSome, map};
+ghost use Rattle.std.specs.List.{range_with_len};
 ghost use Rattle.acas_base.specs.declared.TheConstants.{CRAFTS};
 ghost use Rattle.craft_view.specs.Kept.{Belongs, Kept, IsActive, altitude_kept, kept_of};
+ghost use Rattle.craft_view.specs.KnownTracks.{IsMotion, motion_of};
 ghost use Rattle.craft_view.specs.Own.{own_of, AreRows};
 ghost use Rattle.craft_view.specs.Sight.{sight_of};
 ghost use Rattle.craft_view.specs.Views.{picture_of, view_of};
 ghost use Rattle.flight.specs.Inside.{IsInside};
 
+use crate::motion::{Motion, motion_of};
 use crate::others::{is_other, step_tracks};
 use crate::own::{OwnAircraft, own_of};
-use crate::pair::{no_view, view_by};
+use crate::pair::{no_picture, no_view, put_view};
 use crate::tracks::Tracks;
 use acas_base::{CRAFTS, Encounter, Picture, View};
 use acas_num::TrackState;
@@ -94,11 +97,12 @@ impl Craft {
         ensures cycle { self.new.cycle ≡ self.old.cycle + 1 }
         ensures belongs { Belongs places.now.encounter self.new }
     {
-        self.step(places);
-        self.picture(places)
+        let mut picture = no_picture();
+        self.look_into(places, &mut picture);
+        picture
     }
 
-    /// What [`Craft::look_among`] does. The picture is put where an earlier one was, so that no room is cleared for it.
+    /// What [`Craft::look_among`] does. Each view is put where an earlier one was, so that none is cleared or moved.
     pub fn look_into(&mut self, places: &Places, picture: &mut Picture)
         requires belongs { Belongs places.now.encounter self.old }
         requires left { self.old.cycle < places.now.encounter.cycles }
@@ -109,7 +113,7 @@ impl Craft {
         ensures belongs { Belongs places.now.encounter self.new }
     {
         self.step(places);
-        *picture = self.picture(places);
+        self.put_picture(places, picture);
     }
 
     // Each track goes on by what is measured in the next cycle.
@@ -132,54 +136,44 @@ impl Craft {
         self.cycle += 1;
     }
 
-    // The picture of the present cycle.
-    #[inline(always)]
+    // Puts the picture of the present cycle.
     #[tactic(auto, unfolding(crate::specs::Views::picture_of))]
-    fn picture(&self, places: &Places) -> Picture
+    fn put_picture(&self, places: &Places, picture: &mut Picture)
         requires belongs { Belongs places.now.encounter self.now }
         requires begun { 1 ≤ self.now.cycle }
         requires present { places.now.cycle ≡ self.now.cycle }
-        ensures { result ≡ picture_of places.now.encounter self.now.own self.now.cycle }
+        ensures { picture.new ≡ picture_of places.now.encounter self.now.own self.now.cycle }
     {
         let own = own_of(places, self.own);
-        let encounter = places.encounter();
-        Picture {
-            own: self.own,
-            cycle: self.cycle,
-            // `from_fn` would clear all of them first, a fifth more instructions in a whole run of 16 aircraft.
-            views: [
-                self.view_of(encounter, &own, 0),
-                self.view_of(encounter, &own, 1),
-                self.view_of(encounter, &own, 2),
-                self.view_of(encounter, &own, 3),
-                self.view_of(encounter, &own, 4),
-                self.view_of(encounter, &own, 5),
-                self.view_of(encounter, &own, 6),
-                self.view_of(encounter, &own, 7),
-                self.view_of(encounter, &own, 8),
-                self.view_of(encounter, &own, 9),
-                self.view_of(encounter, &own, 10),
-                self.view_of(encounter, &own, 11),
-                self.view_of(encounter, &own, 12),
-                self.view_of(encounter, &own, 13),
-                self.view_of(encounter, &own, 14),
-                self.view_of(encounter, &own, 15),
-            ],
+        picture.own = self.own;
+        picture.cycle = self.cycle;
+        self.put_views(places.encounter(), &own, &mut picture.views);
+    }
+
+    // Puts the view of each aircraft in the present cycle at its place.
+    fn put_views(&self, encounter: &Encounter, own: &OwnAircraft, views: &mut [View; CRAFTS])
+        requires belongs { Belongs encounter.now self.now }
+        requires own { own.now ≡ own_of (sight_of encounter.now self.now.own self.now.cycle) }
+        requires rows { AreRows own.now }
+        ensures { views.new ≡ map (λ target. view_of encounter.now self.now.own target self.now.cycle) (range_with_len 0 CRAFTS) }
+    {
+        for target in 0..CRAFTS {
+            self.put_view(encounter, own, target as u8, &mut views[target]);
         }
     }
 
-    // The view of the aircraft at an index in the present cycle.
-    fn view_of(&self, encounter: &Encounter, own: &OwnAircraft, target: u8) -> View
+    // Puts the view of the aircraft at an index in the present cycle.
+    fn put_view(&self, encounter: &Encounter, own: &OwnAircraft, target: u8, view: &mut View)
         requires belongs { Belongs encounter.now self.now }
         requires own { own.now ≡ own_of (sight_of encounter.now self.now.own self.now.cycle) }
         requires rows { AreRows own.now }
         requires target { target < CRAFTS }
-        ensures { result ≡ view_of encounter.now self.now.own target self.now.cycle }
+        ensures { view.new ≡ view_of encounter.now self.now.own target self.now.cycle }
     {
         if is_other(encounter, self.own, target) {
-            view_by(own, &self.altitude, &self.tracks[usize::from(target)])
+            put_view(own, &self.altitude, &self.tracks[usize::from(target)], view);
         } else {
-            no_view()
+            *view = no_view();
         }
     }
 
@@ -202,5 +196,14 @@ impl Craft {
             return self.altitude.state();
         }
         self.tracks[usize::from(target)].altitude.state()
+    }
+
+    /// What the tracks of the newest cycle say of an aircraft, where the pair is tested: where they all run.
+    pub fn motion_of(&self, target: u8) -> Option<Motion>
+        requires { target < CRAFTS }
+        ensures value { result ≡ motion_of self.now.altitude (kept_of self.now target) }
+        ensures bounds { IfSome result IsMotion }
+    {
+        motion_of(&self.altitude, &self.tracks[usize::from(target)])
     }
 }

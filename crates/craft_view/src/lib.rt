@@ -13,8 +13,10 @@ mod tracks;
 
 pub use craft::Craft;
 pub use laws::{sight_law, view_law};
-pub use own::is_active;
+pub use motion::{Estimate, Motion};
+pub use own::{OwnAircraft, is_active, own_of};
 pub use pair::no_picture;
+pub use separations::{FIRST_RESPONSE, LATER_RESPONSE, Response, asked_rate};
 
 #[cfg(test)]
 mod tests;

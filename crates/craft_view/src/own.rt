@@ -11,9 +11,9 @@ use acas_base::{CraftSpec, Encounter, Kind, Level, Row};
 use flight::Places;
 use sens_table::level_of;
 
-// The thresholds of advisories at own altitude, none of a resolution advisory where own aircraft
-// doesn't resolve; the separation to aim for, in 1/1024 ft; whether own aircraft may climb; and its
-// height above ground, in ft.
+/// The thresholds of advisories at own altitude, none of a resolution advisory where own aircraft
+/// doesn't resolve; the separation to aim for, in 1/1024 ft; whether own aircraft may climb; and its
+/// height above ground, in ft.
 #[derive(Clone, Copy, Debug, PartialEq, Eq)]
 pub struct OwnAircraft {
     pub traffic: Row,
@@ -33,8 +33,8 @@ pub fn is_active(encounter: &Encounter, own: u8) -> bool
     }
 }
 
-// What own aircraft brings into its views in a cycle.
-pub(crate) fn own_of(places: &Places, own: u8) -> OwnAircraft
+/// What own aircraft brings into its views in a cycle.
+pub fn own_of(places: &Places, own: u8) -> OwnAircraft
     requires own { own < length places.now.encounter.crafts }
     requires inside { IsInside places.now.encounter }
     requires begun { 1 ≤ places.now.cycle }

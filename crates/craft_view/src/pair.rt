@@ -9,20 +9,21 @@ ghost use Rattle.sens_table.specs.Levels.{IsTableRow};
 use crate::hits::is_hit;
 use crate::motion::{Motion, difference, motion_of};
 use crate::own::OwnAircraft;
-use crate::separations::{FIRST, LATER, approach_of, separations};
+use crate::separations::{FIRST_RESPONSE, LATER_RESPONSE, approach_of, separations};
 use crate::tracks::Tracks;
 use acas_base::{CRAFTS, Picture, Row, Sense, Seps, View};
 use alt_track::AltTrack;
 
-// The view of an aircraft by its tracks and the track of own altitude.
+// Puts the view of an aircraft by its tracks and the track of own altitude. Each case puts its own view, since a view that
+// the cases share is moved once more.
 #[tactic(auto, unfolding(crate::specs::Views::view_by))]
-pub(crate) fn view_by(own: &OwnAircraft, altitude: &AltTrack, tracks: &Tracks) -> View
+pub(crate) fn put_view(own: &OwnAircraft, altitude: &AltTrack, tracks: &Tracks, view: &mut View)
     requires { AreRows own.now }
-    ensures { result ≡ view_by own.now altitude.now tracks.now }
+    ensures { view.new ≡ view_by own.now altitude.now tracks.now }
 {
     match motion_of(altitude, tracks) {
-        Some(motion) => tested_view(own, &motion),
-        None => plain_view(false, false, own.resolution.is_some()),
+        Some(motion) => put_tested(own, &motion, view),
+        None => *view = plain_view(false, false, own.resolution.is_some()),
     }
 }
 
@@ -44,14 +45,14 @@ pub fn no_picture() -> Picture
     }
 }
 
-fn tested_view(own: &OwnAircraft, motion: &Motion) -> View
+fn put_tested(own: &OwnAircraft, motion: &Motion, view: &mut View)
     requires own { AreRows own.now }
     requires motion { IsMotion motion.now }
-    ensures { result ≡ tested_view own.now motion.now }
+    ensures { view.new ≡ tested_view own.now motion.now }
 {
     match own.resolution {
-        Some(row) => resolving_view(own, motion, &row),
-        None => plain_view(true, is_hit(motion, &own.traffic), false),
+        Some(row) => *view = resolving_view(own, motion, &row),
+        None => *view = plain_view(true, is_hit(motion, &own.traffic), false),
     }
 }
 
@@ -74,8 +75,8 @@ fn resolving_view(own: &OwnAircraft, motion: &Motion, row: &Row) -> View
         gap: difference(motion.own.est, motion.target.est),
         rate: motion.own.rate,
         agl: own.height,
-        first: separations(motion, &approach, FIRST),
-        later: separations(motion, &approach, LATER),
+        first: separations(motion, &approach, FIRST_RESPONSE),
+        later: separations(motion, &approach, LATER_RESPONSE),
     }
 }
 

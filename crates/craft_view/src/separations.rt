@@ -8,25 +8,24 @@ ghost use Rattle.sens_table.specs.Levels.{IsTableRow};
 
 use crate::motion::{Estimate, Motion, difference};
 use acas_base::{Row, Sense, Seps, Strength};
-use acas_num::floor_div;
 use project::project;
 
-// How own aircraft responds to an advisory: after so many half-seconds its rate moves by a step, in
-// 1/1024 ft/s, in each.
+/// How an aircraft responds to an advisory (this project's profile): in the first `delay` half-seconds its
+/// vertical rate stays, and in each later one it moves by at most `step`, in 1/1024 ft/s.
 #[derive(Clone, Copy, Debug, PartialEq, Eq)]
 pub struct Response {
     pub delay: u8,
     pub step: i64,
 }
 
-// 5 s and 8 ft/s2.
-pub(crate) const FIRST: Response = Response {
+/// The response to an advisory that starts: after 5 s by 8 ft/s2.
+pub const FIRST_RESPONSE: Response = Response {
     delay: 10,
     step: 4_096,
 };
 
-// 2.5 s and 11 ft/s2.
-pub(crate) const LATER: Response = Response {
+/// The response to an advisory that changes: after 2.5 s by 11 ft/s2.
+pub const LATER_RESPONSE: Response = Response {
     delay: 5,
     step: 5_632,
 };
@@ -196,7 +195,7 @@ fn half_of_product(rate: i64, halves: u16) -> i64
     ensures value { result ≡ int_div_euclid (rate *ℤ pos halves) (pos 2) }
     ensures bound { unsigned_abs result ≤ 2 ^ 30 }
 {
-    floor_div(product(rate, halves), 2)
+    product(rate, halves) >> 1
 }
 
 fn product(rate: i64, halves: u16) -> i64
@@ -217,8 +216,10 @@ fn sum(a: i64, b: i64) -> i64
     a + b
 }
 
+/// The vertical rate that an advisory asks for, in 1/1024 ft/s: `rate` where that meets the floor already,
+/// else the floor (this project's profile).
 #[tactic(auto, unfolding(crate::specs::Separations::asked_rate))]
-fn asked_rate(sense: Sense, strength: Strength, rate: i64) -> i64
+pub fn asked_rate(sense: Sense, strength: Strength, rate: i64) -> i64
     requires { unsigned_abs rate ≤ 2 ^ 18 }
     ensures value { result ≡ asked_rate sense strength rate }
     ensures bound { unsigned_abs result ≤ 2 ^ 20 }

@@ -3,7 +3,7 @@ use Rattle.craft_view.specs.Kept.{Kept, kept_of}
 use Rattle.craft_view.specs.KnownTracks.{no_tracks}
 use Rattle.craft_view.proofs.Stepping.{read-or}
 use Rattle.craft_view.proofs.Viewing.{view-none, view-other}
-use Rattle.craft_view.proofs.craft.Craft.view_of.Goals as goal
+use Rattle.craft_view.proofs.craft.Craft.put_view.Goals as goal
 
 pub returns-else-is_other : goal.returns-else-is_other
 returns-else-is_other c = c.no_view.ensures ∙ view-none c.args.encounter.now c.args.self.now.own c.args.self.now.cycle c.args.target (search rules)
@@ -20,7 +20,7 @@ returns-then-is_other c =
     read-or tracks at item no_tracks within c.index-self-from.is
     ∙ ap (λ k. get_or tracks k no_tracks) c.from.ensures
     ∙ ap (λ (k : Kept). kept_of k c.args.target) c.self.view_is in
-    c.view_by.ensures
+    c.put_view.ensures
     ∙ view-other e kept.own kept.cycle c.args.target c.args.own.now c.self.inside.altitude (get_or tracks at item) c.requires.own
     (ap (λ (k : Kept). k.altitude) c.self.view_is ∙ c.requires.belongs.altitude)
     (read ∙ c.requires.belongs.tracks c.args.target c.requires.target)
