@@ -17,3 +17,4 @@ pub mod Seeing
 pub mod Worlds
 pub mod Alike
 pub mod WellFormed
+pub mod Usually

@@ -11,6 +11,7 @@ pub mod Ranges
 pub mod Pages
 pub mod Written
 pub mod Found
+pub mod Usual
 pub mod EntryRefs
 pub use Rattle.acas_base.specs.Encounter
 pub use Rattle.air_rules.specs.Air

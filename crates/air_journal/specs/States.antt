@@ -1,10 +1,12 @@
 -- The state of the air.
-use Rattle.std.specs.Prelude.{◌≡◌, ◌*◌, ◌≤◌, List}
+use Rattle.std.specs.Prelude.{◌≡◌, ◌*◌, ◌≤◌, List, Option}
 use Rattle.acas_base.specs.Encounter.{IsEncounter, Parts}
 use Rattle.acas_base.specs.declared.TheConstants.{CRAFTS}
 use Rattle.acas_base.specs.declared.entry.Entry.{Entry}
+use Rattle.acas_base.specs.declared.link.Fate.{Fate}
 use Rattle.air_journal.specs.Airs.{air_of}
 use Rattle.air_journal.specs.Kept.{IsKept, Kept}
+use Rattle.air_journal.specs.Usual.{AreUsual}
 use Rattle.air_journal.specs.Written.{Written}
 use Rattle.air_rules.specs.Length.{most_entries}
 use Rattle.air_rules.specs.Rules.{IsLegal}
@@ -23,3 +25,8 @@ pub record IsWhole (e : Parts) (journal : Written) (tables : Kept) : Type 0 wher
   pub kept : IsKept (air_of e) journal.entries tables
   pub room : most_entries (air_of e) ≤ journal.room
   pub places : journal.places ≡ e.cycles * CRAFTS
+
+-- Such a state, with the usual fates of its encounter.
+pub record IsState (e : Parts) (fates : List (Option Fate)) (journal : Written) (tables : Kept) : Type 0 where
+  pub usual : AreUsual e fates
+  pub whole : IsWhole e journal tables

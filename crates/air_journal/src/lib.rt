@@ -26,8 +26,10 @@ mod state;
 mod state_laws;
 mod tables;
 mod takes;
+mod usual;
 
 pub use answers::{Commit, Sent, Took, TookThis};
+pub use crafts::rank;
 pub use entry_ref::EntryRef;
 pub use kept::Waiting;
 pub use laws::{air_law, alike_law, entries_law, sound_law};

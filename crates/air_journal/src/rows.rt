@@ -31,8 +31,8 @@ impl Model for Rows {
     ghost invariant = { λ t. AreTables (kept_in t.made.items t.links.items t.queues.items) };
 }
 
-// How many ordered pairs there are.
-const PAIRS: usize = 256;
+/// How many ordered pairs there are.
+pub(crate) const PAIRS: usize = 256;
 
 fn new_made(alloc: Global) -> Result<Vec<Made>, AllocError>
     ensures { IfOk result (λ made. made.items ≡ replicate CRAFTS nothing_made) }
@@ -73,8 +73,8 @@ fn new_queues(alloc: Global) -> Result<Vec<Queue>, AllocError>
     Ok(queues)
 }
 
-// The place of an ordered pair.
-fn pair_of(own: u8, other: u8) -> usize
+/// The place of an ordered pair.
+pub(crate) fn pair_of(own: u8, other: u8) -> usize
     ensures { result ≡ own * CRAFTS + other }
 {
     usize::from(own) * CRAFTS + usize::from(other)
@@ -197,14 +197,10 @@ impl Rows {
     {
         let pair = pair_of(own, target);
         let commits = self.made[usize::from(target)].commits;
-        let link = self.links[pair];
-        self.links[pair] = Link {
-            cell: link.cell,
-            said: vrc,
-            sends: link.sends + 1,
-            sent: true,
-            complement: link.complement,
-        };
+        let link = &mut self.links[pair];
+        link.said = vrc;
+        link.sends += 1;
+        link.sent = true;
         let message = Message {
             word,
             vrc,
@@ -223,15 +219,7 @@ impl Rows {
     {
         if let Some(vrc) = reads {
             let commits = self.made[usize::from(own)].commits;
-            let pair = pair_of(own, sender);
-            let link = self.links[pair];
-            self.links[pair] = Link {
-                cell: link.cell,
-                said: link.said,
-                sends: link.sends,
-                sent: link.sent,
-                complement: Some(Complement { vrc, commits }),
-            };
+            self.links[pair_of(own, sender)].complement = Some(Complement { vrc, commits });
         }
         self.queues[pair_of(sender, own)].remove(place);
     }
@@ -258,13 +246,8 @@ fn put_cells(links: &mut Vec<Link>, own: u8, cells: &Cells)
 {
     for other in 0..CRAFTS as u8 {
         let pair = pair_of(own, other);
-        let link = links[pair];
-        links[pair] = Link {
-            cell: cells.list[usize::from(other)],
-            said: link.said,
-            sends: link.sends,
-            sent: false,
-            complement: link.complement,
-        };
+        let link = &mut links[pair];
+        link.cell = cells.list[usize::from(other)];
+        link.sent = false;
     }
 }

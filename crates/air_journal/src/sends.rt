@@ -23,7 +23,7 @@ impl AirState {
             Some(owing) => {
                 let position = self.journal.len() as u32;
                 let number = self.tables.link(own, owing.target).sends + 1;
-                let fate = self.encounter.fate(own, owing.target, number);
+                let fate = self.usual.fate(&self.encounter, own, owing.target, number);
                 let word = encode(&owing.message);
                 self.journal.push_send(own, owing.target, number, word);
                 self.tables.send(own, owing.target, owing.message.vrc, word, position, &fate);

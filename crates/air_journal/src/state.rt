@@ -16,6 +16,7 @@ use crate::journal::Journal;
 use crate::kept::Waiting;
 use crate::owing::first_owed;
 use crate::tables::Tables;
+use crate::usual::UsualFates;
 use acas_base::{CRAFTS, Cells, Encounter, Entry};
 use std::alloc::{AllocError, Global};
 use std::marker::Model;
@@ -25,18 +26,19 @@ use std::marker::Model;
 #[derive(Drop)]
 pub struct AirState {
     pub(crate) encounter: Encounter,
+    pub(crate) usual: UsualFates,
     pub(crate) journal: Journal,
     pub(crate) tables: Tables,
 }
 
 impl Model for AirState {
-    ghost use Rattle.air_journal.specs.States.{IsWhole, State};
+    ghost use Rattle.air_journal.specs.States.{IsState, State};
 
     ghost Value = { State };
 
     ghost view = { λ a. record { encounter = a.encounter; journal = a.journal.entries } };
 
-    ghost invariant = { λ a. IsWhole a.encounter a.journal a.tables };
+    ghost invariant = { λ a. IsState a.encounter a.usual a.journal a.tables };
 }
 
 impl AirState {
@@ -48,10 +50,12 @@ impl AirState {
         ensures journal { IfOk result (λ state. state.journal ≡ []) }
     {
         let encounter = enc.copy(alloc)?;
+        let usual = UsualFates::new(alloc, enc)?;
         let journal = Journal::new(alloc, usize::from(enc.cycles()), pages_for(enc))?;
         let tables = Tables::new(alloc)?;
         Ok(AirState {
             encounter,
+            usual,
             journal,
             tables,
         })

@@ -5,6 +5,7 @@ use Rattle.acas_base.specs.declared.entry.Entry.{Entry}
 use Rattle.acas_base.specs.declared.entry.Entry.TheVariants.{Commit, Send, Take}
 use Rattle.air_rules.proofs.InOrder.{in-order-legal}
 use Rattle.air_rules.proofs.Legal.{allowed}
+use Rattle.air_rules.proofs.OnlySerial.{only-serial}
 use Rattle.air_rules.proofs.Waiting.{FirstDueTo, FirstOwing, commits-within, first-due-to, first-owing, owed-within, slowest}
 use Rattle.air_rules.specs.Air.{Air, IsSound, is_active}
 use Rattle.air_rules.specs.Due.{NobodyIsDue}
@@ -49,6 +50,15 @@ in-order-on sound o (filled_by f n) = let so = in-order-on sound o f in followed
 
 pub filled-serial : (air : Air) (J : List Entry) → IsSound air → IsFilled air [] J → IsSerial air J
 filled-serial air J sound f = record { in_order = in-order-on sound started f.steps; ended = f.ended }
+
+-- ---- from a beginning of the serial journal on
+
+begun-in-order : {air : Air} {first J : List Entry} → Begins first J → IsInOrder air J → IsInOrder air first
+begun-in-order whole o = o
+begun-in-order (more b) (followed o n) = begun-in-order b o
+
+pub filled-begun : (air : Air) (first S J : List Entry) → IsSound air → IsSerial air S → Begins first S → IsFilled air first J → J ≡ S
+filled-begun air first S J sound s b f = only-serial air J S (record { in_order = in-order-on sound (begun-in-order b s.in_order) f.steps; ended = f.ended }) s
 
 -- ---- where nothing comes next, the journal is complete
 

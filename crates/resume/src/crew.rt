@@ -12,14 +12,14 @@ use std::array::from_fn;
 
 /// The active aircraft, each at its place, and the picture of who looked last.
 #[derive(Drop)]
-pub(crate) struct Crew {
+pub struct Crew {
     pub crafts: [Option<Craft>; CRAFTS],
     pub picture: Picture,
 }
 
 impl Crew {
     /// An active aircraft looks in the next cycle, whose places are given.
-    pub(crate) fn look(&mut self, own: u8, places: &Places)
+    pub fn look(&mut self, own: u8, places: &Places)
         requires own { own < CRAFTS }
         requires there { IsSome (slice_index_or self.old.crafts own None) }
         requires left { places.now.cycle ≤ places.now.encounter.cycles }
@@ -52,7 +52,7 @@ fn craft_at(state: &AirState, enc: &Encounter, own: u8) -> Option<Craft>
 }
 
 /// The crew of a journal: each active aircraft has looked as often as it has committed.
-pub(crate) fn crew_of(state: &AirState, enc: &Encounter) -> Crew
+pub fn crew_of(state: &AirState, enc: &Encounter) -> Crew
     requires { state.now.encounter ≡ enc.now }
     ensures { AreReady enc.now state.now.journal result.crafts }
 {

@@ -68,11 +68,12 @@ pub fn fill(state: &mut AirState, enc: &Encounter)
     state.legal_law();
 }
 
-/// A law: what a legal journal is filled to is legal, complete, and begins with it; and the empty journal
-/// is filled to the serial one.
+/// A law: what a legal journal is filled to is legal, complete, and begins with it; the empty journal
+/// is filled to the serial one; and so is each beginning of that.
 pub fn filled_law()
     ensures legal { (air : Air) (first : List Entry) (journal : List Entry) → IsSound air → IsLegal air first → IsFilled air first journal → IsLegal air journal }
     ensures complete { (air : Air) (first : List Entry) (journal : List Entry) → IsSound air → IsLegal air first → IsFilled air first journal → IsComplete air journal }
     ensures begins { (air : Air) (first : List Entry) (journal : List Entry) → IsFilled air first journal → Begins first journal }
     ensures serial { (air : Air) (journal : List Entry) → IsSound air → IsFilled air [] journal → IsSerial air journal }
+    ensures begun { (air : Air) (first whole journal : List Entry) → IsSound air → IsSerial air whole → Begins first whole → IsFilled air first journal → journal ≡ whole }
 {}

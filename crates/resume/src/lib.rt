@@ -9,4 +9,5 @@ mod filling;
 mod rounds;
 mod steps;
 
+pub use crew::{Crew, crew_of};
 pub use filling::{fill, filled_law};

@@ -1,4 +1,4 @@
-use Rattle.resume.proofs.Filled.{ended-complete, filled-serial, fills-begins, fills-legal}
+use Rattle.resume.proofs.Filled.{ended-complete, filled-begun, filled-serial, fills-begins, fills-legal}
 use Rattle.resume.proofs.filling.filled_law.Goals as goal
 
 pub returns-clause-legal : goal.returns-clause-legal
@@ -12,3 +12,6 @@ returns-clause-begins c = λ air first journal f. fills-begins air first journal
 
 pub returns-clause-serial : goal.returns-clause-serial
 returns-clause-serial c = λ air journal sound f. filled-serial air journal sound f
+
+pub returns-clause-begun : goal.returns-clause-begun
+returns-clause-begun c = λ air first whole journal sound s b f. filled-begun air first whole journal sound s b f

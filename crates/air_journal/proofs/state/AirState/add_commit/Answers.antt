@@ -19,27 +19,27 @@ active : (c : After-len-position) → is_active (air_of c.self.inside.encounter)
 active c = active-is c.self.inside.encounter c.args.own (subst (λ (s : State). IsActive s.encounter c.args.own) (sym c.self.view_is) c.requires.active)
 
 own : (c : After-len-position) → c.args.own < CRAFTS
-own c = below-all c.self.inside.encounter c.self.invariant.valid c.args.own (active c)
+own c = below-all c.self.inside.encounter c.self.invariant.whole.valid c.args.own (active c)
 
 free : (c : After-len-position) → IsFree (air_of c.self.inside.encounter) c.self.inside.journal.entries c.args.own
 free c = subst (λ (s : State). IsFree (air_of s.encounter) s.journal c.args.own) (sym c.self.view_is) c.requires.free
 
 count : (c : After-len-position) → (made_at c.self.inside.tables c.args.own).commits ≡ commits c.self.inside.journal.entries c.args.own
-count c = count-is c.self.invariant c.args.own (own c)
+count c = count-is c.self.invariant.whole c.args.own (own c)
 
 few : (c : After-len-position) → (made_at c.self.inside.tables c.args.own).commits < 600
 few c =
     let n = count c in
     let left : commits c.self.inside.journal.entries c.args.own < c.self.inside.encounter.cycles = (free c).left in
-    let k : c.self.inside.encounter.cycles ≤ 600 = c.self.invariant.valid.run.length.1 in
+    let k : c.self.inside.encounter.cycles ≤ 600 = c.self.invariant.whole.valid.run.length.1 in
     omega arith
 
 fit : (c : After-next_cells-cells) → (p : After-len-position) → is_active (air_of c.self.inside.encounter) c.args.own ≡ true → IsFree (air_of c.self.inside.encounter) c.self.inside.journal.entries c.args.own → CommitFits c.self.inside.encounter c.self.inside.journal c.self.inside.tables c.args.own
-fit c p a f = commit-fits c.self.invariant c.args.own c.next_cells-cells.result a f c.next_cells-cells.ensures
+fit c p a f = commit-fits c.self.invariant.whole c.args.own c.next_cells-cells.result a f c.next_cells-cells.ensures
 
 pub overflow_cast-position : goal.overflow_cast-position
 overflow_cast-position c =
-    let h = c.self.invariant in
+    let h = c.self.invariant.whole in
     omega (arith, fits c.self.inside.encounter c.self.inside.journal.entries h.valid h.legal, most-few c.self.inside.encounter h.valid, c.len-position.ensures)
 
 pub made-cycle-requires : goal.made-cycle-requires
@@ -49,7 +49,7 @@ pub overflow_add-cycle : goal.overflow_add-cycle
 overflow_add-cycle c = omega (arith, few (goal.at.overflow_add-cycle c).After-len-position, ap (λ m. m.commits) c.made-cycle.ensures)
 
 pub next_cells-cells-requires-clause-own : goal.next_cells-cells-requires-clause-own
-next_cells-cells-requires-clause-own c = below c.self.inside.encounter c.self.invariant.valid c.args.own (active (goal.at.next_cells-cells-requires-clause-own c).After-len-position)
+next_cells-cells-requires-clause-own c = below c.self.inside.encounter c.self.invariant.whole.valid c.args.own (active (goal.at.next_cells-cells-requires-clause-own c).After-len-position)
 
 pub next_cells-cells-requires-clause-made : goal.next_cells-cells-requires-clause-made
 next_cells-cells-requires-clause-made c = few (goal.at.next_cells-cells-requires-clause-made c).After-len-position
@@ -62,7 +62,7 @@ next_cells-cells-requires-clause-picture c =
 pub next_cells-cells-requires-clause-age : goal.next_cells-cells-requires-clause-age
 next_cells-cells-requires-clause-age c =
     let p = (goal.at.next_cells-cells-requires-clause-age c).After-len-position in
-    λ j it hj e. ages c.self.invariant c.args.own (own p) (free p).left j it hj e
+    λ j it hj e. ages c.self.invariant.whole c.args.own (own p) (free p).left j it hj e
 
 pub push_commit-requires-clause-own : goal.push_commit-requires-clause-own
 push_commit-requires-clause-own c = own (goal.at.push_commit-requires-clause-own c).After-len-position
@@ -93,11 +93,11 @@ pub commit-requires-clause-size : goal.commit-requires-clause-size
 commit-requires-clause-size c = c.next_cells-cells.ensures.size
 
 whole : (c : After-commit) → is_active (air_of c.self.inside.encounter) c.args.own ≡ true → IsFree (air_of c.self.inside.encounter) c.self.inside.journal.entries c.args.own → IsWhole c.self.inside.encounter c.push_commit.new.self c.commit.new.self
-whole c a f = committed-whole c.self.invariant c.args.own (c.made-cycle.result.commits + 1) c.next_cells-cells.result c.has_many.result a f (ap (λ m. m.commits + 1) c.made-cycle.ensures) c.next_cells-cells.ensures c.has_many.ensures
+whole c a f = committed-whole c.self.invariant.whole c.args.own (c.made-cycle.result.commits + 1) c.next_cells-cells.result c.has_many.result a f (ap (λ m. m.commits + 1) c.made-cycle.ensures) c.next_cells-cells.ensures c.has_many.ensures
     (record { entries = c.push_commit.ensures.entries; room = c.push_commit.ensures.room; places = c.push_commit.ensures.places }) c.commit.ensures
 
 pub invariant_of-self : goal.invariant_of-self
-invariant_of-self c = let p = (goal.at.invariant_of-self c).After-len-position in whole c (active p) (free p)
+invariant_of-self c = let p = (goal.at.invariant_of-self c).After-len-position in record { usual = c.self.invariant.usual; whole = whole c (active p) (free p) }
 
 pub returns-clause-commits : goal.returns-clause-commits
 returns-clause-commits c =
@@ -107,7 +107,7 @@ returns-clause-commits c =
       position_is = c.len-position.ensures;
       cycle = c.made-cycle.result.commits + 1;
       cells = c.next_cells-cells.result;
-      allowed = may-commit c.self.invariant c.args.own (c.made-cycle.result.commits + 1) c.next_cells-cells.result (active p) (free p) (ap (λ m. m.commits + 1) c.made-cycle.ensures) c.next_cells-cells.ensures;
+      allowed = may-commit c.self.invariant.whole c.args.own (c.made-cycle.result.commits + 1) c.next_cells-cells.result (active p) (free p) (ap (λ m. m.commits + 1) c.made-cycle.ensures) c.next_cells-cells.ensures;
       new_is = c.push_commit.ensures.entries;
     })
 

@@ -18,25 +18,25 @@ active : (c : After-self) → is_active (air_of c.self.inside.encounter) c.args.
 active c = active-is c.self.inside.encounter c.args.own (subst (λ (s : State). IsActive s.encounter c.args.own) (sym c.self.view_is) c.requires)
 
 own : (c : After-self) → c.args.own < CRAFTS
-own c = below-all c.self.inside.encounter c.self.invariant.valid c.args.own (active c)
+own c = below-all c.self.inside.encounter c.self.invariant.whole.valid c.args.own (active c)
 
 count : (c : After-made-made) → c.args.own < CRAFTS → c.made-made.result.commits ≡ commits c.self.inside.journal.entries c.args.own
-count c hi = ap (λ m. m.commits) c.made-made.ensures ∙ count-is c.self.invariant c.args.own hi
+count c hi = ap (λ m. m.commits) c.made-made.ensures ∙ count-is c.self.invariant.whole c.args.own hi
 
 pub returns-then-made-cycles : goal.returns-then-made-cycles
 returns-then-made-cycles c =
-    let h = c.self.invariant in
+    let h = c.self.invariant.whole in
     let n = count (goal.at.returns-then-made-cycles c).After-made-made (own (goal.at.returns-then-made-cycles c).After-self) in
     let few = commits-within (air_of c.self.inside.encounter) c.self.inside.journal.entries h.legal c.args.own in
     let e : commits c.self.inside.journal.entries c.args.own ≡ c.self.inside.encounter.cycles = omega (arith, c.cycles.ensures.value) in
     subst (λ (s : State). commits s.journal c.args.own ≡ s.encounter.cycles) c.self.view_is e
 
 pub first_owed-requires : goal.first_owed-requires
-first_owed-requires c = below c.self.inside.encounter c.self.invariant.valid c.args.own (active (goal.at.first_owed-requires c).After-self)
+first_owed-requires c = below c.self.inside.encounter c.self.invariant.whole.valid c.args.own (active (goal.at.first_owed-requires c).After-self)
 
 pub returns-in-Some : goal.returns-in-Some
 returns-in-Some c =
-    let h = c.self.invariant in
+    let h = c.self.invariant.whole in
     let hi = own (goal.at.returns-in-Some c).After-self in
     let n = count (goal.at.returns-in-Some c).After-made-made hi in
     let left : commits c.self.inside.journal.entries c.args.own < c.self.inside.encounter.cycles = omega (arith, c.cycles.ensures.value) in
@@ -47,11 +47,11 @@ pub first_due_to-requires-clause-own : goal.first_due_to-requires-clause-own
 first_due_to-requires-clause-own c = own (goal.at.first_due_to-requires-clause-own c).After-self
 
 pub first_due_to-requires-clause-ordered : goal.first_due_to-requires-clause-ordered
-first_due_to-requires-clause-ordered c = λ b hb. all-ordered c.self.invariant c.args.own b (own (goal.at.first_due_to-requires-clause-ordered c).After-self) (omega (arith, few-crafts c.self.inside.encounter c.self.invariant.valid, c.count_of.ensures.value))
+first_due_to-requires-clause-ordered c = λ b hb. all-ordered c.self.invariant.whole c.args.own b (own (goal.at.first_due_to-requires-clause-ordered c).After-self) (omega (arith, few-crafts c.self.inside.encounter c.self.invariant.whole.valid, c.count_of.ensures.value))
 
 pub returns-in-Some-first_due_to : goal.returns-in-Some-first_due_to
 returns-in-Some-first_due_to c =
-    let h = c.self.invariant in
+    let h = c.self.invariant.whole in
     let hi = own (goal.at.returns-in-Some-first_due_to c).After-self in
     let n = count (goal.at.returns-in-Some-first_due_to c).After-made-made hi in
     let left : commits c.self.inside.journal.entries c.args.own < c.self.inside.encounter.cycles = omega (arith, c.cycles.ensures.value) in
@@ -61,7 +61,7 @@ returns-in-Some-first_due_to c =
 
 pub returns-in-Some-first_behind : goal.returns-in-Some-first_behind
 returns-in-Some-first_behind c =
-    let h = c.self.invariant in
+    let h = c.self.invariant.whole in
     let hi = own (goal.at.returns-in-Some-first_behind c).After-self in
     let n = count (goal.at.returns-in-Some-first_behind c).After-made-made hi in
     let left : commits c.self.inside.journal.entries c.args.own < c.self.inside.encounter.cycles = omega (arith, c.cycles.ensures.value) in
@@ -72,7 +72,7 @@ returns-in-Some-first_behind c =
 
 pub returns : goal.returns
 returns c =
-    let h = c.self.invariant in
+    let h = c.self.invariant.whole in
     let hi = own (goal.at.returns c).After-self in
     let n = count (goal.at.returns c).After-made-made hi in
     let left : commits c.self.inside.journal.entries c.args.own < c.self.inside.encounter.cycles = omega (arith, c.cycles.ensures.value) in

@@ -5,6 +5,7 @@ use Rattle.air_journal.proofs.Steps.{blank-kept}
 use Rattle.air_journal.proofs.state.AirState.new.Goals as goal
 use Rattle.air_journal.specs.Airs.{air_of}
 use Rattle.air_journal.specs.Kept.{IsKept}
+use Rattle.air_journal.specs.Usual.{AreUsual}
 use Rattle.air_rules.specs.Length.{most_entries}
 use Rattle.air_rules.specs.Rules.{IsLegal, empty}
 use Rattle.flight.specs.Inside.{IsInside}
@@ -16,10 +17,13 @@ invariant_of-result c =
     let most : most_entries (air_of e) ≡ most_entries (air_of c.args.enc.now) = ap (λ (p : Parts). most_entries (air_of p)) same in
     let cycles : e.cycles ≡ c.args.enc.now.cycles = ap (λ (p : Parts). p.cycles) same in
     record {
-      valid = subst IsEncounter (sym same) c.cycles.ensures.valid;
-      inside = subst IsInside (sym same) c.requires;
-      legal = subst (IsLegal (air_of e)) (sym c.in_ok-journal.ensures.entries) empty;
-      kept = subst (λ (J : List Entry). IsKept (air_of e) J c.in_ok-tables.tables) (sym c.in_ok-journal.ensures.entries) (blank-kept (air_of e) c.in_ok-tables.tables c.in_ok-tables.ensures);
-      room = omega (arith, c.pages_for.ensures.enough, c.in_ok-journal.ensures.room);
-      places = omega (arith, c.in_ok-journal.ensures.places, c.from.ensures, c.cycles.ensures.value);
+      usual = subst (λ (p : Parts). AreUsual p c.in_ok-usual.usual) (sym same) c.in_ok-usual.ensures;
+      whole = record {
+        valid = subst IsEncounter (sym same) c.cycles.ensures.valid;
+        inside = subst IsInside (sym same) c.requires;
+        legal = subst (IsLegal (air_of e)) (sym c.in_ok-journal.ensures.entries) empty;
+        kept = subst (λ (J : List Entry). IsKept (air_of e) J c.in_ok-tables.tables) (sym c.in_ok-journal.ensures.entries) (blank-kept (air_of e) c.in_ok-tables.tables c.in_ok-tables.ensures);
+        room = omega (arith, c.pages_for.ensures.enough, c.in_ok-journal.ensures.room);
+        places = omega (arith, c.in_ok-journal.ensures.places, c.from.ensures, c.cycles.ensures.value);
+      };
     }

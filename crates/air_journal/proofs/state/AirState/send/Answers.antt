@@ -19,7 +19,7 @@ active : (c : In-Some) → is_active (air_of c.self.inside.encounter) c.args.own
 active c = active-is c.self.inside.encounter c.args.own (subst (λ (s : State). IsActive s.encounter c.args.own) (sym c.self.view_is) c.requires)
 
 fit : (c : In-Some) → SendFits c.self.inside.encounter c.self.inside.journal c.self.inside.tables c.args.own c.in-Some.owing.target
-fit c = send-fits c.self.invariant c.args.own c.in-Some.owing.target c.in-Some.owing.message (active c) c.in-Some.ensures
+fit c = send-fits c.self.invariant.whole c.args.own c.in-Some.owing.target c.in-Some.owing.message (active c) c.in-Some.ensures
 
 pub overflow_cast-position : goal.overflow_cast-position
 overflow_cast-position c = let f = fit (goal.at.overflow_cast-position c).In-Some in omega (arith, f.position, c.len-position.ensures)
@@ -40,7 +40,7 @@ pub send-requires-clause-word : goal.send-requires-clause-word
 send-requires-clause-word c =
     let m = c.in-Some.owing.message in
     ap (λ (w : ℕ). vrc_of (read_word w)) c.encode-word.ensures.value
-    ∙ reads-back c.self.invariant c.args.own c.in-Some.owing.target m (active (goal.at.send-requires-clause-word c).In-Some) c.in-Some.ensures
+    ∙ reads-back c.self.invariant.whole c.args.own c.in-Some.owing.target m (active (goal.at.send-requires-clause-word c).In-Some) c.in-Some.ensures
 
 pub send-requires-clause-sends : goal.send-requires-clause-sends
 send-requires-clause-sends c = (fit (goal.at.send-requires-clause-sends c).In-Some).sends
@@ -64,21 +64,21 @@ after c = subst (λ (w : ℕ). AfterSend c.self.inside.tables c.send.new.self c.
     (copies_from (read_as flip_word read_word w) c.len-position.result (made_at c.self.inside.tables c.in-Some.owing.target).commits 0 (copies_of c.fate-fate.result))) c.encode-word.ensures.value c.send.ensures
 
 whole : (c : After-send) → is_active (air_of c.self.inside.encounter) c.args.own ≡ true → IsWhole c.self.inside.encounter c.push_send.new.self c.send.new.self
-whole c active = sent-whole c.self.invariant c.args.own c.in-Some.owing.target (c.link-number.result.sends + 1) c.len-position.result c.in-Some.owing.message (copies_of c.fate-fate.result) active c.in-Some.ensures
-    (ap (λ l. l.sends + 1) c.link-number.ensures) c.len-position.ensures (ap copies_of c.fate-fate.ensures) (written c) (after c)
+whole c active = sent-whole c.self.invariant.whole c.args.own c.in-Some.owing.target (c.link-number.result.sends + 1) c.len-position.result c.in-Some.owing.message (copies_of c.fate-fate.result) active c.in-Some.ensures
+    (ap (λ l. l.sends + 1) c.link-number.ensures) c.len-position.ensures c.fate-fate.ensures (written c) (after c)
 
 pub invariant_of-self : goal.invariant_of-self
-invariant_of-self c = whole c (active (goal.at.invariant_of-self c).In-Some)
+invariant_of-self c = record { usual = c.self.invariant.usual; whole = whole c (active (goal.at.invariant_of-self c).In-Some) }
 
 pub returns-in-None-clause-sends : goal.returns-in-None-clause-sends
 returns-in-None-clause-sends c =
-    let h = c.self.invariant in
+    let h = c.self.invariant.whole in
     let a = active-is c.self.inside.encounter c.args.own (subst (λ (s : State). IsActive s.encounter c.args.own) (sym c.self.view_is) c.requires) in
     (subst (λ (s : State). OwesNothing (air_of s.encounter) s.journal c.args.own) c.self.view_is (owes-nothing h c.args.own (below-all c.self.inside.encounter h.valid c.args.own a) c.in-None.ensures), refl)
 
 pub returns-in-Some-clause-sends : goal.returns-in-Some-clause-sends
 returns-in-Some-clause-sends c =
-    let h = c.self.invariant in
+    let h = c.self.invariant.whole in
     subst (λ (s : State). SentFirst (air_of s.encounter) s.journal c.args.own c.push_send.new.self.entries c.len-position.result) c.self.view_is
     (record {
       position_is = c.len-position.ensures;

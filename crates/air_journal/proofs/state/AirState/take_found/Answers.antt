@@ -19,7 +19,7 @@ waits : (c : After-len-position) → WaitsAt (air_of c.self.inside.encounter) c.
 waits c = subst (λ (s : State). WaitsAt (air_of s.encounter) s.journal c.args.own c.args.found) (sym c.self.view_is) c.requires.waits
 
 fit : (c : After-len-position) → TakeFits c.self.inside.encounter c.self.inside.journal c.self.inside.tables c.args.own c.args.found
-fit c = take-fits c.self.invariant c.args.own c.args.found (active c) (waits c)
+fit c = take-fits c.self.invariant.whole c.args.own c.args.found (active c) (waits c)
 
 pub overflow_cast-position : goal.overflow_cast-position
 overflow_cast-position c = let f = fit c in omega (arith, f.position, c.len-position.ensures)
@@ -37,7 +37,7 @@ pub take-requires-clause-place : goal.take-requires-clause-place
 take-requires-clause-place c = (fit (goal.at.take-requires-clause-place c).After-len-position).place
 
 whole : (c : After-take) → After-len-position → is_active (air_of c.self.inside.encounter) c.args.own ≡ true → WaitsAt (air_of c.self.inside.encounter) c.self.inside.journal.entries c.args.own c.args.found → IsWhole c.self.inside.encounter c.push_take.new.self c.take.new.self
-whole c p a f = taken-whole c.self.invariant c.args.own c.args.found a f
+whole c p a f = taken-whole c.self.invariant.whole c.args.own c.args.found a f
     (record {
       entries = c.push_take.ensures.entries ∙ ap (λ (g : Bool). kinds.Take c.args.own c.args.found.waiting.send c.args.found.waiting.copy g ∷ c.self.inside.journal.entries) c.is_some-good.ensures;
       room = c.push_take.ensures.room;
@@ -45,7 +45,7 @@ whole c p a f = taken-whole c.self.invariant c.args.own c.args.found a f
     }) c.take.ensures
 
 pub invariant_of-self : goal.invariant_of-self
-invariant_of-self c = let p = (goal.at.invariant_of-self c).After-len-position in whole c p (active p) (waits p)
+invariant_of-self c = let p = (goal.at.invariant_of-self c).After-len-position in record { usual = c.self.invariant.usual; whole = whole c p (active p) (waits p) }
 
 pub returns-clause-took : goal.returns-clause-took
 returns-clause-took c =
@@ -54,7 +54,7 @@ returns-clause-took c =
     (record {
       position_is = c.len-position.ensures;
       allowed = subst (λ (g : Bool). MayTake (air_of c.self.inside.encounter) c.self.inside.journal.entries c.args.own c.args.found.waiting.send c.args.found.waiting.copy g) (sym c.is_some-good.ensures)
-          (may-take c.self.invariant c.args.own c.args.found (active p) (waits p));
+          (may-take c.self.invariant.whole c.args.own c.args.found (active p) (waits p));
       new_is = c.push_take.ensures.entries;
     })
 

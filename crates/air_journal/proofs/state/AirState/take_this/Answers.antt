@@ -17,22 +17,22 @@ active : (c : After-made-made) → is_active (air_of c.self.inside.encounter) c.
 active c = active-is c.self.inside.encounter c.args.own (subst (λ (s : State). IsActive s.encounter c.args.own) (sym c.self.view_is) c.requires)
 
 own : (c : After-made-made) → c.args.own < CRAFTS
-own c = below-all c.self.inside.encounter c.self.invariant.valid c.args.own (active c)
+own c = below-all c.self.inside.encounter c.self.invariant.whole.valid c.args.own (active c)
 
 count : (c : After-made-made) → c.made-made.result.commits ≡ commits c.self.inside.journal.entries c.args.own
-count c = ap (λ m. m.commits) c.made-made.ensures ∙ count-is c.self.invariant c.args.own (own c)
+count c = ap (λ m. m.commits) c.made-made.ensures ∙ count-is c.self.invariant.whole c.args.own (own c)
 
 pub returns-in-None-clause-takes : goal.returns-in-None-clause-takes
 returns-in-None-clause-takes c =
     let a = (goal.at.returns-in-None-clause-takes c).After-made-made in
     let n = subst (λ (k : ℕ). NotDueInAny c.self.inside.tables c.args.own c.made-made.result.commits c.args.send c.args.copy k) c.count_of-count.ensures.value c.in-None.ensures in
-    (subst (λ (s : State). is_due (air_of s.encounter) s.journal c.args.own c.args.send c.args.copy ≡ false) c.self.view_is (not-due c.self.invariant c.args.own c.made-made.result.commits c.args.send c.args.copy (own a) (count a) n), refl)
+    (subst (λ (s : State). is_due (air_of s.encounter) s.journal c.args.own c.args.send c.args.copy ≡ false) c.self.view_is (not-due c.self.invariant.whole c.args.own c.made-made.result.commits c.args.send c.args.copy (own a) (count a) n), refl)
 
 pub take_found-position-requires-clause-waits : goal.take_found-position-requires-clause-waits
 take_found-position-requires-clause-waits c =
     let a = (goal.at.take_found-position-requires-clause-waits c).After-made-made in
     let l = subst (λ (k : ℕ). IsDueInOne c.self.inside.tables c.args.own c.made-made.result.commits c.args.send c.args.copy k c.in-Some.found) c.count_of-count.ensures.value c.in-Some.ensures in
-    subst (λ (s : State). WaitsAt (air_of s.encounter) s.journal c.args.own c.in-Some.found) c.self.view_is (this-waits c.self.invariant c.args.own c.made-made.result.commits c.args.send c.args.copy c.in-Some.found (own a) (count a) l)
+    subst (λ (s : State). WaitsAt (air_of s.encounter) s.journal c.args.own c.in-Some.found) c.self.view_is (this-waits c.self.invariant.whole c.args.own c.made-made.result.commits c.args.send c.args.copy c.in-Some.found (own a) (count a) l)
 
 pub returns-in-Some-clause-takes : goal.returns-in-Some-clause-takes
 returns-in-Some-clause-takes c =

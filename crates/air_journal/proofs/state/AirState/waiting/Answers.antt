@@ -10,7 +10,7 @@ use Rattle.air_journal.specs.declared.kept.Waiting.{Waiting}
 
 pub returns-clause-queue : goal.returns-clause-queue
 returns-clause-queue c =
-    let h = c.self.invariant in
+    let h = c.self.invariant.whole in
     let e = c.self.inside.encounter in
     let few = few-crafts e h.valid in
     let from : c.args.sender < length e.crafts = subst (λ (s : State). c.args.sender < length s.encounter.crafts) (sym c.self.view_is) c.requires.sender in
