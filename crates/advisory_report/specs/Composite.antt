@@ -75,6 +75,11 @@ composite_of cells = joint (list_any is_traffic cells.list) (advice_of Up cells.
 abbrev pub clear : Composite
 clear = record { traffic = false; up = None; down = None; corrective = false; crossing = false }
 
+-- What an aircraft shows after a commit with these cells, and before its first one.
+abbrev pub shown : Option Cells → Composite
+shown None = clear
+shown (Some cells) = composite_of cells
+
 abbrev pub up_word : Strength → List ℕ
 up_word Limit2000 = codes "UP-2000"
 up_word Limit1000 = codes "UP-1000"

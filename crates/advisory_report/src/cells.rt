@@ -32,7 +32,8 @@ fn sense_letter(sense: Sense) -> &'static str
     }
 }
 
-fn strength_digit(strength: Strength) -> &'static str
+/// The digit of a strength, from 1 for the weakest.
+pub fn strength_digit(strength: Strength) -> &'static str
     ensures text { result.now ≡ strength_digit strength }
     ensures short { length result.now ≤ 1 }
 {

@@ -1,8 +1,8 @@
 // Composite advisories.
-ghost use Rattle.std.specs.Prelude.{◌≡◌, ◌∷◌, [], ◌++◌, ◌||◌, ◌≤◌, length, List, Some};
+ghost use Rattle.std.specs.Prelude.{◌≡◌, ◌∷◌, [], ◌++◌, ◌||◌, ◌≤◌, length, List, Some, option_copied};
 ghost use Rattle.std.specs.List.{list_any};
 ghost use Rattle.acas_base.specs.declared.advisory.Cell.{Cell};
-ghost use Rattle.advisory_report.specs.Composite.{advice_of, clear, composite_of, down_word, is_traffic, joint, up_word, word_of};
+ghost use Rattle.advisory_report.specs.Composite.{advice_of, clear, composite_of, down_word, is_traffic, joint, shown, up_word, word_of};
 
 use acas_base::{Cell, Cells, Intent, Sense, Strength};
 
@@ -128,6 +128,16 @@ pub fn composite_of(cells: &Cells) -> Composite
     ensures { result ≡ composite_of cells.now }
 {
     composite_over(&cells.list)
+}
+
+/// What an aircraft shows after a commit with these cells, and before its first one.
+pub fn shown(cells: Option<&Cells>) -> Composite
+    ensures { result ≡ shown (option_copied cells.entry) }
+{
+    match cells {
+        Some(cells) => composite_of(cells),
+        None => Composite::clear(),
+    }
 }
 
 fn up_word(strength: Strength) -> &'static str

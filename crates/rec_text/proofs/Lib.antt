@@ -8,3 +8,4 @@ pub mod OneEntry
 pub mod Whole
 pub mod Ends
 pub mod Same
+pub mod EntryCounting

@@ -7,7 +7,6 @@ use Rattle.std.proofs.lemmas.List.Elements.{All-get_or, All-head, All-nil, All-p
 use Rattle.std.proofs.lemmas.Option.{get_or_from_slice_get, slice_get_within}
 use Rattle.std.proofs.Math.Seq.{take-suc}
 use Rattle.acas_base.specs.declared.entry.Entry.{Entry}
-use Rattle.rec_text.specs.Counting.{counted}
 use Rattle.rec_text.specs.Entries.{entry_line}
 
 -- The lines of the entries up to the next one.
@@ -36,14 +35,6 @@ flat-more f first n = ap (λ (k : ℕ). flat_map f (range_with_len first k)) (ad
     by_suc f first (suc n) =
         let next : (first + 1) + n ≡ first + suc n = omega arith in
         ap (λ xs. f first ++ xs) (by_suc f (first + 1) n ∙ ap (λ k. flat_map f (range_with_len (first + 1) n) ++ f k) next) ∙ sym (append_assoc (f first) (flat_map f (range_with_len (first + 1) n)) (f (first + suc n)))
-
--- ---- counting
-
-pub counted-few : (count : ℕ) (lines : List (List ℕ)) → count + length lines < 2 ^ 32 → counted count lines ≡ count + length lines
-counted-few count [] few = omega arith
-counted-few count (line ∷ rest) few =
-    let next : min (count + 1) (2 ^ 32 - 1) ≡ count + 1 = omega arith in
-    ap (λ (n : ℕ). counted n rest) next ∙ counted-few (count + 1) rest (omega arith) ∙ (omega arith)
 
 -- As many lines as numbers times the most for each.
 pub length-flat : {X : Type 0} (f : ℕ → List X) (most first n : ℕ) → ((k : ℕ) → length (f k) ≤ most) → length (flat_map f (range_with_len first n)) ≤ n * most

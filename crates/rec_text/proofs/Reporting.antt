@@ -8,7 +8,7 @@ use Rattle.acas_base.specs.Encounter.{IsEncounter, Parts}
 use Rattle.acas_base.specs.declared.advisory.Cells.{Cells}
 use Rattle.acas_base.specs.declared.craft.CraftSpec.{CraftSpec}
 use Rattle.acas_base.specs.declared.entry.Entry.{Entry}
-use Rattle.advisory_report.specs.Composite.{clear}
+use Rattle.advisory_report.specs.Composite.{clear, shown}
 use Rattle.advisory_report.specs.declared.composite.Composite.{Composite}
 use Rattle.air_journal.proofs.Adding.{no-cells}
 use Rattle.air_journal.proofs.Bounds.{few-crafts}
@@ -16,7 +16,7 @@ use Rattle.air_journal.specs.Airs.{address_of, air_of}
 use Rattle.air_journal.specs.Cells.{commit_cells}
 use Rattle.air_rules.specs.Rules.{IsLegal}
 use Rattle.rec_text.proofs.Putting.{length-flat}
-use Rattle.rec_text.specs.Report.{commit_report, report_in, report_lines, report_of, shown, shown_in}
+use Rattle.rec_text.specs.Report.{commit_report, report_in, report_lines, report_of, shown_in}
 
 -- Before its first commit an aircraft shows nothing.
 pub shown-first : (e : Parts) (journal : List Entry) → IsLegal (air_of e) journal → (own : ℕ) → shown_in journal 0 own ≡ clear
@@ -45,7 +45,7 @@ of-commit : (cycle address : ℕ) (before : Composite) (cells : Option Cells) �
 of-commit cycle address before None = omega arith
 of-commit cycle address before (Some cells) = one-at-most _
 
-pub few-lines : (e : Parts) (journal : List Entry) → IsEncounter e → length (report_lines e journal) < 2 ^ 32
+pub few-lines : (e : Parts) (journal : List Entry) → IsEncounter e → length (report_lines e journal) ≤ 9600
 unfolding report_lines
 few-lines e journal is =
     let n = length e.crafts in

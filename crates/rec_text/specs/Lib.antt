@@ -1,5 +1,5 @@
 pub mod Entries
 pub mod Report
-pub mod Counting
 pub mod Recording
+pub mod EntryCounts
 pub mod Fields

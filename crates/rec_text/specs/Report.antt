@@ -4,16 +4,11 @@ use Rattle.std.specs.List.{flat_map, range_with_len}
 use Rattle.acas_base.specs.Encounter.{Parts}
 use Rattle.acas_base.specs.declared.advisory.Cells.{Cells}
 use Rattle.acas_base.specs.declared.entry.Entry.{Entry}
-use Rattle.advisory_report.specs.Composite.{clear, composite_of}
+use Rattle.advisory_report.specs.Composite.{clear, composite_of, shown}
 use Rattle.advisory_report.specs.Report.{report_line}
 use Rattle.advisory_report.specs.declared.composite.Composite.{Composite}
 use Rattle.air_journal.specs.Airs.{address_of}
 use Rattle.air_journal.specs.Cells.{commit_cells}
-
--- What an aircraft shows after a commit, and before its first one.
-abbrev pub shown : Option Cells → Composite
-shown None = clear
-shown (Some cells) = composite_of cells
 
 -- The line for a commit with these cells, where the report has one.
 abbrev pub commit_report : ℕ → ℕ → Composite → Option Cells → List (List ℕ)

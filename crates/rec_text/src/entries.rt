@@ -12,7 +12,7 @@ ghost use Rattle.air_journal.specs.EntryRefs.{entry_of};
 ghost use Rattle.air_journal.specs.Ranges.{IsEntry};
 ghost use Rattle.rec_text.specs.Entries.{entry_line, entry_lines, outcome};
 
-use acas_base::{CRAFTS, Cells, Entry};
+use acas_base::{CRAFTS, Cells};
 use acas_lines::LineSink;
 use acas_text::Line;
 use advisory_report::{CELL_BYTES, add_cell};
@@ -82,8 +82,9 @@ fn add_take(line: &mut Line, own: u8, send: u32, copy: u8, good: bool, count: u8
     line.text("\n");
 }
 
-// Makes the line of an entry.
-fn set_line(line: &mut Line, entry: &EntryRef<'_>, count: u8)
+/// Makes the line of an entry that an encounter of so many aircraft can have, with its line feed, in place of what a line
+/// held.
+pub fn set_entry_line(line: &mut Line, entry: &EntryRef<'_>, count: u8)
     requires few { count ≤ CRAFTS }
     requires fits { IsEntry count (entry_of entry.now) }
     ensures { line.new ≡ entry_line count (entry_of entry.now) }
@@ -106,17 +107,6 @@ fn set_line(line: &mut Line, entry: &EntryRef<'_>, count: u8)
     }
 }
 
-/// The line of an entry that an encounter of so many aircraft can have, with its line feed.
-pub fn entry_line(entry: &Entry, count: u8) -> Line
-    requires few { count ≤ CRAFTS }
-    requires fits { IsEntry count entry.now }
-    ensures { result ≡ entry_line count entry.now }
-{
-    let mut line = Line::new();
-    set_line(&mut line, &EntryRef::of(entry), count);
-    line
-}
-
 /// Puts the lines of the entries, in the order in which they were made.
 pub(crate) fn put_entries<S: LineSink>(state: &AirState, sink: &mut S)
     ensures { S.took sink.old sink.new (entry_lines (length state.now.encounter.crafts) state.now.journal) }
@@ -125,7 +115,7 @@ pub(crate) fn put_entries<S: LineSink>(state: &AirState, sink: &mut S)
     let mut line = Line::new();
     for at in 0..state.count() {
         if let Some(entry) = state.entry_ref(at) {
-            set_line(&mut line, &entry, count);
+            set_entry_line(&mut line, &entry, count);
             sink.line(&line);
         }
     }

@@ -2,12 +2,14 @@
 //! the report of what the crews hear. It tells what the journal says, and judges nothing.
 #![tactic(auto)]
 
+mod counts;
 mod entries;
 mod laws;
 mod recording;
 mod report;
 
-pub use entries::entry_line;
+pub use counts::{EntryCounts, entry_counts};
+pub use entries::set_entry_line;
 pub use laws::{line_law, text_law};
 pub use recording::{Closing, Recording, write};
 pub use report::report_count;

@@ -1,13 +1,12 @@
 // The lines of the report.
 ghost use Rattle.std.specs.Prelude.{◌≡◌, ◌-◌, ◌<◌, ◌≤◌, ℕ, length, option_copied, slice_index_or};
 ghost use Rattle.acas_base.specs.declared.TheConstants.{CRAFTS};
-ghost use Rattle.advisory_report.specs.Composite.{clear};
+ghost use Rattle.advisory_report.specs.Composite.{clear, shown};
 ghost use Rattle.air_journal.specs.Cells.{commit_cells};
-ghost use Rattle.rec_text.specs.Report.{AreShown, commit_report, report_in, report_lines, shown};
+ghost use Rattle.rec_text.specs.Report.{AreShown, commit_report, report_in, report_lines};
 
 use acas_base::{Address, CRAFTS, Cells};
-use acas_lines::LineSink;
-use acas_text::Line;
+use acas_lines::{LineSink, Text, count_lines};
 use advisory_report::{Composite, composite_of, line};
 use air_journal::AirState;
 
@@ -63,26 +62,18 @@ pub(crate) fn put_report<S: LineSink>(state: &AirState, sink: &mut S)
     }
 }
 
-// How many lines were put, as far as 32 bits count them.
+// The report as a text of its own.
 #[derive(Drop)]
-struct LineCount {
-    lines: u32,
-}
+struct Report<'a>(&'a AirState);
 
-impl LineSink for LineCount {
-    ghost use Rattle.std.specs.Prelude.{◌≡◌};
-    ghost use Rattle.std.proofs.Common.{◌∙◌, ap, refl};
-    ghost use Rattle.rec_text.specs.Counting.{counted, counted-append};
+impl Text for Report<'_> {
+    ghost use Rattle.rec_text.specs.Report.{report_lines};
 
-    ghost took = { λ a b lines. b.lines ≡ counted a.lines lines };
+    ghost lines = { λ r. report_lines r.0.now.encounter r.0.now.journal };
 
-    fn line(&mut self, _: &Line) {
-        self.lines = self.lines.saturating_add(1);
+    fn put<S: LineSink>(&self, sink: &mut S) {
+        put_report(self.0, sink);
     }
-
-    ghost nothing = { λ _. refl };
-
-    ghost then = { λ a b c xs ys g h. h ∙ ap (λ n. counted n ys) g ∙ counted-append a.lines xs ys };
 }
 
 /// How many lines the report of a state has.
@@ -90,7 +81,5 @@ pub fn report_count(state: &AirState) -> u32
     ensures { result ≡ length (report_lines state.now.encounter state.now.journal) }
 {
     state.legal_law();
-    let mut count = LineCount { lines: 0 };
-    put_report(state, &mut count);
-    count.lines
+    count_lines(&Report(state))
 }

@@ -12,8 +12,8 @@ use Rattle.rec_text.specs.Entries.{entry_line}
 use Rattle.rec_text.proofs.entries.put_entries.Goals as goal
 use Rattle.rec_text.proofs.entries.put_entries.Goals.{in-Some, in_default}
 
-pub set_line-requires-clause-fits : goal.set_line-requires-clause-fits
-set_line-requires-clause-fits g c =
+pub set_entry_line-requires-clause-fits : goal.set_entry_line-requires-clause-fits
+set_entry_line-requires-clause-fits g c =
     let e = c.args.state.now.encounter in
     let journal = c.args.state.now.journal in
     let crafts = c.crafts.ensures.value ∙ ap (λ (e : Parts). e.crafts) c.enc.ensures in
@@ -34,7 +34,7 @@ loop-at-preserved g c =
     elim c.match-entry_ref.branch [
       | in-Some w ↦
           (let entry = entry_of w.in-Some.entry in
-          let put = g.met.S.LineSink.then _ _ _ (map (entry_line count) (take c.loop-at.at entries)) (entry_line count entry ∷ []) c.loop-at.invariant (rw w.set_line.ensures at w.line.ensures) in
+          let put = g.met.S.LineSink.then _ _ _ (map (entry_line count) (take c.loop-at.at entries)) (entry_line count entry ∷ []) c.loop-at.invariant (rw w.set_entry_line.ensures at w.line.ensures) in
           rw (w.sink-is, lines-more count entries c.loop-at.at entry (sym c.entry_ref.ensures ∙ ap (option_map entry_of) w.in-Some.is)) put)
       | in_default w ↦
           absurd (let some = slice_get-get_or entries c.loop-at.at (first entries within) within in let none = sym c.entry_ref.ensures ∙ ap (option_map entry_of) w.in_default.is in cc)

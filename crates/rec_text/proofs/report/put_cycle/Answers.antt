@@ -6,11 +6,11 @@ use Rattle.std.proofs.lemmas.List.{get_or-set_other, get_or-set_same}
 use Rattle.acas_base.specs.Encounter.{IsEncounter, Parts}
 use Rattle.acas_base.specs.declared.TheConstants.{CRAFTS}
 use Rattle.acas_base.specs.declared.craft.CraftSpec.{CraftSpec}
-use Rattle.advisory_report.specs.Composite.{clear}
+use Rattle.advisory_report.specs.Composite.{clear, shown}
 use Rattle.air_journal.proofs.Bounds.{few-crafts}
 use Rattle.rec_text.proofs.Putting.{flat-more}
 use Rattle.rec_text.proofs.Reporting.{address-is, report-is}
-use Rattle.rec_text.specs.Report.{report_of, shown, shown_in}
+use Rattle.rec_text.specs.Report.{report_of, shown_in}
 use Rattle.rec_text.proofs.report.put_cycle.Goals as goal
 
 pub loop-own-preserved : goal.loop-own-preserved
