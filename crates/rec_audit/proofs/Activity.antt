@@ -9,8 +9,8 @@ use Rattle.air_journal.specs.Airs.{air_of}
 use Rattle.air_rules.specs.Air.{is_active}
 use Rattle.craft_view.specs.Kept.{IsActive}
 use Rattle.rec_audit.proofs.Asked.{no-commit}
-use Rattle.rec_audit.specs.Asking.{Asks}
-use Rattle.rec_audit.specs.Keys.{of_commit}
+use Rattle.rec_audit.specs.Asking.{NothingAbout}
+use Rattle.rec_audit.specs.declared.keys.Key.TheVariants as keys
 
 pub to-active : (e : Parts) (own : ℕ) → is_active (air_of e) own ≡ true → IsActive e own
 to-active e own a = by_craft (slice_get e.crafts own) ∙ a
@@ -20,5 +20,5 @@ to-active e own a = by_craft (slice_get e.crafts own) ∙ a
     by_craft (Some craft) = refl
 
 -- An aircraft that isn't active makes no commits.
-pub idle-commit : (e : Parts) (K J : List Entry) (own cycle : ℕ) → (IsActive e own → ⊥) → Asks (air_of e) K J (of_commit own cycle) None
-idle-commit e K J own cycle never = no-commit (air_of e) K J own cycle (λ cells may. never (to-active e own may.active))
+pub idle-commit : (e : Parts) (K : List Entry) (own cycle : ℕ) → (IsActive e own → ⊥) → NothingAbout (air_of e) K (keys.Commit own cycle)
+idle-commit e K own cycle never = no-commit (air_of e) K own cycle (λ cells may. never (to-active e own may.active))

@@ -1,11 +1,13 @@
 -- What is allowed about a thing, and what the state of the air answers.
-use Rattle.std.proofs.Common.{◌≡◌, ◌≢◌, ℕ, ◌+◌, Bool, false, List, ◌∷◌, length, Option, Some, None, sym, refl, ap, ◌∙◌, subst, arith, inl, inr}
-use Rattle.std.specs.Prelude.{MatchOption}
+use Rattle.std.proofs.Common.{◌≡◌, ◌≢◌, ℕ, ◌+◌, Bool, true, false, List, ◌∷◌, length, Option, Some, sym, refl, ap, ◌∙◌, subst, arith, inl, inr}
+use Rattle.std.specs.Prelude.{MatchBool, reverse, slice_get}
 use Rattle.std.proofs.lemmas.Bool.{cases_lt}
+use Rattle.acas_base.specs.Encounter.{Parts}
 use Rattle.acas_base.specs.declared.advisory.Cells.{Cells}
 use Rattle.acas_base.specs.declared.advisory.ResMsg.{ResMsg}
 use Rattle.acas_base.specs.declared.entry.Entry.{Entry}
 use Rattle.acas_base.specs.declared.entry.Entry.TheVariants.{Commit, Send, Take}
+use Rattle.air_journal.specs.Airs.{air_of}
 use Rattle.air_journal.specs.Calls.{Commits, Committed, SentFirst, TookCopy}
 use Rattle.air_journal.specs.declared.answers.Commit.{Commit as CommitAnswer}
 use Rattle.air_journal.specs.declared.answers.Commit.TheVariants as answer
@@ -14,31 +16,37 @@ use Rattle.air_rules.specs.Due.{is_due}
 use Rattle.air_rules.specs.Journal.{commits}
 use Rattle.air_rules.specs.Owed.{IsFirstOwed, OwesNothing}
 use Rattle.air_rules.specs.Rules.{MayCommit, MaySend, MayTake}
-use Rattle.rec_audit.specs.Asking.{Added, Asks}
-use Rattle.rec_audit.specs.Keys.{of_commit, of_send, of_take}
+use Rattle.craft_view.specs.Kept.{Kept}
+use Rattle.rec_audit.proofs.Making.{newest-at}
+use Rattle.rec_audit.specs.Asking.{Added, Asks, NothingAbout}
+use Rattle.rec_audit.specs.Keys.{key}
+use Rattle.rec_audit.specs.declared.keys.Key.{Key}
+use Rattle.rec_audit.specs.declared.keys.Key.TheVariants as keys
+use Rattle.resume.proofs.Readying.{ready-same}
+use Rattle.resume.specs.Crews.{AreReady}
 
 -- ---- nothing is allowed
 
-pub no-commit : (air : Air) (K J : List Entry) (own cycle : ℕ) → ((cells : Cells) → MayCommit air K own cycle cells → ⊥) → Asks air K J (of_commit own cycle) None
-no-commit air K J own cycle never (Commit i c cells) e may =
+pub no-commit : (air : Air) (K : List Entry) (own cycle : ℕ) → ((cells : Cells) → MayCommit air K own cycle cells → ⊥) → NothingAbout air K (keys.Commit own cycle)
+no-commit air K own cycle never (Commit i c cells) e may =
     let a : i ≡ own = cc in
     let b : c ≡ cycle = cc in
     never cells (subst (λ k. MayCommit air K own k cells) b (subst (λ k. MayCommit air K k c cells) a may))
-no-commit air K J own cycle never (Send i t number word) e may = absurd cc
-no-commit air K J own cycle never (Take i send copy good) e may = absurd cc
+no-commit air K own cycle never (Send i t number word) e may = absurd cc
+no-commit air K own cycle never (Take i send copy good) e may = absurd cc
 
-pub no-send : (air : Air) (K J : List Entry) (own target : ℕ) → ((number word : ℕ) → MaySend air K own target number word → ⊥) → Asks air K J (of_send own target) None
-no-send air K J own target never (Commit i c cells) e may = absurd cc
-no-send air K J own target never (Send i t number word) e may =
+pub no-send : (air : Air) (K : List Entry) (own target : ℕ) → ((number word : ℕ) → MaySend air K own target number word → ⊥) → NothingAbout air K (keys.Send own target)
+no-send air K own target never (Commit i c cells) e may = absurd cc
+no-send air K own target never (Send i t number word) e may =
     let a : i ≡ own = cc in
     let b : t ≡ target = cc in
     never number word (subst (λ k. MaySend air K own k number word) b (subst (λ k. MaySend air K k t number word) a may))
-no-send air K J own target never (Take i send copy good) e may = absurd cc
+no-send air K own target never (Take i send copy good) e may = absurd cc
 
-pub no-take : (air : Air) (K J : List Entry) (own send copy : ℕ) → ((good : Bool) → MayTake air K own send copy good → ⊥) → Asks air K J (of_take own send copy) None
-no-take air K J own send copy never (Commit i c cells) e may = absurd cc
-no-take air K J own send copy never (Send i t number word) e may = absurd cc
-no-take air K J own send copy never (Take i s d good) e may =
+pub no-take : (air : Air) (K : List Entry) (own send copy : ℕ) → ((good : Bool) → MayTake air K own send copy good → ⊥) → NothingAbout air K (keys.Take own send copy)
+no-take air K own send copy never (Commit i c cells) e may = absurd cc
+no-take air K own send copy never (Send i t number word) e may = absurd cc
+no-take air K own send copy never (Take i s d good) e may =
     let a : i ≡ own = cc in
     let b : s ≡ send = cc in
     let f : d ≡ copy = cc in
@@ -56,15 +64,9 @@ hindered air K J own cycle cells (answer.Due send copy) not h may = let yes = h.
 hindered air K J own cycle cells (answer.Ahead craft count) not h may = let behind = h.0.first_behind in omega (arith, behind.fewer, may.not_ahead craft behind.active)
 hindered air K J own cycle cells (answer.Done position) not h may = absurd (not position refl)
 
--- What the newest entry of a journal is.
-abbrev pub IsNewest : List Entry → ℕ → Option Entry → Type 0
-IsNewest J position r = (entry : Entry) (earlier : List Entry) → J ≡ entry ∷ earlier → position ≡ length earlier → r ≡ Some entry
-
-pub commit-added : (air : Air) (K J : List Entry) (own cycle position : ℕ) (r : Option Entry) → Committed air K own J position → commits K own + 1 ≡ cycle → IsNewest J position r → Asks air K J (of_commit own cycle) r
-commit-added air K J own cycle position r c next newest =
-    let same : c.cycle ≡ cycle = c.allowed.cycle_is ∙ next in
-    let is = newest (Commit own c.cycle c.cells) K c.new_is c.position_is in
-    subst (Asks air K J (of_commit own cycle)) (sym is) (record { about_is = ap (of_commit own) same; allowed = c.allowed; new_is = c.new_is })
+pub commit-added : (air : Air) (K J : List Entry) (own cycle position : ℕ) → Committed air K own J position → commits K own + 1 ≡ cycle → Added air K J (keys.Commit own cycle)
+commit-added air K J own cycle position c next =
+    record { entry = Commit own c.cycle c.cells; about_is = ap (keys.Commit own) (c.allowed.cycle_is ∙ next); allowed = c.allowed; new_is = c.new_is }
 
 -- ---- sends
 
@@ -77,23 +79,40 @@ first-once air K own t u {one} {two} a b = elim (cases_lt t u) [
   ]
 ]
 
-pub send-added : (air : Air) (K J : List Entry) (own target position : ℕ) (newest r : Option Entry) → SentFirst air K own J position → IsNewest J position newest →
-    ((own to number word : ℕ) → newest ≡ Some (Send own to number word) → MatchOption r (to ≢ target) (λ sent. (to ≡ target) × (sent ≡ Send own to number word))) → Asks air K J (of_send own target) r
-send-added air K J own target position newest None s is sent =
-    let other = sent own s.target s.number s.word (is (Send own s.target s.number s.word) K s.new_is s.position_is) in
-    no-send air K J own target (λ number word may. other (first-once air K own s.target target s.allowed.first_owed may.first_owed))
-send-added air K J own target position newest (Some entry) s is sent =
-    let this = sent own s.target s.number s.word (is (Send own s.target s.number s.word) K s.new_is s.position_is) in
-    subst (Added air K J (of_send own target)) (sym this.1) (record { about_is = ap (of_send own) this.0; allowed = s.allowed; new_is = s.new_is })
+pub send-added : (air : Air) (K J : List Entry) (own target position : ℕ) → (s : SentFirst air K own J position) → s.target ≡ target → Added air K J (keys.Send own target)
+send-added air K J own target position s same = record { entry = Send own s.target s.number s.word; about_is = ap (keys.Send own) same; allowed = s.allowed; new_is = s.new_is }
 
-pub nothing-owed : (air : Air) (K J : List Entry) (own target : ℕ) → OwesNothing air K own → Asks air K J (of_send own target) None
-nothing-owed air K J own target none = no-send air K J own target (λ number word may. let never = none target in let some = may.first_owed.owes in absurd cc)
+-- The first owed message is another one's.
+pub send-other : (air : Air) (K J : List Entry) (own target position : ℕ) → (s : SentFirst air K own J position) → s.target ≢ target → NothingAbout air K (keys.Send own target)
+send-other air K J own target position s other = no-send air K own target (λ number word may. other (first-once air K own s.target target s.allowed.first_owed may.first_owed))
+
+-- Whether the first owed message is this one's.
+pub send-asked : (air : Air) (K J : List Entry) (own target position : ℕ) (o : Option Entry) (r : Bool) → SentFirst air K own J position → o ≡ slice_get (reverse J) position →
+    ((sender to number word : ℕ) → o ≡ Some (Send sender to number word) → MatchBool r (to ≡ target) (to ≢ target)) → Asks air K J (keys.Send own target) r
+send-asked air K J own target position o true s is told = send-added air K J own target position s (told own s.target s.number s.word (is ∙ newest-at K J (Send own s.target s.number s.word) position s.new_is s.position_is))
+send-asked air K J own target position o false s is told = send-other air K J own target position s (told own s.target s.number s.word (is ∙ newest-at K J (Send own s.target s.number s.word) position s.new_is s.position_is))
+
+pub nothing-owed : (air : Air) (K : List Entry) (own target : ℕ) → OwesNothing air K own → NothingAbout air K (keys.Send own target)
+nothing-owed air K own target none = no-send air K own target (λ number word may. let never = none target in let some = may.first_owed.owes in absurd cc)
 
 -- ---- takes
 
-pub take-added : (air : Air) (K J : List Entry) (own send copy position : ℕ) (good : Bool) (r : Option Entry) → TookCopy air K own send copy J position good → IsNewest J position r → Asks air K J (of_take own send copy) r
-take-added air K J own send copy position good r t newest =
-    subst (Asks air K J (of_take own send copy)) (sym (newest (Take own send copy good) K t.new_is t.position_is)) (record { about_is = refl; allowed = t.allowed; new_is = t.new_is })
+pub take-added : (air : Air) (K J : List Entry) (own send copy position : ℕ) (good : Bool) → TookCopy air K own send copy J position good → Added air K J (keys.Take own send copy)
+take-added air K J own send copy position good t = record { entry = Take own send copy good; about_is = refl; allowed = t.allowed; new_is = t.new_is }
 
-pub not-due : (air : Air) (K J : List Entry) (own send copy : ℕ) → is_due air K own send copy ≡ false → Asks air K J (of_take own send copy) None
-not-due air K J own send copy never = no-take air K J own send copy (λ good may. let yes = may.due in absurd cc)
+pub not-due : (air : Air) (K : List Entry) (own send copy : ℕ) → is_due air K own send copy ≡ false → NothingAbout air K (keys.Take own send copy)
+not-due air K own send copy never = no-take air K own send copy (λ good may. let yes = may.due in absurd cc)
+
+-- ---- the aircraft's commits
+
+abbrev pub IsNoCommit : Key → Type 0
+IsNoCommit about = (own cycle : ℕ) → about ≢ keys.Commit own cycle
+
+same-commits : (entry : Entry) (K : List Entry) (about : Key) → key entry ≡ about → IsNoCommit about → (own : ℕ) → commits (entry ∷ K) own ≡ commits K own
+same-commits (Commit i c cells) K about is other own = absurd (other i c (sym is))
+same-commits (Send i t number word) K about is other own = refl
+same-commits (Take i send copy good) K about is other own = refl
+
+-- Who was ready is so after an entry that is no commit.
+pub ready-still : (e : Parts) (K J : List Entry) (about : Key) (crafts : List (Option Kept)) → IsNoCommit about → Added (air_of e) K J about → AreReady e K crafts → AreReady e J crafts
+ready-still e K J about crafts other a ready = ready-same e K J crafts (λ own _. sym (ap (λ (l : List Entry). commits l own) a.new_is ∙ same-commits a.entry K about a.about_is other own)) ready

@@ -8,17 +8,19 @@ use Rattle.air_journal.specs.Airs.{air_of}
 use Rattle.air_rules.specs.Rules.{IsComplete}
 use Rattle.rec_audit.specs.Cursors.{Cursor, StoppedIn, Took}
 use Rattle.rec_audit.specs.Differing.{DifferAt}
-use Rattle.rec_audit.specs.Engine.{DiffersFrom, Replayed, StoppedAt}
+use Rattle.rec_audit.specs.Engine.{DiffersFrom, IsWrongIn, Replayed, StoppedAt}
 use Rattle.rec_audit.specs.Judging.{IsWrongAfter, IsWrongBeginning, incomplete, other_end, too_few, too_many, wrong_entry, wrong_line}
 use Rattle.rec_audit.specs.Opening.{first_entry}
 use Rattle.rec_audit.specs.Replays.{Replays}
+use Rattle.rec_audit.specs.declared.endings.Extent.{Extent}
+use Rattle.rec_audit.specs.declared.endings.Extent.TheVariants.{Whole, Beginning}
 use Rattle.rec_audit.specs.declared.fault.Fault.{Fault}
 use Rattle.rec_audit.specs.declared.verdict.Reason.TheVariants.{Spelling, Incomplete, Report}
 use Rattle.rec_text.specs.Recording.{closing_lines}
 
 -- ---- two lists with one front
 
-get-after : {X : Type 0} (xs ys : List X) → slice_get (xs ++ ys) (length xs) ≡ slice_get ys 0
+pub get-after : {X : Type 0} (xs ys : List X) → slice_get (xs ++ ys) (length xs) ≡ slice_get ys 0
 get-after [] ys = refl
 get-after (x ∷ xs) ys = get-after xs ys
 
@@ -87,3 +89,9 @@ too-many e count line before after later J next first r t is =
     let all : length J ≡ count = elim r.ends [ inl all ↦ all | inr none ↦ absurd (let more = sym none ∙ t.lines_are in cc) ] in
     let here : first_entry e + count ≡ line = omega (arith, first, is, r.taken_is) in
     subst (λ n. IsWrongBeginning e count before.left n Report) here (too_many (subst (λ l. Replays (air_of e) before.left J l) t.lines_are r.replays) all)
+
+-- ---- both
+
+pub wrong-in : (extent : Extent) (e : Parts) (count : ℕ) (before : Cursor) (fault : Fault) → before.taken + 1 ≡ first_entry e → StoppedAt (air_of e) before count fault → IsWrongIn extent e count before.left fault.line fault.reason
+wrong-in Whole e count before fault first s = wrong-entry e count before fault first s
+wrong-in Beginning e count before fault first s = wrong-line e count before fault first s

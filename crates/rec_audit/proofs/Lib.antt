@@ -1,9 +1,9 @@
 pub mod Forms
 pub mod Placed
 pub mod Whole
+pub mod Keyed
 pub mod FirstLine
 pub mod Comparing
-pub mod Ready
 pub mod Asked
 pub mod Making
 pub mod Ending

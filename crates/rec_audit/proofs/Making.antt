@@ -1,9 +1,9 @@
 -- One line, and the entry that is made for it.
-use Rattle.std.proofs.Common.{◌≡◌, ◌≢◌, ℕ, ◌+◌, Bool, true, false, not, eqb, List, [], ◌∷◌, ◌++◌, map, length, refl, sym, ap, ◌∙◌, subst, append_assoc, arith}
-use Rattle.std.specs.Prelude.{reverse}
+use Rattle.std.proofs.Common.{◌≡◌, ◌≢◌, ℕ, ◌+◌, Bool, true, false, not, eqb, List, [], ◌∷◌, ◌++◌, map, length, Some, refl, sym, ap, ◌∙◌, subst, append_assoc, arith}
+use Rattle.std.specs.Prelude.{MatchBool, reverse, slice_get}
 use Rattle.std.specs.Cmp.Lexicographic.{pointwise}
 use Rattle.std.proofs.lemmas.Bool.Decides.{Decides-eqb}
-use Rattle.std.proofs.lemmas.List.{map-append, reverse-append}
+use Rattle.std.proofs.lemmas.List.{length-reverse, map-append, reverse-append}
 use Rattle.std.proofs.lemmas.List.Elements.{All-head}
 use Rattle.std.proofs.lemmas.Slice.Eq.{slice_eq-Decides}
 use Rattle.acas_base.specs.Encounter.{IsEncounter, Parts}
@@ -13,12 +13,14 @@ use Rattle.air_journal.specs.Airs.{air_of}
 use Rattle.air_journal.specs.Ranges.{IsEntry}
 use Rattle.air_rules.specs.Air.{Air}
 use Rattle.air_rules.specs.Rules.{IsAllowed, IsLegal, empty, extended}
-use Rattle.rec_audit.specs.Asking.{Added}
+use Rattle.rec_audit.proofs.Ending.{get-after}
+use Rattle.rec_audit.specs.Asking.{Added, NothingAbout}
 use Rattle.rec_audit.specs.Cursors.{Cursor, Took}
 use Rattle.rec_audit.specs.Engine.{AddedLine}
 use Rattle.rec_audit.specs.Keys.{key}
-use Rattle.rec_audit.specs.Replays.{IsWrongLine, Replays, changed}
-use Rattle.rec_audit.specs.declared.verdict.Reason.TheVariants.{OtherContent}
+use Rattle.rec_audit.specs.Replays.{IsWrongLine, Replays, changed, forbidden}
+use Rattle.rec_audit.specs.declared.keys.Key.{Key}
+use Rattle.rec_audit.specs.declared.verdict.Reason.TheVariants.{NotAllowed, OtherContent}
 use Rattle.rec_text.specs.Entries.{entry_line, entry_lines}
 
 flipped : (b : Bool) → not b ≡ false → b ≡ true
@@ -43,12 +45,27 @@ other-slice xs ys r h f = λ e. let t = (slice_eq-Decides Decides-eqb xs ys r h)
 pub allowed-fits : (e : Parts) (K : List Entry) (entry : Entry) → IsEncounter e → IsLegal (air_of e) K → IsAllowed (air_of e) K entry → IsEntry (length e.crafts) entry
 allowed-fits e K entry is legal may = All-head (IsEntry (length e.crafts)) entry K (entries-fit e (entry ∷ K) is (extended legal may))
 
-pub other-entry : (air : Air) (K J : List Entry) (entry made : Entry) (line text : List ℕ) → IsEntry air.count entry → line ≡ entry_line air.count entry → Added air K J (key entry) made → text ≡ entry_line air.count made → text ≢ line →
-    IsWrongLine air K line OtherContent
-other-entry air K J entry made line text fits spelled a is ne = changed entry made fits spelled a.about_is a.allowed (λ same. ne (is ∙ ap (entry_line air.count) same ∙ sym spelled))
+-- What is allowed about the same thing has another line.
+pub other-entry : (air : Air) (K J : List Entry) (about : Key) (entry : Entry) (line : List ℕ) → IsEntry air.count entry → line ≡ entry_line air.count entry → key entry ≡ about → (a : Added air K J about) →
+    line ≢ entry_line air.count a.entry → IsWrongLine air K line OtherContent
+other-entry air K J about entry line fits spelled told a other = changed entry a.entry fits spelled (a.about_is ∙ sym told) a.allowed (λ same. other (spelled ∙ ap (entry_line air.count) (sym same)))
 
-pub same-entry : (air : Air) (K J : List Entry) (entry made : Entry) (line text : List ℕ) → Added air K J (key entry) made → text ≡ entry_line air.count made → text ≡ line → AddedLine air K J line
-same-entry air K J entry made line text a is same = record { entry = made; line_is = sym same ∙ is; allowed = a.allowed; new_is = a.new_is }
+-- Nothing about the same thing is allowed.
+pub no-entry : (air : Air) (K : List Entry) (about : Key) (entry : Entry) (line : List ℕ) → IsEntry air.count entry → line ≡ entry_line air.count entry → key entry ≡ about → NothingAbout air K about → IsWrongLine air K line NotAllowed
+no-entry air K about entry line fits spelled told none = forbidden entry fits spelled (λ other same may. none other (same ∙ told) may)
+
+pub same-entry : (air : Air) (K J : List Entry) (about : Key) (line : List ℕ) → (a : Added air K J about) → line ≡ entry_line air.count a.entry → AddedLine air K J line
+same-entry air K J about line a same = record { entry = a.entry; line_is = same; allowed = a.allowed; new_is = a.new_is }
+
+-- The newest entry stands at the end.
+pub newest-at : (K J : List Entry) (entry : Entry) (at : ℕ) → J ≡ entry ∷ K → at ≡ length K → slice_get (reverse J) at ≡ Some entry
+newest-at K J entry at is here =
+    ap (λ (l : List Entry). slice_get (reverse l) at) is ∙ ap (λ (l : List Entry). slice_get l at) (reverse-append (entry ∷ []) K) ∙ ap (slice_get (reverse K ++ entry ∷ [])) (here ∙ sym (length-reverse K)) ∙ get-after (reverse K) (entry ∷ [])
+
+-- What `==` says of a line that was made.
+pub made-same : (text line wanted : List ℕ) (r : Bool) → r ≡ pointwise eqb text line → text ≡ wanted → MatchBool r (line ≡ wanted) (line ≢ wanted)
+made-same text line wanted true h is = sym (same-slice text line true h refl) ∙ is
+made-same text line wanted false h is = λ e. other-slice text line false h refl (is ∙ sym e)
 
 -- ---- from line to line
 

@@ -9,8 +9,12 @@ use Rattle.acas_lines.specs.Lines.{joined}
 use Rattle.air_journal.specs.States.{State}
 use Rattle.enc_file.specs.Canonical.{canonical_lines}
 use Rattle.rec_audit.specs.Cursors.{Cursor}
-use Rattle.rec_audit.specs.Engine.{IsOpened, IsPartReplayed, IsReplayed, ReplayedAll, ReplayedFirst}
-use Rattle.rec_audit.specs.Judging.{IsBeginningOf, IsLoaded, IsPartLoaded, IsRecordingOf, after_opening, after_opening_of_part}
+use Rattle.rec_audit.specs.Engine.{IsLoadedAs, IsOpened, IsReplayed, ReplayedAll, ReplayedFirst}
+use Rattle.rec_audit.specs.Judging.{IsBeginningOf, IsRecordingOf, after_opening, after_opening_of_part, at_opening, at_opening_of_part}
+use Rattle.rec_audit.specs.Opening.{IsWrongOpening}
+use Rattle.rec_audit.specs.declared.endings.Extent.{Extent}
+use Rattle.rec_audit.specs.declared.endings.Extent.TheVariants.{Whole, Beginning}
+use Rattle.rec_audit.specs.declared.verdict.Reason.{Reason}
 use Rattle.rec_audit.specs.declared.verdict.Loaded.{Loaded}
 use Rattle.rec_audit.specs.declared.verdict.Loaded.TheVariants as loaded
 use Rattle.rec_text.specs.Entries.{entry_lines}
@@ -31,11 +35,6 @@ recorded bytes e count after state o same r = subst (λ f. IsRecordingOf bytes (
   bytes_are = sym (joined-cut bytes) ∙ ap joined (recorded-lines e count state.journal (lines_of bytes) after.left o.opens.begins r);
 })
 
--- What was opened and replayed is loaded.
-pub replayed-loaded : (bytes : List ℕ) (e : Parts) (count : ℕ) (after : Cursor) (r : Loaded) → IsOpened (lines_of bytes) e count after → IsReplayed e count after.left r → IsLoaded bytes r
-replayed-loaded bytes e count after (loaded.Legal state) o h = recorded bytes e count after state o h.0 h.1
-replayed-loaded bytes e count after (loaded.Wrong line reason) o h = after_opening o.opens h
-
 -- ---- beginnings
 
 pub first-recorded : (bytes : List ℕ) (e : Parts) (count : ℕ) (after : Cursor) (state : State) → IsOpened (lines_of bytes) e count after → state.encounter ≡ e → ReplayedFirst e after.left count state.journal → IsBeginningOf bytes state
@@ -49,6 +48,16 @@ first-recorded bytes e count after state o same r = subst (λ f. IsBeginningOf b
   bytes_are = sym (joined-cut bytes) ∙ ap joined (o.opens.begins ∙ ap (λ t. head_line ∷ (canonical_lines e ++ journal_line count ∷ t)) (r.replays.begins ∙ append-nil (entry_lines (length e.crafts) state.journal)));
 })
 
-pub part-loaded : (bytes : List ℕ) (e : Parts) (count : ℕ) (after : Cursor) (r : Loaded) → IsOpened (lines_of bytes) e count after → IsPartReplayed e count after.left r → IsPartLoaded bytes r
-part-loaded bytes e count after (loaded.Legal state) o h = first-recorded bytes e count after state o h.0 h.1
-part-loaded bytes e count after (loaded.Wrong line reason) o h = after_opening_of_part o.opens h
+-- ---- both
+
+-- What was opened and replayed is loaded.
+pub replayed-loaded : (extent : Extent) (bytes : List ℕ) (e : Parts) (count : ℕ) (after : Cursor) (r : Loaded) → IsOpened (lines_of bytes) e count after → IsReplayed extent e count after.left r → IsLoadedAs extent bytes r
+replayed-loaded Whole bytes e count after (loaded.Legal state) o h = recorded bytes e count after state o h.0 h.1
+replayed-loaded Whole bytes e count after (loaded.Wrong line reason) o h = after_opening o.opens h
+replayed-loaded Beginning bytes e count after (loaded.Legal state) o h = first-recorded bytes e count after state o h.0 h.1
+replayed-loaded Beginning bytes e count after (loaded.Wrong line reason) o h = after_opening_of_part o.opens h
+
+-- What is wrong before the entries is wrong with both.
+pub wrong-opening : (extent : Extent) (bytes : List ℕ) (line : ℕ) (reason : Reason) → IsWrongOpening (lines_of bytes) line reason → IsLoadedAs extent bytes (loaded.Wrong line reason)
+wrong-opening Whole bytes line reason h = at_opening h
+wrong-opening Beginning bytes line reason h = at_opening_of_part h

@@ -11,11 +11,14 @@ use Rattle.enc_file.specs.Reading.{Says}
 use Rattle.flight.specs.Inside.{IsInside}
 use Rattle.rec_audit.specs.Cursors.{Cursor, Took}
 use Rattle.rec_audit.specs.Differing.{DifferAt}
-use Rattle.rec_audit.specs.Judging.{IsWrongAfter, IsWrongBeginning}
+use Rattle.rec_audit.specs.Judging.{IsLoaded, IsPartLoaded, IsWrongAfter, IsWrongBeginning}
 use Rattle.rec_audit.specs.Opening.{IsCut, Opens, first_entry}
 use Rattle.rec_audit.specs.Replays.{Replays, StopsAt}
+use Rattle.rec_audit.specs.declared.endings.Extent.{Extent}
+use Rattle.rec_audit.specs.declared.endings.Extent.TheVariants.{Whole, Beginning}
 use Rattle.rec_audit.specs.declared.verdict.Loaded.{Loaded}
 use Rattle.rec_audit.specs.declared.verdict.Loaded.TheVariants as loaded
+use Rattle.rec_audit.specs.declared.verdict.Reason.{Reason}
 use Rattle.rec_audit.specs.declared.fault.Fault.{Fault}
 use Rattle.rec_text.specs.Entries.{entry_line}
 use Rattle.rec_text.specs.Recording.{closing_lines}
@@ -52,6 +55,15 @@ pub record ReplayedFirst (e : Parts) (lines : List (List ℕ)) (count : ℕ) (jo
   pub replays : Replays (air_of e) lines journal []
   pub within : length journal ≤ count
 
+-- What the entries of a whole recording or of a beginning give.
+abbrev pub ReplayedTo : Extent → Parts → List (List ℕ) → ℕ → List Entry → Type 0
+ReplayedTo Whole e lines count journal = ReplayedAll e lines count journal
+ReplayedTo Beginning e lines count journal = ReplayedFirst e lines count journal
+
+abbrev pub IsWrongIn : Extent → Parts → ℕ → List (List ℕ) → ℕ → Reason → Type 0
+IsWrongIn Whole e count lines line reason = IsWrongAfter e count lines line reason
+IsWrongIn Beginning e count lines line reason = IsWrongBeginning e count lines line reason
+
 -- What comes first differs from these lines at the line of this number.
 pub record DiffersFrom (before : Cursor) (line : ℕ) (lines : List (List ℕ)) : Type 0 where
   pub same : ℕ
@@ -78,11 +90,11 @@ pub record IsOpened (lines : List (List ℕ)) (e : Parts) (count : ℕ) (after :
   pub first : after.taken + 1 ≡ first_entry e
 
 -- What the entries and the end of a recording give.
-abbrev pub IsReplayed : Parts → ℕ → List (List ℕ) → Loaded → Type 0
-IsReplayed e count lines (loaded.Legal state) = (state.encounter ≡ e) × ReplayedAll e lines count state.journal
-IsReplayed e count lines (loaded.Wrong line reason) = IsWrongAfter e count lines line reason
+abbrev pub IsReplayed : Extent → Parts → ℕ → List (List ℕ) → Loaded → Type 0
+IsReplayed extent e count lines (loaded.Legal state) = (state.encounter ≡ e) × ReplayedTo extent e lines count state.journal
+IsReplayed extent e count lines (loaded.Wrong line reason) = IsWrongIn extent e count lines line reason
 
--- What the entries of a beginning give.
-abbrev pub IsPartReplayed : Parts → ℕ → List (List ℕ) → Loaded → Type 0
-IsPartReplayed e count lines (loaded.Legal state) = (state.encounter ≡ e) × ReplayedFirst e lines count state.journal
-IsPartReplayed e count lines (loaded.Wrong line reason) = IsWrongBeginning e count lines line reason
+-- What loading so much of a recording gives.
+abbrev pub IsLoadedAs : Extent → List ℕ → Loaded → Type 0
+IsLoadedAs Whole bytes found = IsLoaded bytes found
+IsLoadedAs Beginning bytes found = IsPartLoaded bytes found

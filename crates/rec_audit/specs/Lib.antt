@@ -7,7 +7,6 @@ pub mod Opening
 pub mod Differing
 pub mod Judging
 pub mod Cursors
-pub mod Crews
 pub mod Asking
 pub mod Engine
 pub mod Compared

@@ -1,7 +1,9 @@
--- What it means to read an entry.
-use Rattle.std.specs.Prelude.{◌≡◌, ◌≢◌, ℕ, List, Option, MatchOption}
+-- What it means to read an entry, or its key.
+use Rattle.std.specs.Prelude.{◌≡◌, ◌≢◌, ◌++◌, ℕ, List, Option, MatchOption}
 use Rattle.acas_base.specs.declared.entry.Entry.{Entry}
 use Rattle.air_journal.specs.Ranges.{IsEntry}
+use Rattle.rec_audit.specs.Keys.{IsKey, key, key_fields}
+use Rattle.rec_audit.specs.declared.keys.Key.{Key}
 use Rattle.rec_text.specs.Entries.{entry_fields, entry_line}
 
 -- The entry that has these fields, or no entry has them.
@@ -13,3 +15,14 @@ ReadsFields count fields result =
 abbrev pub ReadsLine : ℕ → List ℕ → Option Entry → Type 0
 ReadsLine count line result =
     MatchOption result ((entry : Entry) → IsEntry count entry → entry_line count entry ≢ line) (λ entry. IsEntry count entry × (line ≡ entry_line count entry))
+
+-- The key that these fields begin with, and the fields behind it; or no entry has these fields.
+abbrev pub ReadsKeyFields : ℕ → List (List ℕ) → List (List ℕ) → Option Key → Type 0
+ReadsKeyFields count fields rest result =
+    MatchOption result ((entry : Entry) → IsEntry count entry → entry_fields count entry ≢ fields) (λ about. IsKey count about × (fields ≡ key_fields about ++ rest))
+
+-- The key of each entry that has this line; or no entry has it.
+abbrev pub ReadsKey : ℕ → List ℕ → Option Key → Type 0
+ReadsKey count line result =
+    MatchOption result ((entry : Entry) → IsEntry count entry → entry_line count entry ≢ line)
+    (λ about. IsKey count about × ((entry : Entry) → IsEntry count entry → entry_line count entry ≡ line → key entry ≡ about))

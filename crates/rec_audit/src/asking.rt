@@ -1,91 +1,104 @@
 // The entries that the state of the air allows.
-ghost use Rattle.std.specs.Prelude.{◌≡◌, ◌≢◌, ℕ, ◌<◌, ◌∷◌, MatchOption, IfSome, List, Some, length};
-ghost use Rattle.acas_base.specs.Ranges.{IsCycle};
-ghost use Rattle.acas_base.specs.declared.TheConstants.{CRAFTS};
+ghost use Rattle.std.specs.Prelude.{◌≡◌, ◌≢◌, ℕ, ◌<◌, IsTrue, MatchBool, Some, length, option_map};
 ghost use Rattle.acas_base.specs.declared.entry.Entry.{Entry};
 ghost use Rattle.air_journal.specs.Airs.{air_of};
-ghost use Rattle.air_journal.specs.Ranges.{IsEntry};
+ghost use Rattle.air_journal.specs.EntryRefs.{entry_of};
 ghost use Rattle.rec_audit.specs.Asking.{Asks};
-ghost use Rattle.rec_audit.specs.Crews.{AreReady};
-ghost use Rattle.rec_audit.specs.Keys.{key, of_commit, of_send, of_take};
+ghost use Rattle.rec_audit.specs.Keys.{IsKey};
+ghost use Rattle.rec_audit.specs.declared.keys.Key.{Key};
+ghost use Rattle.resume.specs.Crews.{AreReady};
 
-use crate::crew::{Crew, Sky};
-use acas_base::Entry;
-use air_journal::{AirState, Commit, Sent, TookThis};
+use crate::keys::Key;
+use crate::sky::Sky;
+use air_journal::{AirState, Commit, EntryRef, Sent, TookThis};
 use craft_view::is_active;
+use resume::Crew;
 
-// The newest entry of a journal, at this position.
-fn newest(state: &AirState, position: u32) -> Option<Entry>
-    ensures { (entry : Entry) (earlier : List Entry) → state.now.journal ≡ entry ∷ earlier → position ≡ length earlier → result ≡ Some entry }
-{
-    state.entry(position)
-}
-
-/// Commits an aircraft's cycle, where that is allowed.
-pub(crate) fn commit_like(
+// Commits an aircraft's cycle, where that is allowed.
+fn commit_like(
     state: &mut AirState,
     crew: &mut Crew,
     sky: &mut Sky<'_>,
     own: u8,
     cycle: u16,
-) -> Option<Entry>
+) -> bool
     requires same { sky.old.encounter ≡ state.old.encounter }
-    requires own { own < CRAFTS }
-    requires cycle { IsCycle cycle }
+    requires key { IsKey (length state.old.encounter.crafts) (Key.Commit own cycle) }
     requires crew { AreReady state.old.encounter state.old.journal crew.old.crafts }
     ensures encounter { state.new.encounter ≡ state.old.encounter }
     ensures sky { sky.new.encounter ≡ state.old.encounter }
-    ensures asks { Asks (air_of state.old.encounter) state.old.journal state.new.journal (of_commit own cycle) result }
-    ensures crew { IfSome result (λ _. AreReady state.old.encounter state.new.journal crew.new.crafts) }
+    ensures asks { Asks (air_of state.old.encounter) state.old.journal state.new.journal (Key.Commit own cycle) result }
+    ensures crew { IsTrue result → AreReady state.old.encounter state.new.journal crew.new.crafts }
 {
+    state.legal_law();
+    if !is_active(state.enc(), own) {
+        return false;
+    }
     if state.commits(own) != cycle - 1 {
-        return None;
+        return false;
     }
     if cycle > state.enc().cycles() {
-        return None;
+        return false;
     }
     sky.move_to(cycle);
-    let picture = crew.look(own, sky.places())?;
-    match state.commit(own, &picture) {
-        Commit::Done(position) => newest(state, position),
-        _ => None,
+    crew.look(own, sky.places());
+    match state.commit(own, &crew.picture) {
+        Commit::Done(_) => true,
+        _ => false,
     }
 }
 
-// The entry, where it is a send to this aircraft.
-fn sent_to(entry: Option<Entry>, to: u8) -> Option<Entry>
-    ensures { (own target number word : ℕ) → entry ≡ Some (Entry.Send own target number word) → MatchOption result (target ≢ to) (λ sent. (target ≡ to) × (sent ≡ Entry.Send own target number word)) }
+// Whether a send is to this aircraft.
+fn is_to(sent: Option<EntryRef<'_>>, to: u8) -> bool
+    ensures { (own target number word : ℕ) → option_map entry_of sent.entry ≡ Some (Entry.Send own target number word) → MatchBool result (target ≡ to) (target ≢ to) }
 {
-    match entry {
-        Some(Entry::Send { target, .. }) if target == to => entry,
-        _ => None,
+    match sent {
+        Some(EntryRef::Send { target, .. }) => target == to,
+        _ => false,
     }
 }
 
-/// Sends a message from one aircraft to another one, where that is allowed.
-pub(crate) fn send_like(state: &mut AirState, own: u8, target: u8) -> Option<Entry>
+// Sends a message from one aircraft to another one, where that is allowed.
+fn send_like(state: &mut AirState, own: u8, target: u8) -> bool
     ensures encounter { state.new.encounter ≡ state.old.encounter }
-    ensures asks { Asks (air_of state.old.encounter) state.old.journal state.new.journal (of_send own target) result }
+    ensures asks { Asks (air_of state.old.encounter) state.old.journal state.new.journal (Key.Send own target) result }
 {
     if !is_active(state.enc(), own) {
-        return None;
+        return false;
     }
     match state.send(own) {
-        Sent::Done(position) => sent_to(newest(state, position), target),
-        Sent::Nothing => None,
+        Sent::Done(position) => is_to(state.entry_ref(position), target),
+        Sent::Nothing => false,
     }
 }
 
-/// Takes a copy, where that is allowed.
-pub(crate) fn take_like(state: &mut AirState, own: u8, send: u32, copy: u8) -> Option<Entry>
+// Takes a copy, where that is allowed.
+fn take_like(state: &mut AirState, own: u8, send: u32, copy: u8) -> bool
     ensures encounter { state.new.encounter ≡ state.old.encounter }
-    ensures asks { Asks (air_of state.old.encounter) state.old.journal state.new.journal (of_take own send copy) result }
+    ensures asks { Asks (air_of state.old.encounter) state.old.journal state.new.journal (Key.Take own send copy) result }
 {
     if !is_active(state.enc(), own) {
-        return None;
+        return false;
     }
     match state.take_this(own, send, copy) {
-        TookThis::Done(position, _) => newest(state, position),
-        TookThis::NotDue => None,
+        TookThis::Done(_, _) => true,
+        TookThis::NotDue => false,
+    }
+}
+
+/// Adds the entry that is allowed about a thing, where one is.
+pub(crate) fn ask(state: &mut AirState, crew: &mut Crew, sky: &mut Sky<'_>, about: Key) -> bool
+    requires same { sky.old.encounter ≡ state.old.encounter }
+    requires key { IsKey (length state.old.encounter.crafts) about }
+    requires crew { AreReady state.old.encounter state.old.journal crew.old.crafts }
+    ensures encounter { state.new.encounter ≡ state.old.encounter }
+    ensures sky { sky.new.encounter ≡ state.old.encounter }
+    ensures asks { Asks (air_of state.old.encounter) state.old.journal state.new.journal about result }
+    ensures crew { IsTrue result → AreReady state.old.encounter state.new.journal crew.new.crafts }
+{
+    match about {
+        Key::Commit { own, cycle } => commit_like(state, crew, sky, own, cycle),
+        Key::Send { own, target } => send_like(state, own, target),
+        Key::Take { own, send, copy } => take_like(state, own, send, copy),
     }
 }

@@ -1,20 +1,19 @@
 // What follows the number of entries.
-ghost use Rattle.std.specs.Prelude.{◌≡◌, ◌+◌, ◌≤◌, [], IfSome, MatchOption, MatchResult, length};
-ghost use Rattle.air_journal.specs.Airs.{air_of};
-ghost use Rattle.rec_audit.specs.Crews.{AreReady};
-ghost use Rattle.rec_audit.specs.Engine.{DiffersFrom, ReplayedAll, ReplayedFirst};
-ghost use Rattle.rec_audit.specs.Judging.{IsWrongAfter, IsWrongBeginning};
+ghost use Rattle.std.specs.Prelude.{◌≡◌, ◌+◌, [], MatchOption, MatchResult};
+ghost use Rattle.rec_audit.specs.Engine.{DiffersFrom, IsWrongIn, ReplayedTo};
 ghost use Rattle.rec_audit.specs.Opening.{first_entry};
 ghost use Rattle.rec_text.specs.Recording.{closing_lines};
+ghost use Rattle.resume.specs.Crews.{AreReady};
 
 use crate::compare::take_text;
-use crate::crew::{Crew, Sky};
 use crate::fault::Fault;
 use crate::lines::TextLines;
 use crate::replay::replay;
+use crate::sky::Sky;
 use crate::verdict::Reason;
 use air_journal::AirState;
 use rec_text::Closing;
+use resume::Crew;
 
 // The number of the first line that isn't the one of the report and the close, where there is one.
 fn other_end(state: &AirState, lines: &mut TextLines<'_>) -> Option<u32>
@@ -33,51 +32,18 @@ fn other_end(state: &AirState, lines: &mut TextLines<'_>) -> Option<u32>
     }
 }
 
-/// Replays the entries of a whole recording, and compares what follows them. The journal has to be empty. It takes no memory.
-pub(crate) fn replay_whole(
-    state: &mut AirState,
-    crew: &mut Crew,
-    sky: &mut Sky<'_>,
-    lines: &mut TextLines<'_>,
-    count: u32,
-) -> Result<(), Fault>
-    requires same { sky.old.encounter ≡ state.old.encounter }
-    requires empty { state.old.journal ≡ [] }
-    requires crew { AreReady state.old.encounter [] crew.old.crafts }
-    requires first { lines.old.taken + 1 ≡ first_entry state.old.encounter }
-    ensures encounter { state.new.encounter ≡ state.old.encounter }
-    ensures read { MatchResult result
-        (λ _. ReplayedAll state.old.encounter lines.old.left count state.new.journal)
-        (λ fault. IsWrongAfter state.old.encounter count lines.old.left fault.line fault.reason) }
-{
-    if let Err(fault) = replay(state, crew, sky, lines, count) {
-        return Err(fault);
-    }
-    let line = lines.number();
-    if state.count() < count {
-        return Err(Fault {
-            line,
-            reason: Reason::Spelling,
-        });
-    }
-    if !state.complete() {
-        return Err(Fault {
-            line,
-            reason: Reason::Incomplete,
-        });
-    }
-    match other_end(state, lines) {
-        Some(line) => Err(Fault {
-            line,
-            reason: Reason::Report,
-        }),
-        None => Ok(()),
-    }
+/// How much of a recording is given.
+#[derive(Clone, Copy, Debug, PartialEq, Eq)]
+pub(crate) enum Extent {
+    /// All of it.
+    Whole,
+    /// It may end after the number of entries or after any entry.
+    Beginning,
 }
 
-/// Replays the entries of a beginning of a recording, which may end after any of them. The journal has to be empty. It takes
-/// no memory.
-pub(crate) fn replay_part(
+/// Replays the entries of a recording, and compares what follows them. The journal has to be empty. It takes no memory.
+pub(crate) fn replay_to_end(
+    extent: Extent,
     state: &mut AirState,
     crew: &mut Crew,
     sky: &mut Sky<'_>,
@@ -90,18 +56,41 @@ pub(crate) fn replay_part(
     requires first { lines.old.taken + 1 ≡ first_entry state.old.encounter }
     ensures encounter { state.new.encounter ≡ state.old.encounter }
     ensures read { MatchResult result
-        (λ _. ReplayedFirst state.old.encounter lines.old.left count state.new.journal)
-        (λ fault. IsWrongBeginning state.old.encounter count lines.old.left fault.line fault.reason) }
+        (λ _. ReplayedTo extent state.old.encounter lines.old.left count state.new.journal)
+        (λ fault. IsWrongIn extent state.old.encounter count lines.old.left fault.line fault.reason) }
 {
     if let Err(fault) = replay(state, crew, sky, lines, count) {
         return Err(fault);
     }
     let line = lines.number();
-    match lines.next() {
-        Some(_) => Err(Fault {
-            line,
-            reason: Reason::Report,
-        }),
-        None => Ok(()),
+    match extent {
+        Extent::Beginning => match lines.next() {
+            Some(_) => Err(Fault {
+                line,
+                reason: Reason::Report,
+            }),
+            None => Ok(()),
+        },
+        Extent::Whole => {
+            if state.count() < count {
+                return Err(Fault {
+                    line,
+                    reason: Reason::Spelling,
+                });
+            }
+            if !state.complete() {
+                return Err(Fault {
+                    line,
+                    reason: Reason::Incomplete,
+                });
+            }
+            match other_end(state, lines) {
+                Some(line) => Err(Fault {
+                    line,
+                    reason: Reason::Report,
+                }),
+                None => Ok(()),
+            }
+        }
     }
 }

@@ -1,13 +1,16 @@
 // Entries by their lines.
-ghost use Rattle.std.specs.Prelude.{◌≡◌, ◌≢◌, ◌∷◌, ◌<◌, ◌≤◌, IsTrue, MatchOption, codes, map, take};
+ghost use Rattle.std.specs.Prelude.{◌≡◌, ◌≢◌, ◌++◌, ◌<◌, ◌≤◌, IsTrue, MatchOption, map, take};
 ghost use Rattle.acas_base.specs.declared.TheConstants.{CRAFTS};
 ghost use Rattle.acas_base.specs.declared.advisory.Cell.{Cell};
 ghost use Rattle.acas_base.specs.declared.advisory.Cells.{Cells};
 ghost use Rattle.advisory_report.specs.Cells.{cell_text};
 ghost use Rattle.air_journal.specs.Ranges.{AreCells, IsCell};
+ghost use Rattle.rec_audit.specs.Keys.{IsKey, key_fields};
 ghost use Rattle.rec_audit.specs.Reading.{ReadsFields, ReadsLine};
+ghost use Rattle.rec_audit.specs.declared.keys.Key.{Key};
 
 use crate::fields::Fields;
+use crate::keys::{Key, key_of};
 use crate::values::{before_flag, cell_of, outcome_of};
 use acas_base::{CRAFTS, Cell, Cells, Entry};
 use acas_text::parse_hex;
@@ -15,39 +18,37 @@ use acas_text::parse_hex;
 // How many digits the word of a message has.
 const WORD_DIGITS: usize = 14;
 
-fn take_of(fields: &mut Fields<'_>, count: u8) -> Option<Entry>
-    requires { (0 < count) × (count ≤ CRAFTS) }
-    ensures { ReadsFields count (codes "t" ∷ fields.old) result }
+// The take about a copy, of which the last field is to come.
+fn take_of(fields: &mut Fields<'_>, count: u8, own: u8, send: u32, copy: u8) -> Option<Entry>
+    requires key { IsKey count (Key.Take own send copy) }
+    ensures { ReadsFields count (key_fields (Key.Take own send copy) ++ fields.old) result }
 {
-    let own = fields.number(0, u32::from(count) - 1)?;
-    let send = fields.number(0, u32::MAX)?;
-    let copy = fields.number(0, 2)?;
     let good = outcome_of(fields.next()?)?;
     if !fields.is_done() {
         return None;
     }
     Some(Entry::Take {
-        own: own as u8,
+        own,
         send,
-        copy: copy as u8,
+        copy,
         good,
     })
 }
 
-fn send_of(fields: &mut Fields<'_>, count: u8) -> Option<Entry>
-    requires { (0 < count) × (count ≤ CRAFTS) }
-    ensures { ReadsFields count (codes "s" ∷ fields.old) result }
+// The send of a pair, of which the number and the word are to come.
+fn send_of(fields: &mut Fields<'_>, count: u8, own: u8, target: u8) -> Option<Entry>
+    requires key { IsKey count (Key.Send own target) }
+    requires count { count ≤ CRAFTS }
+    ensures { ReadsFields count (key_fields (Key.Send own target) ++ fields.old) result }
 {
-    let own = fields.number(0, u32::from(count) - 1)?;
-    let target = fields.number(0, u32::from(count) - 1)?;
     let number = fields.number(1, 600)?;
     let word = parse_hex(fields.next()?, WORD_DIGITS)?;
     if !fields.is_done() {
         return None;
     }
     Some(Entry::Send {
-        own: own as u8,
-        target: target as u8,
+        own,
+        target,
         number: number as u16,
         word,
     })
@@ -83,12 +84,12 @@ fn cells_of(fields: &mut Fields<'_>, count: u8, own: u8) -> Option<Cells>
     Some(Cells { list })
 }
 
-fn commit_of(fields: &mut Fields<'_>, count: u8) -> Option<Entry>
-    requires { (0 < count) × (count ≤ CRAFTS) }
-    ensures { ReadsFields count (codes "c" ∷ fields.old) result }
+// The commit of an aircraft and a cycle, of which the cells are to come.
+fn commit_of(fields: &mut Fields<'_>, count: u8, own: u8, cycle: u16) -> Option<Entry>
+    requires key { IsKey count (Key.Commit own cycle) }
+    requires count { count ≤ CRAFTS }
+    ensures { ReadsFields count (key_fields (Key.Commit own cycle) ++ fields.old) result }
 {
-    let own = fields.number(0, u32::from(count) - 1)? as u8;
-    let cycle = fields.number(1, 600)? as u16;
     let cells = cells_of(fields, count, own)?;
     Some(Entry::Commit { own, cycle, cells })
 }
@@ -98,11 +99,10 @@ fn entry_of(fields: &mut Fields<'_>, count: u8) -> Option<Entry>
     requires { (0 < count) × (count ≤ CRAFTS) }
     ensures { ReadsFields count fields.old result }
 {
-    match fields.next()? {
-        b"c" => commit_of(fields, count),
-        b"s" => send_of(fields, count),
-        b"t" => take_of(fields, count),
-        _ => None,
+    match key_of(fields, count)? {
+        Key::Commit { own, cycle } => commit_of(fields, count, own, cycle),
+        Key::Send { own, target } => send_of(fields, count, own, target),
+        Key::Take { own, send, copy } => take_of(fields, count, own, send, copy),
     }
 }
 

@@ -1,37 +1,56 @@
 // Recordings judged and loaded.
 ghost use Rattle.std.specs.Prelude.{◌≡◌, ◌+◌, ◌-◌, ◌<◌, ◌^◌, [], IfOk, length};
-ghost use Rattle.flight.specs.Inside.{IsInside};
-ghost use Rattle.rec_audit.specs.Engine.{IsPartReplayed, IsReplayed};
+ghost use Rattle.rec_audit.specs.Engine.{IsLoadedAs, IsReplayed};
 ghost use Rattle.rec_audit.specs.Judging.{IsLoaded, IsPartLoaded, Judged};
 ghost use Rattle.rec_audit.specs.Opening.{first_entry};
 
-use crate::crew::{Crew, Sky};
-use crate::endings::{replay_part, replay_whole};
+use crate::endings::{Extent, replay_to_end};
 use crate::lines::TextLines;
 use crate::opening::{Opened, open};
+use crate::sky::Sky;
 use crate::verdict::{Loaded, Verdict};
 use acas_base::Encounter;
 use air_journal::AirState;
+use resume::crew_of;
 use std::alloc::{AllocError, Global};
 
 // Replays what follows the number of entries.
 fn load_entries(
+    extent: Extent,
     mut state: AirState,
     encounter: &Encounter,
     mut lines: TextLines<'_>,
     count: u32,
 ) -> Loaded
     requires same { state.encounter ≡ encounter.now }
-    requires inside { IsInside encounter.now }
     requires empty { state.journal ≡ [] }
     requires first { lines.taken + 1 ≡ first_entry encounter.now }
-    ensures { IsReplayed encounter.now count lines.entry.left result }
+    ensures { IsReplayed extent encounter.now count lines.entry.left result }
 {
-    let mut crew = Crew::new(encounter);
+    let mut crew = crew_of(&state, encounter);
     let mut sky = Sky::new(encounter);
-    match replay_whole(&mut state, &mut crew, &mut sky, &mut lines, count) {
+    match replay_to_end(extent, &mut state, &mut crew, &mut sky, &mut lines, count) {
         Ok(()) => Loaded::Legal(state),
         Err(fault) => Loaded::Wrong(fault.line, fault.reason),
+    }
+}
+
+// Loads a recording, or a beginning of one.
+fn load_as(extent: Extent, alloc: Global, bytes: &[u8]) -> Result<Loaded, AllocError>
+    requires { length bytes.now < 2 ^ 32 - 1 }
+    ensures { IfOk result (IsLoadedAs extent bytes.now) }
+{
+    match open(alloc, bytes)? {
+        Ok(opened) => {
+            let Opened {
+                encounter,
+                count,
+                lines,
+            } = opened;
+            let state = AirState::new(alloc, &encounter)?;
+            Ok(load_entries(extent, state, &encounter, lines, count))
+        }
+        Err(fault) => Ok(Loaded::Wrong(fault.line, fault.reason)),
     }
 }
 
@@ -45,39 +64,7 @@ pub fn load(alloc: Global, bytes: &[u8]) -> Result<Loaded, AllocError>
     requires { length bytes.now < 2 ^ 32 - 1 }
     ensures { IfOk result (IsLoaded bytes.now) }
 {
-    match open(alloc, bytes)? {
-        Ok(opened) => {
-            let Opened {
-                encounter,
-                count,
-                lines,
-            } = opened;
-            let state = AirState::new(alloc, &encounter)?;
-            Ok(load_entries(state, &encounter, lines, count))
-        }
-        Err(fault) => Ok(Loaded::Wrong(fault.line, fault.reason)),
-    }
-}
-
-// Replays what follows the number of entries in a beginning.
-fn load_first_entries(
-    mut state: AirState,
-    encounter: &Encounter,
-    mut lines: TextLines<'_>,
-    count: u32,
-) -> Loaded
-    requires same { state.encounter ≡ encounter.now }
-    requires inside { IsInside encounter.now }
-    requires empty { state.journal ≡ [] }
-    requires first { lines.taken + 1 ≡ first_entry encounter.now }
-    ensures { IsPartReplayed encounter.now count lines.entry.left result }
-{
-    let mut crew = Crew::new(encounter);
-    let mut sky = Sky::new(encounter);
-    match replay_part(&mut state, &mut crew, &mut sky, &mut lines, count) {
-        Ok(()) => Loaded::Legal(state),
-        Err(fault) => Loaded::Wrong(fault.line, fault.reason),
-    }
+    load_as(Extent::Whole, alloc, bytes)
 }
 
 /// Loads a beginning of a recording, which may end after the number of entries or after any entry: the state of the air exactly
@@ -89,18 +76,7 @@ pub fn load_part(alloc: Global, bytes: &[u8]) -> Result<Loaded, AllocError>
     requires { length bytes.now < 2 ^ 32 - 1 }
     ensures { IfOk result (IsPartLoaded bytes.now) }
 {
-    match open(alloc, bytes)? {
-        Ok(opened) => {
-            let Opened {
-                encounter,
-                count,
-                lines,
-            } = opened;
-            let state = AirState::new(alloc, &encounter)?;
-            Ok(load_first_entries(state, &encounter, lines, count))
-        }
-        Err(fault) => Ok(Loaded::Wrong(fault.line, fault.reason)),
-    }
+    load_as(Extent::Beginning, alloc, bytes)
 }
 
 /// Judges a recording, as [`load`] does: Legal, with the number of entries, exactly where the bytes are the recording of an

@@ -3,16 +3,17 @@
 
 mod asking;
 mod compare;
-mod crew;
 mod endings;
 mod entries;
 mod fault;
 mod fields;
 mod judging;
+mod keys;
 mod laws;
 mod lines;
 mod opening;
 mod replay;
+mod sky;
 mod values;
 mod verdict;
 

@@ -4,7 +4,7 @@ use Rattle.acas_base.specs.declared.entry.Entry.{Entry}
 use Rattle.std.proofs.Common.{List}
 use Rattle.air_journal.specs.Airs.{air_of}
 use Rattle.rec_audit.proofs.Making.{reaches-more, reaches-none}
-use Rattle.rec_audit.specs.Crews.{AreReady}
+use Rattle.resume.specs.Crews.{AreReady}
 use Rattle.rec_audit.proofs.replay.replay.Goals as goal
 
 pub loop-init : goal.loop-init

@@ -1,7 +1,7 @@
 use Rattle.std.proofs.Common.{◌≡◌}
 use Rattle.air_journal.specs.Airs.{air_of}
 use Rattle.rec_audit.proofs.Making.{Reaches}
-use Rattle.rec_audit.specs.Crews.{AreReady}
+use Rattle.resume.specs.Crews.{AreReady}
 use Rattle.rec_audit.proofs.replay.replay.Given as goal
 
 -- So many lines were those of entries.

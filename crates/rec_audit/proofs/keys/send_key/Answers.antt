@@ -2,7 +2,7 @@ use Rattle.std.proofs.Common.{◌∙◌, ◌∷◌, [], arith, sym, ap, drop}
 use Rattle.std.specs.Fmt.{decimal}
 use Rattle.acas_text.specs.Hex.{hex}
 use Rattle.rec_audit.proofs.Forms.{send-form}
-use Rattle.rec_audit.proofs.entries.send_of.Goals as goal
+use Rattle.rec_audit.proofs.keys.send_key.Goals as goal
 
 pub returns-in_err-target : goal.returns-in_err-target
 returns-in_err-target c = rw (c.from_residual-in_err-target.ensures) (λ e fits same.

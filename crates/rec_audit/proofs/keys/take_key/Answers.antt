@@ -2,7 +2,7 @@ use Rattle.std.proofs.Common.{◌∙◌, ◌∷◌, [], arith, sym, ap, drop}
 use Rattle.std.specs.Fmt.{decimal}
 use Rattle.rec_text.specs.Entries.{outcome}
 use Rattle.rec_audit.proofs.Forms.{take-form}
-use Rattle.rec_audit.proofs.entries.take_of.Goals as goal
+use Rattle.rec_audit.proofs.keys.take_key.Goals as goal
 
 pub returns-in_err-send : goal.returns-in_err-send
 returns-in_err-send c = rw (c.from_residual-in_err-send.ensures) (λ e fits same.
