@@ -1,0 +1,11 @@
+pub mod Sums
+pub mod Actives
+pub mod Turns
+pub mod Raising
+pub mod Passing
+pub mod Opened
+pub mod Along
+pub mod Turning
+pub mod Seating
+pub mod Gathering
+pub mod Closed

@@ -1,0 +1,123 @@
+-- What each step tells its seat.
+use Rattle.std.specs.Prelude.{◌≡◌, ◌≢◌, ℕ, ◌+◌, ◌%◌, ◌≤◌, pos, List, [], ◌∷◌, ◌++◌, Option, Some, None, if◌then◌else◌, ltb}
+use Rattle.acas_base.specs.Encounter.{Parts, encounter_of}
+use Rattle.acas_base.specs.declared.entry.Entry.{Entry}
+use Rattle.air_journal.specs.Airs.{air_of}
+use Rattle.air_journal.specs.States.{State}
+use Rattle.air_rules.specs.Journal.{Begins, entries_of}
+use Rattle.air_rules.specs.Rules.{IsLegal}
+use Rattle.atomic_table.specs.Table.{Me, Step}
+use Rattle.air_turn.specs.declared.view.Claim.{Claim}
+use Rattle.air_turn.specs.declared.view.Knowledge.{Knowledge}
+use Rattle.air_turn.specs.declared.view.Seen.{Seen}
+use Rattle.air_turn.specs.declared.view.Stage.{Stage}
+use Rattle.air_turn.specs.declared.view.Stage.TheVariants.{Idle, Waits, Holds}
+use Rattle.air_turn.specs.Rule.{IsState, claim, knowledge, seen, state_of}
+
+abbrev pub TurnStep : Type 0
+TurnStep = Step (Option State)
+
+-- What a seat knows, and what it holds.
+abbrev pub Sitting : Type 0
+Sitting = Me (Option State) Knowledge
+
+-- The seat of one aircraft between two calls, with a ticket, and with the turn.
+abbrev pub resting : Parts → Claim → Sitting
+resting e c = (knowledge e Idle (c ∷ []) [], [])
+
+abbrev pub waiting : Parts → Claim → ℕ → Sitting
+waiting e c k = (knowledge e (Waits k) (c ∷ []) [], [])
+
+abbrev pub holding : Parts → Claim → ℕ → List Entry → ℕ → Option State → Sitting
+holding e c k journal n x = (knowledge e (Holds k journal n) (c ∷ []) [], (0, x) ∷ [])
+
+-- What the seat sees of the journal when its turn has come.
+pub record Sees (e : Parts) (c : Claim) (journal : List Entry) (n : ℕ) : Type 0 where
+  pub state : IsState e journal
+  pub front : Begins c.seen.front journal
+  pub own : entries_of c.seen.front c.own ≡ entries_of journal c.own
+  pub count : c.seen.count ≤ n
+
+-- The claim after a call.
+abbrev pub called : Claim → List Entry → ℕ → Claim
+called c journal n = claim c.own (c.made + 1) journal n
+
+abbrev pub staged : Knowledge → Stage → Knowledge
+staged v stage = record v { stage = stage }
+
+abbrev pub first : List Claim → Claim
+first [] = claim 0 0 [] 0
+first (c ∷ cs) = c
+
+-- A ticket was drawn.
+abbrev pub drew : TurnStep → Sitting → ℕ → Sitting → Type 0
+drew st m r m' = (k : ℕ) × (k % 18446744073709551616 ≡ r) × (m' ≡ (staged m.0 (Waits k), m.1))
+
+-- A look at the ticket that is served: where it is the seat's own, the seat has the turn and the state.
+abbrev pub looked : TurnStep → Sitting → ℕ → Sitting → Type 0
+looked st m r m' = (k : ℕ) → m.0.stage ≡ Waits k
+    → (r ≡ k % 18446744073709551616 → (journal : List Entry) × (n : ℕ) × (m' ≡ (staged m.0 (Holds k journal n), (0, Some (state_of m.0.encounter journal)) ∷ m.1)) × Sees m.0.encounter (first m.0.claims) journal n)
+    × (r ≢ k % 18446744073709551616 → m' ≡ m)
+
+-- The call is counted, and its seat has seen what it left.
+abbrev pub raised : List Entry → TurnStep → Sitting → ℕ → Sitting → Type 0
+raised now st m r m' = (k n : ℕ) (journal : List Entry) → m.0.stage ≡ Holds k journal n
+    → m' ≡ (knowledge m.0.encounter (Holds k now (n + 1)) (called (first m.0.claims) now (n + 1) ∷ []) [], m.1)
+
+-- The turn was given on.
+abbrev pub gave : TurnStep → Sitting → ℕ → Sitting → Type 0
+gave st m r m' = m' ≡ (staged m.0 Idle, [])
+
+abbrev pub rest_of : List Claim → List Claim
+rest_of [] = []
+rest_of (c ∷ cs) = cs
+
+-- The first claim goes to a new seat.
+abbrev pub cut_left : Knowledge → Knowledge
+cut_left v = knowledge v.encounter v.stage (rest_of v.claims) v.notes
+
+abbrev pub cut_right : Knowledge → Knowledge
+cut_right v = knowledge v.encounter Idle (first v.claims ∷ []) []
+
+-- A seat keeps all claims of both.
+abbrev pub glued : Knowledge → Knowledge → Knowledge
+glued v w = knowledge v.encounter v.stage (v.claims ++ w.claims) v.notes
+
+-- What is left of a seat that was joined to another one: it speaks for nobody.
+abbrev pub spent : Knowledge
+spent = knowledge (encounter_of 0 0 (pos 0) (record { alpha = 0; beta = 0 }) (record { alpha = 0; beta = 0 }) [] [] [] [] []) Idle [] []
+
+-- A note of what a seat has seen.
+abbrev pub note_of : Knowledge → Knowledge
+note_of v = knowledge v.encounter Idle [] ((first v.claims).seen ∷ [])
+
+-- What was seen later.
+abbrev pub newer : Seen → Seen → Seen
+newer a b = if ltb a.count b.count then b else a
+
+abbrev pub first_note : List Seen → Seen
+first_note [] = seen [] 0
+first_note (s ∷ ss) = s
+
+abbrev pub rest_notes : List Seen → List Seen
+rest_notes [] = []
+rest_notes (s ∷ ss) = ss
+
+abbrev pub learned : Claim → Seen → Claim
+learned c s = record c { seen = newer c.seen s }
+
+-- The seat knows what the note knows, and remembers what each of the two knew.
+abbrev pub told : Knowledge → Knowledge → Knowledge
+told v w = let c = first v.claims in let s = first_note w.notes in knowledge v.encounter v.stage (learned c s ∷ []) (c.seen ∷ s ∷ [])
+
+-- What is known now begins with both, and has nothing new of the aircraft since the first.
+pub record Knows (e : Parts) (craft : ℕ) (now a b : List Entry) : Type 0 where
+  pub legal : IsLegal (air_of e) now
+  pub first : Begins a now
+  pub second : Begins b now
+  pub own : entries_of now craft ≡ entries_of a craft
+
+-- It was looked up that this is so.
+abbrev pub settled : TurnStep → Sitting → ℕ → Sitting → Type 0
+settled st m r m' = (m' ≡ (knowledge m.0.encounter m.0.stage m.0.claims [], m.1))
+    × Knows m.0.encounter (first m.0.claims).own (first m.0.claims).seen.front (first_note m.0.notes).front (first_note (rest_notes m.0.notes)).front

@@ -1,0 +1,89 @@
+-- What a seat knows at the beginning and at the end of its turn, and when the seats are joined.
+use Rattle.std.specs.Prelude.{◌≡◌, ℕ, ◌+◌, List, [], ◌∷◌, map, Option, None}
+use Rattle.acas_base.specs.Encounter.{IsEncounter, Parts}
+use Rattle.acas_base.specs.declared.entry.Entry.{Entry}
+use Rattle.air_journal.specs.States.{State}
+use Rattle.air_journal.specs.declared.answers.Commit.{Commit}
+use Rattle.air_journal.specs.declared.answers.Commit.TheVariants as commit
+use Rattle.air_journal.specs.declared.answers.Sent.{Sent}
+use Rattle.air_journal.specs.declared.answers.Sent.TheVariants as sent
+use Rattle.air_journal.specs.declared.answers.Took.{Took}
+use Rattle.air_journal.specs.declared.answers.Took.TheVariants as took
+use Rattle.atomic_table.specs.Seated.{TableId}
+use Rattle.atomic_table.specs.declared.shared.Seat.{Seat}
+use Rattle.air_turn.specs.declared.view.Claim.{Claim}
+use Rattle.air_turn.specs.declared.view.Knowledge.{Knowledge}
+use Rattle.air_turn.specs.declared.view.Stage.{Stage}
+use Rattle.air_turn.specs.declared.view.Stage.TheVariants.{Idle, Waits, Holds}
+use Rattle.air_turn.specs.Rule.{Grows, IsState, knowledge}
+use Rattle.air_turn.specs.Seats.{IsSeat, SeatState}
+use Rattle.air_turn.specs.Told.{Sees, Sitting, called, first, holding, resting}
+
+abbrev pub seat_of_claim : TableId → Parts → Claim → SeatState
+seat_of_claim table e c = record { table = table; own = c.own; encounter = e; front = c.seen.front; made = c.made; count = c.seen.count }
+
+abbrev pub seat_of : Seat (Option State) Knowledge → SeatState
+seat_of p = seat_of_claim p.table_id p.me.0.encounter (first p.me.0.claims)
+
+-- The table has three words and one slot, and the encounter is one.
+pub record IsOpen (table : TableId) (e : Parts) : Type 0 where
+  pub words : table.words ≡ 3
+  pub slots : table.slots ≡ 1
+  pub valid : IsEncounter e
+
+-- Between two calls the place at the table has the claim of the seat's aircraft, and no more.
+pub record Rests (own : ℕ) (p : Seat (Option State) Knowledge) : Type 0 where
+  pub idle : p.me ≡ resting p.me.0.encounter (first p.me.0.claims)
+  pub own_is : own ≡ (first p.me.0.claims).own
+  pub seat : IsSeat (seat_of p)
+
+abbrev pub journal_of : Stage → List Entry
+journal_of (Holds k journal n) = journal
+journal_of _ = []
+
+abbrev pub calls_of : Stage → ℕ
+calls_of (Holds k journal n) = n
+calls_of _ = 0
+
+-- The seat has the turn, and the state is in its hands.
+pub record HasTurn (old new : Sitting) (state : State) : Type 0 where
+  pub ticket : ℕ
+  pub calls : ℕ
+  pub new_is : new ≡ holding old.0.encounter (first old.0.claims) ticket state.journal calls None
+  pub encounter : state.encounter ≡ old.0.encounter
+  pub sees : Sees old.0.encounter (first old.0.claims) state.journal calls
+
+-- The seat has the turn, with the state in its hands, which has gone on from the journal of the turn.
+pub record GoneOn (m : Sitting) (state : State) (grew : ℕ) : Type 0 where
+  pub ticket : ℕ
+  pub turn : m ≡ holding m.0.encounter (first m.0.claims) ticket (journal_of m.0.stage) (calls_of m.0.stage) None
+  pub encounter : state.encounter ≡ m.0.encounter
+  pub stays_a_state : IsState state.encounter state.journal
+  pub grows : Grows (first m.0.claims).own (journal_of m.0.stage) state.journal grew
+
+-- The claim of the seat after this turn.
+abbrev pub claim_after : Sitting → State → Claim
+claim_after m state = called (first m.0.claims) state.journal (calls_of m.0.stage + 1)
+
+-- The call has ended, and the seat still has the turn.
+pub record Ended (old : Sitting) (state : State) (new : Sitting) : Type 0 where
+  pub ticket : ℕ
+  pub new_is : new ≡ holding old.0.encounter (claim_after old state) ticket state.journal (calls_of old.0.stage + 1) None
+
+-- By how much a call has made the journal longer.
+abbrev pub commit_growth : Commit → ℕ
+commit_growth (commit.Done position) = 1
+commit_growth _ = 0
+
+abbrev pub send_growth : Sent → ℕ
+send_growth (sent.Done position) = 1
+send_growth sent.Nothing = 0
+
+abbrev pub take_growth : Took → ℕ
+take_growth (took.Done position good) = 1
+take_growth took.Nothing = 0
+
+-- The place at the table that all these seats were joined to.
+pub record Gathers (table : TableId) (m : Sitting) (seats : List SeatState) : Type 0 where
+  pub idle : m ≡ (knowledge m.0.encounter Idle m.0.claims [], [])
+  pub all : map (seat_of_claim table m.0.encounter) m.0.claims ≡ seats

@@ -1,0 +1,54 @@
+// What a seat at the table knows. No value of it is made: the table keeps it for the contracts alone.
+use acas_base::{Encounter, Entry};
+use air_journal::AirState;
+use atomic_table::{Table, TableRule};
+use std::alloc::Global;
+use std::collections::LinkedList;
+use std::snapshot::Snapshot;
+
+/// The journal as it was last seen, and the place of the latest call known then.
+pub struct Seen {
+    pub front: LinkedList<Entry>,
+    pub count: u64,
+}
+
+/// What the seat of one aircraft has: how many calls it made, and what it has seen.
+pub struct Claim {
+    pub own: u8,
+    pub made: u64,
+    pub seen: Seen,
+}
+
+/// Where a seat is in a call.
+pub enum Stage {
+    /// In none.
+    Idle,
+    /// It has this ticket.
+    Waits(u64),
+    /// It has the turn: its ticket, the journal, and how many calls there were.
+    Holds(u64, LinkedList<Entry>, u64),
+}
+
+/// What a seat knows: the encounter, its stage, and what it speaks for. That is the claim of one aircraft for
+/// a seat, those of several while the table is opened and closed, and none for a note.
+pub struct Knowledge {
+    pub encounter: Encounter,
+    pub stage: Stage,
+    pub claims: LinkedList<Claim>,
+    pub notes: LinkedList<Seen>,
+}
+
+/// The rule of the table.
+pub struct TurnRule;
+
+impl TableRule<Option<AirState>, Knowledge, Snapshot<AirState>> for TurnRule {
+    ghost use Rattle.air_turn.specs.Rule.{HoldsThroughout, at_start};
+
+    ghost holds = { λ key. HoldsThroughout key.value.encounter };
+
+    ghost first = { λ key. at_start key.value };
+}
+
+pub type TurnTable = Table<Option<AirState>, Knowledge, Snapshot<AirState>, TurnRule, Global>;
+
+pub type TurnSeat = atomic_table::Seat<Option<AirState>, Knowledge>;
