@@ -1,9 +1,15 @@
-//! What drives the state of the air through an encounter.
+//! What drives an encounter through its run: `serial` in one fixed order, and `play` with an activity of its own for
+//! each active aircraft, over one shared journal (`specs/Workers`).
 #![tactic(auto)]
 
+mod rounds;
 mod serial_run;
+mod threaded_run;
+mod worker;
 
 pub use serial_run::serial;
+pub use threaded_run::{play, played_law};
+pub use worker::Pause;
 
 #[cfg(test)]
 mod tests;

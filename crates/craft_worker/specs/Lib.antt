@@ -1,0 +1,2 @@
+pub mod Workers
+pub use Rattle.air_turn.specs.Seats
