@@ -1,0 +1,4 @@
+pub mod Prefixes
+pub mod Rows
+pub mod GoodTakes
+pub mod Keeping

@@ -1,0 +1,120 @@
+// What is kept of an aircraft against another one.
+ghost use Rattle.std.specs.Prelude.{◌≡◌, ◌*◌, ◌+◌, ◌<◌, length, replicate};
+ghost use Rattle.acas_base.specs.Senses.{has_sense, sense_of};
+ghost use Rattle.acas_base.specs.declared.TheConstants.{CRAFTS};
+ghost use Rattle.journal_reader.specs.Links.{PairIs, RowIs, no_link, run_after};
+
+use acas_base::{CRAFTS, Cell, Cells, Sense, Vrc};
+
+/// A take of an undamaged copy of another aircraft's message.
+#[derive(Clone, Copy, Debug, PartialEq, Eq)]
+pub struct GoodTake {
+    /// The position of the take in the journal.
+    pub at: u32,
+    /// The position of the send that it took a copy of.
+    pub send: u32,
+    /// The complement, as it was taken.
+    pub vrc: Vrc,
+    /// How many cycles the taker had committed then.
+    pub commits: u16,
+}
+
+/// What the entries so far say of an aircraft against another one: its cell in the last commit, where its present run
+/// began, and its last good take of a message of that one, now and before its last commit.
+#[derive(Clone, Copy, Debug, PartialEq, Eq)]
+pub(crate) struct Link {
+    pub cell: Cell,
+    pub run: Option<u32>,
+    pub taken: Option<GoodTake>,
+    pub bound: Option<GoodTake>,
+}
+
+/// How many ordered pairs there are.
+pub(crate) const PAIRS: usize = 256;
+
+/// No entry speaks of any pair yet.
+pub(crate) fn no_links() -> [Link; PAIRS]
+    ensures { result ≡ replicate 256 no_link }
+{
+    let link = Link {
+        cell: Cell::Clear,
+        run: None,
+        taken: None,
+        bound: None,
+    };
+    [link; PAIRS]
+}
+
+/// The place of an ordered pair.
+pub(crate) fn pair_of(own: u8, other: u8) -> usize
+    ensures { result ≡ own * CRAFTS + other }
+{
+    usize::from(own) * CRAFTS + usize::from(other)
+}
+
+/// The sense of a cell's advisory; none where it has none.
+pub fn sense_of(cell: Cell) -> Option<Sense>
+    ensures { result ≡ sense_of cell }
+{
+    match cell {
+        Cell::Clear | Cell::Traffic => None,
+        Cell::Ra(intent) => Some(intent.sense),
+    }
+}
+
+/// Whether a cell has an advisory of this sense.
+pub fn has_sense(cell: Cell, sense: Sense) -> bool
+    ensures { result ≡ has_sense cell sense }
+{
+    match cell {
+        Cell::Clear | Cell::Traffic => false,
+        Cell::Ra(intent) => intent.sense == sense,
+    }
+}
+
+// Where the run began that an aircraft has after a commit at this position with this cell.
+fn run_after(link: &Link, cell: Cell, at: u32) -> Option<u32>
+    ensures { result ≡ run_after link.now cell at }
+{
+    let sense = sense_of(cell)?;
+    if has_sense(link.cell, sense) {
+        link.run
+    } else {
+        Some(at)
+    }
+}
+
+/// A commit of an aircraft, at this position.
+pub(crate) fn note_commit(links: &mut [Link; PAIRS], own: u8, cells: &Cells, at: u32)
+    requires own { own < CRAFTS }
+    requires size { length cells.now.list ≡ CRAFTS }
+    ensures { RowIs links.old links.new own cells.now at }
+{
+    for other in 0..CRAFTS as u8 {
+        let pair = pair_of(own, other);
+        let link = links[pair];
+        let cell = cells.list[usize::from(other)];
+        links[pair] = Link {
+            cell,
+            run: run_after(&link, cell, at),
+            taken: link.taken,
+            bound: link.taken,
+        };
+    }
+}
+
+/// A good take by an aircraft of a message of another one.
+pub(crate) fn note_take(links: &mut [Link; PAIRS], own: u8, sender: u8, taken: GoodTake)
+    requires own { own < CRAFTS }
+    requires sender { sender < CRAFTS }
+    ensures { PairIs links.old links.new own sender taken }
+{
+    let pair = pair_of(own, sender);
+    let link = links[pair];
+    links[pair] = Link {
+        cell: link.cell,
+        run: link.run,
+        taken: Some(taken),
+        bound: link.bound,
+    };
+}
