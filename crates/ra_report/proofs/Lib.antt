@@ -1,0 +1,5 @@
+pub mod Fields
+pub mod Ranges
+pub mod Course
+pub mod Keeping
+pub mod Putting
