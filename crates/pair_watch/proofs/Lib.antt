@@ -1,0 +1,4 @@
+pub mod Steps
+pub mod Lasting
+pub mod Sending
+pub mod Putting
