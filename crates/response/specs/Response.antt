@@ -1,0 +1,94 @@
+-- The text of the modelled response: for each pair of aircraft of which one resolves against the other, how near they come as
+-- planned and as flown (this project's profile).
+use Rattle.std.specs.Prelude.{ℕ, ◌+◌, ◌-◌, ◌/◌, Bool, true, false, ◌||◌, if◌then◌else◌, nat_le, ◌-ℤ◌, unsigned_abs, List, [], ◌∷◌, ◌++◌, codes, find, length, Option, Some, None}
+use Rattle.std.specs.Fmt.{decimal}
+use Rattle.std.specs.List.{flat_map, join_with_byte, list_all, list_any, range_with_len}
+use Rattle.std.specs.Option.{option_map_or}
+use Rattle.acas_base.specs.Encounter.{Parts}
+use Rattle.acas_base.specs.declared.advisory.Cell.{Cell}
+use Rattle.acas_base.specs.declared.advisory.Cell.TheVariants.{Clear, Traffic, Ra}
+use Rattle.acas_base.specs.declared.advisory.Cells.{Cells}
+use Rattle.acas_base.specs.declared.entry.Entry.{Entry}
+use Rattle.acas_lines.specs.Lines.{joined}
+use Rattle.acas_text.specs.Hex.{hex}
+use Rattle.air_journal.specs.Airs.{address_of}
+use Rattle.air_journal.specs.Cells.{commit_cells}
+use Rattle.air_rules.specs.Journal.{cell_at}
+use Rattle.flight.specs.Flight.{position}
+use Rattle.flight.specs.Measurement.{slant_range}
+use Rattle.response.specs.Flown.{flown}
+
+-- ---- pairs
+
+-- The cell is a resolution advisory.
+abbrev pub is_resolution : Cell → Bool
+is_resolution Clear = false
+is_resolution Traffic = false
+is_resolution (Ra advisory) = true
+
+abbrev pub resolves_in : Option Cells → ℕ → Bool
+resolves_in None other = false
+resolves_in (Some cells) other = is_resolution (cell_at cells other)
+
+-- In some of so many commits an aircraft has a resolution advisory against another one.
+abbrev pub resolves : List Entry → ℕ → ℕ → ℕ → Bool
+resolves journal cycles own other = list_any (λ cycle. resolves_in (commit_cells journal own cycle) other) (range_with_len 1 cycles)
+
+-- One of two aircraft has a resolution advisory against the other, in some commit.
+abbrev pub is_pair : Parts → List Entry → ℕ → ℕ → Bool
+is_pair e journal a b = resolves journal e.cycles a b || resolves journal e.cycles b a
+
+-- ---- how near they come
+
+abbrev pub range_in : Parts → ℕ → ℕ → ℕ → ℕ
+range_in e a b cycle = slant_range (position e a cycle) (position e b cycle)
+
+-- In no cycle is the slant range less than in this one.
+abbrev pub is_least : Parts → ℕ → ℕ → ℕ → Bool
+is_least e a b cycle = list_all (λ other. nat_le (range_in e a b cycle) (range_in e a b other)) (range_with_len 1 e.cycles)
+
+-- The first such cycle.
+unfoldable pub nearest : Parts → ℕ → ℕ → ℕ
+nearest e a b = option_map_or (λ cycle. cycle) (find (is_least e a b) (range_with_len 1 e.cycles)) 0
+
+-- How far two altitudes are apart, in ft, rounded down: as planned, from 1/60 ft, and as flown, from 1/2048 ft.
+abbrev pub planned_apart : Parts → ℕ → ℕ → ℕ → ℕ
+planned_apart e a b cycle = unsigned_abs ((position e a cycle).z -ℤ (position e b cycle).z) / 60
+
+abbrev pub flown_apart : Parts → List Entry → ℕ → ℕ → ℕ → ℕ
+flown_apart e journal a b cycle = unsigned_abs (flown e journal a cycle -ℤ flown e journal b cycle) / 2048
+
+-- ---- the text
+
+-- The fields of a line, each but the first after a comma, and the line feed.
+abbrev pub line_of : List (List ℕ) → List ℕ
+line_of fields = join_with_byte 44 fields ++ 10 ∷ []
+
+-- The addresses of both, the cycle in which they are nearest as planned, and how far apart they are then.
+abbrev pub approach_line : ℕ → ℕ → ℕ → ℕ → ℕ → List ℕ
+approach_line one other cycle planned flown = line_of (codes "p" ∷ hex 6 one ∷ hex 6 other ∷ decimal cycle ∷ decimal planned ∷ decimal flown ∷ [])
+
+abbrev pub pair_line : Parts → List Entry → ℕ → ℕ → List ℕ
+pair_line e journal a b =
+    let cycle = nearest e a b in
+    approach_line (address_of e a) (address_of e b) cycle (planned_apart e a b cycle) (flown_apart e journal a b cycle)
+
+abbrev pub pair_lines : Parts → List Entry → ℕ → ℕ → List (List ℕ)
+pair_lines e journal a b = if is_pair e journal a b then pair_line e journal a b ∷ [] else []
+
+-- The lines of the pairs of an aircraft with those of higher index, and of all pairs.
+abbrev pub lines_with : Parts → List Entry → ℕ → List (List ℕ)
+lines_with e journal a = flat_map (pair_lines e journal a) (range_with_len (a + 1) (length e.crafts - (a + 1)))
+
+unfoldable pub all_lines : Parts → List Entry → List (List ℕ)
+all_lines e journal = flat_map (lines_with e journal) (range_with_len 0 (length e.crafts))
+
+-- How many pairs there are.
+abbrev pub count_line : ℕ → List ℕ
+count_line count = line_of (codes "response" ∷ decimal count ∷ [])
+
+abbrev pub response_lines : Parts → List Entry → List (List ℕ)
+response_lines e journal = count_line (length (all_lines e journal)) ∷ all_lines e journal
+
+abbrev pub response_text : Parts → List Entry → List ℕ
+response_text e journal = joined (response_lines e journal)

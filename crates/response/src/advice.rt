@@ -1,0 +1,94 @@
+// What is advised in a cycle, and how an aircraft responds to it.
+ghost use Rattle.std.specs.Prelude.{◌≡◌, ℕ, ◌+◌};
+ghost use Rattle.advisory_report.specs.Composite.{clear};
+ghost use Rattle.craft_view.specs.Separations.{IsResponse};
+ghost use Rattle.response.specs.Flown.{Flight, going_back, has_advice, is_same_advice, is_same_side, response_to};
+ghost use Rattle.response.specs.Flying.{IsAdvised};
+
+use acas_base::Strength;
+use advisory_report::Composite;
+use craft_view::{FIRST_RESPONSE, LATER_RESPONSE, Response};
+
+// Without advice the rate goes back at once.
+const GOING_BACK: Response = Response {
+    delay: 0,
+    step: FIRST_RESPONSE.step,
+};
+
+pub(crate) fn has_advice(composite: &Composite) -> bool
+    ensures { result ≡ has_advice composite.now }
+{
+    composite.up.is_some() || composite.down.is_some()
+}
+
+fn is_same_side(one: Option<Strength>, other: Option<Strength>) -> bool
+    ensures { result ≡ is_same_side one other }
+{
+    match (one, other) {
+        (None, None) => true,
+        (None, Some(_)) => false,
+        (Some(_), None) => false,
+        (Some(one), Some(other)) => one.place() == other.place(),
+    }
+}
+
+// Whether two composites advise the same.
+pub(crate) fn is_same_advice(one: &Composite, other: &Composite) -> bool
+    ensures { result ≡ is_same_advice one.now other.now }
+{
+    is_same_side(one.up, other.up) && is_same_side(one.down, other.down)
+}
+
+// The response to what is shown now, by what was shown before the advice changed last.
+pub(crate) fn response_to(before: &Composite, now: &Composite) -> Response
+    ensures value { result ≡ response_to before.now now.now }
+    ensures response { IsResponse result }
+{
+    if !has_advice(now) {
+        return GOING_BACK;
+    }
+    if has_advice(before) {
+        return LATER_RESPONSE;
+    }
+    FIRST_RESPONSE
+}
+
+// What was advised so far: what was shown in the last cycle, in which cycle the advice changed last (0 where it never
+// did), and what was shown before that one.
+#[derive(Clone, Copy, Debug, PartialEq, Eq)]
+pub(crate) struct Advised {
+    pub shown: Composite,
+    pub changed: u16,
+    pub before: Composite,
+}
+
+impl Advised {
+    // Before the first cycle.
+    pub fn nothing() -> Advised
+        ensures { result ≡ record { shown = clear; changed = 0; before = clear } }
+    {
+        Advised {
+            shown: Composite::clear(),
+            changed: 0,
+            before: Composite::clear(),
+        }
+    }
+
+    // With what is shown in the next cycle.
+    pub fn with(&self, cycle: u16, now: Composite) -> Advised
+        ensures { (flight : Flight) (n : ℕ) → IsAdvised flight n self.now → cycle ≡ n + 1 → now ≡ flight.shown cycle → IsAdvised flight cycle result }
+    {
+        if is_same_advice(&self.shown, &now) {
+            return Advised {
+                shown: now,
+                changed: self.changed,
+                before: self.before,
+            };
+        }
+        Advised {
+            shown: now,
+            changed: cycle,
+            before: self.shown,
+        }
+    }
+}

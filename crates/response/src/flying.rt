@@ -1,0 +1,65 @@
+// How an aircraft flies with the modelled response.
+ghost use Rattle.std.specs.Prelude.{◌≡◌, ◌<◌, ◌≤◌, ◌^◌, unsigned_abs, length};
+ghost use Rattle.air_journal.specs.Airs.{air_of};
+ghost use Rattle.air_rules.specs.Air.{is_ra, is_ra_kind};
+ghost use Rattle.response.specs.Flown.{first_advised, flown, flown_from};
+ghost use Rattle.response.specs.Flying.{flight_in, flying};
+
+use crate::flier::{Flier, altitude_units};
+use acas_base::Kind;
+use air_journal::AirState;
+use flight::position;
+
+fn resolves(kind: Kind) -> bool
+    ensures { result ≡ is_ra_kind kind }
+{
+    match kind {
+        Kind::Ra => true,
+        Kind::Ta | Kind::Xpdr => false,
+    }
+}
+
+// Whether an aircraft gives resolution advisories.
+fn is_ra(state: &AirState, craft: u8) -> bool
+    requires { craft < length state.now.encounter.crafts }
+    ensures { result ≡ is_ra (air_of state.now.encounter) craft }
+{
+    resolves(state.enc().crafts()[usize::from(craft)].kind)
+}
+
+// The altitude of an aircraft that flies from cycle to cycle.
+fn after_cycles(state: &AirState, craft: u8, cycle: u16) -> i64
+    requires craft { craft < length state.now.encounter.crafts }
+    requires begun { 1 ≤ cycle }
+    requires in_run { cycle ≤ state.now.encounter.cycles }
+    ensures value { let it = flying state.now.encounter state.now.journal craft cycle in result ≡ flown_from (flight_in it) cycle (first_advised (flight_in it) state.now.encounter.cycles) }
+    ensures bound { unsigned_abs result ≤ 2 ^ 30 }
+{
+    let mut flier = Flier::new(state, craft);
+    for done in 1..cycle {
+        flier.fly();
+    }
+    flier.altitude()
+}
+
+/// The altitude of an aircraft in a cycle of the run, in 1/2048 ft, if it flew with the modelled response to what its own
+/// commits say (this project's profile). The journal stays as it is: nothing of this is fed back into the run. A cycle that
+/// it hasn't committed advises nothing.
+///
+/// Up to the first cycle that advises a vertical rate, and where none does, it flies as planned; so does an aircraft of
+/// another kind than RA. From there on it flies by half-seconds: after the delay of the response its rate moves towards what
+/// is advised, and without advice back to the planned rate.
+#[tactic(auto, unfolding(crate::specs::Flown::flown))]
+pub fn flown(state: &AirState, craft: u8, cycle: u16) -> i64
+    requires craft { craft < length state.now.encounter.crafts }
+    requires begun { 1 ≤ cycle }
+    requires in_run { cycle ≤ state.now.encounter.cycles }
+    ensures value { result ≡ flown state.now.encounter state.now.journal craft cycle }
+    ensures bound { unsigned_abs result ≤ 2 ^ 30 }
+{
+    if is_ra(state, craft) {
+        return after_cycles(state, craft, cycle);
+    }
+    state.legal_law();
+    altitude_units(position(state.enc(), craft, cycle).z)
+}
