@@ -1,0 +1,9 @@
+pub mod Gathered
+pub mod Moderate
+pub mod Separated
+pub mod Looking
+pub mod Pairing
+pub mod Ready
+pub mod Texts
+pub mod Reading
+pub mod Explaining

@@ -1,0 +1,10 @@
+use Rattle.std.proofs.Common.{◌≤◌, ◌^◌, ℤ, arith, sym, subst, unsigned_abs}
+use Rattle.std.proofs.lemmas.Int.{ints}
+use Rattle.reasons.proofs.Moderate.{small-separation}
+use Rattle.reasons.proofs.columns.add_separation.Goals as goal
+
+pub add_tenths-requires-clause-few : goal.add_tenths-requires-clause-few
+add_tenths-requires-clause-few c =
+    let small = small-separation c.args.view.now c.args.sense c.args.strength c.args.fresh c.requires.view in
+    let few : unsigned_abs c.separation.result ≤ 2 ^ 30 = subst (λ (n : ℤ). unsigned_abs n ≤ 2 ^ 30) (sym c.separation.ensures) small in
+    omega (arith, ints)

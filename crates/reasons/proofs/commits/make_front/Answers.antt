@@ -1,0 +1,19 @@
+use Rattle.std.proofs.Common.{◌∙◌, ap, get_or, sym}
+use Rattle.acas_base.specs.Encounter.{Parts}
+use Rattle.acas_base.specs.declared.craft.CraftSpec.{CraftSpec}
+use Rattle.reasons.proofs.Pairing.{address-is, front-is}
+use Rattle.reasons.proofs.commits.make_front.Goals as goal
+
+pub returns : goal.returns
+returns c =
+    let e = c.args.reader.now.encounter in
+    let a = c.args in
+    let xs = c.crafts-crafts.result.now in
+    let crafts = c.crafts-crafts.ensures.value ∙ ap (λ (e : Parts). e.crafts) c.requires.same in
+    let own = address-is e xs a.commit.now.own c.from.result c.index-crafts-from.result crafts c.from.ensures c.requires.own c.index-crafts-from.is in
+    let other = address-is e xs a.other c.from-2.result c.index-crafts-from-2.result crafts c.from-2.ensures c.requires.other c.index-crafts-from-2.is in
+    let address = λ (craft : CraftSpec). craft.address in
+    c.set_front.ensures
+    ∙ front-is e a.reader.now.read a.commit.now.own a.commit.now.cycle a.other a.commit.now.cells.now a.seen.now c.position.result
+    (get_or xs c.from.result c.index-crafts-from.result).address (get_or xs c.from-2.result c.index-crafts-from-2.result).address
+    c.requires.seen c.position.ensures (ap address (sym c.index-crafts-from.is) ∙ own) (ap address (sym c.index-crafts-from-2.is) ∙ other)

@@ -1,0 +1,42 @@
+-- Lines of fields, and the texts of single fields.
+use Rattle.std.specs.Prelude.{ℕ, ◌*◌, ◌/◌, ◌%◌, Bool, if◌then◌else◌, ℤ, pos, ◌*ℤ◌, int_lt, unsigned_abs, List, [], ◌∷◌, ◌++◌, Option, Some, None, codes}
+use Rattle.std.specs.Fmt.{decimal}
+use Rattle.std.specs.Int.{int_div_euclid}
+use Rattle.std.specs.List.{join_with_byte}
+use Rattle.std.specs.Option.{option_map_or}
+
+-- A line of the text: its fields with a comma between each two, and a line feed.
+abbrev pub line_of_fields : List (List ℕ) → List ℕ
+line_of_fields fields = join_with_byte 44 fields ++ codes "\n"
+
+-- What there is of a line goes on with a field, or with several ones.
+abbrev pub with_field : List ℕ → List ℕ → List ℕ
+with_field line field = line ++ 44 ∷ field
+
+abbrev pub with_fields : List ℕ → List (List ℕ) → List ℕ
+with_fields line [] = line
+with_fields line (field ∷ rest) = with_fields (with_field line field) rest
+
+-- Nothing, where there is nothing to say.
+abbrev pub if_any : {X : Type 0} → (X → List ℕ) → Option X → List ℕ
+if_any text value = option_map_or text value []
+
+-- 1 where something holds, else 0.
+abbrev pub mark : Bool → List ℕ
+mark holds = if holds then codes "1" else codes "0"
+
+-- A number of tenths, with one digit after the point.
+abbrev pub with_point : ℤ → List ℕ
+with_point tenths = (if int_lt tenths (pos 0) then codes "-" else []) ++ decimal (unsigned_abs tenths / 10) ++ codes "." ++ decimal (unsigned_abs tenths % 10)
+
+-- The tenths in a number of 1/1024, rounded down.
+abbrev pub tenths_of : ℤ → ℤ
+tenths_of n = int_div_euclid (pos 10 *ℤ n) (pos 1024)
+
+-- A length in 1/1024 ft, in ft; a rate in 1/1024 ft/s, in ft/s.
+abbrev pub tenths : ℤ → List ℕ
+tenths n = with_point (tenths_of n)
+
+-- A rate in 1/1024 ft/s, in ft/min.
+abbrev pub tenths_a_minute : ℤ → List ℕ
+tenths_a_minute rate = tenths (pos 60 *ℤ rate)

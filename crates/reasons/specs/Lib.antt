@@ -1,0 +1,10 @@
+pub mod Fields
+pub mod Rules
+pub mod Seconds
+pub mod Columns
+pub mod Bounds
+pub mod Seen
+pub mod Rows
+pub mod Reasons
+pub mod Crews
+pub mod Explained

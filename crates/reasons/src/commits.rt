@@ -1,0 +1,211 @@
+// The lines of a journal's commits.
+ghost use Rattle.std.specs.Prelude.{◌≡◌, ◌+◌, ◌<◌, ◌≤◌, ◌∷◌, ◌++◌, [], List, codes, length};
+ghost use Rattle.std.specs.List.{flat_map, join_with_byte};
+ghost use Rattle.acas_base.specs.declared.TheConstants.{CRAFTS};
+ghost use Rattle.acas_base.specs.declared.entry.Entry.{Entry};
+ghost use Rattle.air_journal.specs.Airs.{air_of};
+ghost use Rattle.air_journal.specs.EntryRefs.{entry_of};
+ghost use Rattle.air_journal.specs.Ranges.{IsEntry};
+ghost use Rattle.air_rules.specs.Journal.{commits};
+ghost use Rattle.air_rules.specs.Rules.{IsLegal};
+ghost use Rattle.craft_view.specs.Kept.{Belongs, IsActive};
+ghost use Rattle.craft_view.specs.Sight.{sight_of};
+ghost use Rattle.reasons.specs.Bounds.{IsSeen};
+ghost use Rattle.reasons.specs.Crews.{AreReady, HasLooked, IsReady};
+ghost use Rattle.reasons.specs.Fields.{with_fields};
+ghost use Rattle.reasons.specs.Reasons.{commit_rows, entry_rows, reason_row, reason_rows};
+ghost use Rattle.reasons.specs.Rows.{row_parts};
+ghost use Rattle.reasons.specs.Seen.{seen_of};
+
+use crate::crew::crew_of;
+use crate::halves::{set_back, set_front};
+use crate::rules::rule_of;
+use crate::seen::{Seen, own_side_of, seen_of};
+use crate::told::told_of;
+use acas_base::{CRAFTS, Cells, Encounter};
+use acas_lines::LineSink;
+use acas_text::Line;
+use air_journal::{AirState, EntryRef};
+use craft_view::Craft;
+use flight::Places;
+use journal_reader::Reader;
+
+// A commit that comes next in a journal.
+#[derive(Drop)]
+struct Next<'a> {
+    encounter: &'a Encounter,
+    own: u8,
+    cycle: u16,
+    cells: &'a Cells,
+}
+
+// Makes the front of the line of a commit against another aircraft.
+#[tactic(auto, unfolding(crate::specs::Reasons::reason_row))]
+fn make_front(line: &mut Line, reader: &Reader<'_>, commit: &Next<'_>, other: u8, seen: &Seen)
+    requires same { commit.now.encounter.now ≡ reader.now.encounter }
+    requires own { commit.now.own < length reader.now.encounter.crafts }
+    requires other { other < length reader.now.encounter.crafts }
+    requires seen { seen.now ≡ seen_of (sight_of reader.now.encounter commit.now.own commit.now.cycle) other }
+    requires bounds { IsSeen seen.now }
+    ensures { let row = reason_row reader.now.encounter reader.now.read commit.now.own commit.now.cycle commit.now.cells.now other in line.new ≡ join_with_byte 44 (row.first ∷ row.front) }
+{
+    let crafts = commit.encounter.crafts();
+    let own = crafts[usize::from(commit.own)].address;
+    let target = crafts[usize::from(other)].address;
+    set_front(line, reader.position(), commit.cycle, own, target, seen);
+}
+
+// Makes its back.
+#[tactic(auto, unfolding(crate::specs::Reasons::reason_row))]
+fn make_back(line: &mut Line, reader: &Reader<'_>, commit: &Next<'_>, other: u8, seen: &Seen)
+    requires own { commit.now.own < CRAFTS }
+    requires other { other < CRAFTS }
+    requires seen { seen.now ≡ seen_of (sight_of reader.now.encounter commit.now.own commit.now.cycle) other }
+    requires bounds { IsSeen seen.now }
+    ensures { line.new ≡ with_fields [] (reason_row reader.now.encounter reader.now.read commit.now.own commit.now.cycle commit.now.cells.now other).back ++ codes "\n" }
+{
+    let own = commit.own;
+    let complement = reader.complement(own, other);
+    let told = told_of(reader, own, other, complement);
+    let before = reader.last_cell(own, other);
+    let rule = rule_of(&before, &seen.view, complement, seen.rank);
+    let cell = &commit.cells.list[usize::from(other)];
+    set_back(line, &seen.view, &told, &before, cell, rule);
+}
+
+// Puts the line of a commit against another aircraft.
+fn put_pair<S: LineSink>(
+    reader: &Reader<'_>,
+    commit: &Next<'_>,
+    other: u8,
+    seen: &Seen,
+    line: &mut Line,
+    sink: &mut S,
+)
+    requires same { commit.now.encounter.now ≡ reader.now.encounter }
+    requires own { commit.now.own < length reader.now.encounter.crafts }
+    requires other { other < length reader.now.encounter.crafts }
+    requires few { length reader.now.encounter.crafts ≤ CRAFTS }
+    requires seen { seen.now ≡ seen_of (sight_of reader.now.encounter commit.now.own commit.now.cycle) other }
+    requires bounds { IsSeen seen.now }
+    ensures { S.took sink.old sink.new (row_parts (reason_row reader.now.encounter reader.now.read commit.now.own commit.now.cycle commit.now.cells.now other)) }
+{
+    make_front(line, reader, commit, other, seen);
+    sink.line(line);
+    make_back(line, reader, commit, other, seen);
+    sink.line(line);
+}
+
+// Puts the lines of a commit, whose aircraft looks in its cycle.
+fn put_commit<S: LineSink>(reader: &Reader<'_>, commit: &Next<'_>, craft: &mut Craft, sink: &mut S)
+    requires same { commit.now.encounter.now ≡ reader.now.encounter }
+    requires belongs { Belongs reader.now.encounter craft.old }
+    requires own { craft.old.own ≡ commit.now.own }
+    requires next { commit.now.cycle ≡ craft.old.cycle + 1 }
+    requires run { commit.now.cycle ≤ reader.now.encounter.cycles }
+    ensures looked { HasLooked reader.now.encounter commit.now.own commit.now.cycle craft.new }
+    ensures lines { S.took sink.old sink.new (flat_map row_parts (commit_rows reader.now.encounter reader.now.read commit.now.own commit.now.cycle commit.now.cells.now)) }
+{
+    // No run is longer than 600 cycles.
+    commit.encounter.valid_law();
+    let places = Places::new(commit.encounter, commit.cycle);
+    let picture = craft.look_among(&places);
+    let own = own_side_of(&places, commit.own);
+    let mut line = Line::new();
+    for other in 0..commit.encounter.crafts().len() as u8 {
+        if other == commit.own {
+            continue;
+        }
+        let seen = seen_of(&places, craft, &picture, &own, other);
+        put_pair(reader, commit, other, &seen, &mut line, sink);
+    }
+}
+
+// Puts the lines of a commit of the aircraft at a place.
+#[tactic(auto, unfolding(crate::specs::Crews::IsReady))]
+fn put_by<S: LineSink>(
+    reader: &Reader<'_>,
+    commit: &Next<'_>,
+    craft: &mut Option<Craft>,
+    sink: &mut S,
+)
+    requires same { commit.now.encounter.now ≡ reader.now.encounter }
+    requires active { IsActive reader.now.encounter commit.now.own }
+    requires ready { IsReady reader.now.encounter commit.now.own (commits reader.now.read commit.now.own) craft.old }
+    requires next { commit.now.cycle ≡ commits reader.now.read commit.now.own + 1 }
+    requires run { commit.now.cycle ≤ reader.now.encounter.cycles }
+    ensures ready { IsReady reader.now.encounter commit.now.own commit.now.cycle craft.new }
+    ensures lines { S.took sink.old sink.new (flat_map row_parts (commit_rows reader.now.encounter reader.now.read commit.now.own commit.now.cycle commit.now.cells.now)) }
+{
+    match craft {
+        Some(craft) => put_commit(reader, commit, craft, sink),
+        None => unreachable!(),
+    }
+}
+
+// Puts the lines of an entry, which comes next.
+fn put_entry<S: LineSink>(
+    reader: &Reader<'_>,
+    encounter: &Encounter,
+    entry: &EntryRef<'_>,
+    crafts: &mut [Option<Craft>; CRAFTS],
+    sink: &mut S,
+)
+    requires same { encounter.now ≡ reader.now.encounter }
+    requires legal { IsLegal (air_of reader.now.encounter) (entry_of entry.now ∷ reader.now.read) }
+    requires ready { AreReady reader.now.encounter reader.now.read crafts.old }
+    ensures ready { AreReady reader.now.encounter (entry_of entry.now ∷ reader.now.read) crafts.new }
+    ensures lines { S.took sink.old sink.new (flat_map row_parts (entry_rows reader.now.encounter reader.now.read (entry_of entry.now))) }
+{
+    // No encounter has more than 16 aircraft.
+    encounter.valid_law();
+    if let EntryRef::Commit { own, cycle, cells } = *entry {
+        let commit = Next {
+            encounter,
+            own,
+            cycle,
+            cells,
+        };
+        put_by(reader, &commit, &mut crafts[usize::from(own)], sink);
+    }
+}
+
+/// Puts the lines of all commits, in order.
+pub(crate) fn put_commits<S: LineSink>(state: &AirState, sink: &mut S)
+    ensures { S.took sink.old sink.new (flat_map row_parts (reason_rows state.now.encounter state.now.journal)) }
+{
+    state.legal_law();
+    let mut reader = Reader::new(state);
+    let mut crafts = crew_of(state.enc());
+    'entries: while let Some(entry) = reader.peek() {
+        reader.reading_law();
+        put_entry(&reader, state.enc(), &entry, &mut crafts, sink);
+        let _ = reader.next();
+    }
+}
+
+// How many lines an entry has, after whatever journal.
+fn rows_of(encounter: &Encounter, entry: &EntryRef<'_>) -> u32
+    requires { IsEntry (length encounter.now.crafts) (entry_of entry.now) }
+    ensures value { (journal : List Entry) → result ≡ length (entry_rows encounter.now journal (entry_of entry.now)) }
+    ensures few { result ≤ 15 }
+{
+    match entry {
+        EntryRef::Commit { .. } => encounter.crafts().len() as u32 - 1,
+        EntryRef::Send { .. } | EntryRef::Take { .. } => 0,
+    }
+}
+
+/// How many lines the commits have.
+pub(crate) fn row_count(state: &AirState) -> u32
+    ensures { result ≡ length (reason_rows state.now.encounter state.now.journal) }
+{
+    state.legal_law();
+    let mut reader = Reader::new(state);
+    let mut count = 0;
+    'entries: while let Some(entry) = reader.next() {
+        reader.reading_law();
+        count += rows_of(state.enc(), &entry);
+    }
+    count
+}

@@ -1,0 +1,23 @@
+// What the words of the rules tell.
+ghost use Rattle.acas_base.specs.Next.{following_cell};
+ghost use Rattle.acas_base.specs.declared.advisory.Cell.{Cell};
+ghost use Rattle.acas_base.specs.declared.advisory.Rank.{Rank};
+ghost use Rattle.acas_base.specs.declared.advisory.Vrc.{Vrc};
+ghost use Rattle.acas_base.specs.declared.view.View.{View};
+ghost use Rattle.reasons.specs.Explained.{AreExplained, Explains};
+ghost use Rattle.reasons.specs.Rules.{rule_of};
+
+use air_journal::AirState;
+
+/// A law: what a rule's word says holds of the cell before, the view, the complement in force and the rank, and the cell that
+/// follows is the one that the rule gives.
+pub fn rule_law()
+    ensures { (before : Cell) (view : View) (complement : Vrc) (rank : Rank) → Explains view complement rank before (rule_of before view complement rank) (following_cell before view complement rank) }
+{}
+
+/// A law: the same of the cells of all commits of a state, each with the rule that its line tells.
+pub fn reason_law(state: &AirState)
+    ensures { AreExplained state.now.encounter state.now.journal }
+{
+    state.legal_law();
+}

@@ -1,0 +1,21 @@
+//! The reasons of the cells of a state of the air: one line for each commit and each other aircraft, with what was measured
+//! and tracked, what the tests needed, what the senses would have given, which message was in force, and by which rule the
+//! cell followed.
+#![tactic(auto)]
+
+mod columns;
+mod commits;
+mod crew;
+mod fields;
+mod halves;
+mod laws;
+mod rules;
+mod seconds;
+mod seen;
+mod text;
+mod told;
+
+pub use laws::{reason_law, rule_law};
+pub use rules::{Rule, rule_of};
+pub use seconds::test_law;
+pub use text::{Reasons, write};

@@ -1,0 +1,118 @@
+// How many seconds the tests of an advisory need.
+ghost use Rattle.std.specs.Prelude.{◌≡◌, ℕ, ◌≤◌, ◌<◌, ◌*◌, ◌^◌, IfSome, pos, unsigned_abs};
+ghost use Rattle.acas_base.specs.Ranges.{IsBetween};
+ghost use Rattle.acas_num.specs.Seconds.{need};
+ghost use Rattle.reasons.specs.Seconds.{altitude_seconds, range_seconds, AltitudeTestGoesBySeconds, RangeTestGoesBySeconds};
+ghost use Rattle.sens_table.specs.Levels.{IsTableRow};
+ghost use Rattle.tau_test.specs.RangeTest.{modified_tau};
+ghost use Rattle.vert_test.specs.AltTest.{are_opposite};
+
+use acas_base::Row;
+use acas_num::seconds_law;
+
+// The least whole number of seconds in which `b` a second make up `a`.
+fn need(a: u64, b: u64) -> u64
+    requires { 0 < b }
+    ensures value { result ≡ need a b }
+    ensures least { (seconds : ℕ) → a ≤ seconds * b → result ≤ seconds }
+{
+    seconds_law();
+    a.div_ceil(b)
+}
+
+// Modified tau in whole seconds, rounded up, beyond DMOD.
+fn modified_tau(r: u64, rate: u64, dmod: u64) -> u64
+    requires range { r ≤ 2 ^ 28 }
+    requires beyond { dmod < r }
+    requires rate { rate ≤ 2 ^ 23 }
+    requires closing { 0 < rate }
+    ensures value { result ≡ modified_tau r rate dmod }
+    ensures bound { result ≤ 2 ^ 28 }
+{
+    need(r * r - dmod * dmod, r * rate)
+}
+
+/// The least whole number of seconds for which the range test of a slant range `r` (1/1024 ft) that changes by `rdot`
+/// (1/1024 ft/s) holds: 0 within the DMOD of a row, else modified tau; none where the range doesn't close (Munoz et al. 2013).
+#[tactic(auto, unfolding(crate::specs::Seconds::range_seconds))]
+pub(crate) fn range_seconds(r: i64, rdot: i64, row: &Row) -> Option<u64>
+    requires range { IsBetween (pos 0) (pos (2 ^ 28)) r }
+    requires rate { unsigned_abs rdot ≤ 2 ^ 23 }
+    requires row { IsTableRow row.now }
+    ensures value { result ≡ range_seconds r rdot row.now }
+    ensures bound { IfSome result (λ s. s ≤ 2 ^ 28) }
+{
+    if r <= row.dmod {
+        return Some(0);
+    }
+    if rdot >= 0 {
+        return None;
+    }
+    Some(modified_tau(
+        r.unsigned_abs(),
+        rdot.unsigned_abs(),
+        row.dmod.unsigned_abs(),
+    ))
+}
+
+// One number is below zero and the other above it.
+fn are_opposite(a: i64, b: i64) -> bool
+    ensures { result ≡ are_opposite a b }
+{
+    (a < 0 && b > 0) || (a > 0 && b < 0)
+}
+
+/// The least whole number of seconds for which the altitude test of a height `dz` (1/1024 ft) that changes by `dzdot`
+/// (1/1024 ft/s) holds: 0 within the ZTHR of a row, else the time to the same altitude; none where the height doesn't shrink
+/// (Munoz et al. 2013).
+#[tactic(auto, unfolding(crate::specs::Seconds::altitude_seconds))]
+pub(crate) fn altitude_seconds(dz: i64, dzdot: i64, row: &Row) -> Option<u64>
+    requires { unsigned_abs dz ≤ 2 ^ 28 }
+    ensures value { result ≡ altitude_seconds dz dzdot row.now }
+    ensures bound { IfSome result (λ s. s ≤ 2 ^ 28) }
+{
+    if dz.unsigned_abs() <= row.zthr.unsigned_abs() {
+        return Some(0);
+    }
+    if !are_opposite(dz, dzdot) {
+        return None;
+    }
+    Some(need(dz.unsigned_abs(), dzdot.unsigned_abs()))
+}
+
+/// A law: each test of an advisory holds exactly where the seconds that it needs are within the row's tau.
+pub fn test_law()
+    ensures range { RangeTestGoesBySeconds }
+    ensures altitude { AltitudeTestGoesBySeconds }
+{}
+
+#[cfg(test)]
+mod tests {
+    use super::*;
+
+    const FOOT: i64 = 1024;
+
+    // The thresholds of a resolution advisory at level 5.
+    const LEVEL_5: Row = Row {
+        tau: 25,
+        dmod: 3_341 * FOOT,
+        zthr: 600 * FOOT,
+    };
+
+    // 88,837,719 square feet, at 4,000,000 or 3,550,000 a second.
+    #[test]
+    fn needs_whole_seconds(rt: HostRuntime) {
+        let closing = range_seconds(10_000 * FOOT, -400 * FOOT, &LEVEL_5);
+        assert_eq!(rt; closing, Some(23));
+        let slower = range_seconds(10_000 * FOOT, -355 * FOOT, &LEVEL_5);
+        assert_eq!(rt; slower, Some(26));
+        let opening = range_seconds(3_342 * FOOT, FOOT, &LEVEL_5);
+        assert_eq!(rt; opening, None);
+        let near = altitude_seconds(-600 * FOOT, FOOT, &LEVEL_5);
+        assert_eq!(rt; near, Some(0));
+        let converging = altitude_seconds(601 * FOOT, -600 * FOOT, &LEVEL_5);
+        assert_eq!(rt; converging, Some(2));
+        let level = altitude_seconds(601 * FOOT, 0, &LEVEL_5);
+        assert_eq!(rt; level, None);
+    }
+}
