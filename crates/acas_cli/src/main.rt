@@ -1,5 +1,5 @@
-//! Plays encounters between aircraft with TCAS II version 7.1: `acas serial` reads an encounter from standard input and
-//! writes its recording to standard output.
+//! Plays encounters between aircraft with TCAS II version 7.1, and judges and completes the recordings of what they did: its
+//! words say what is read from standard input and written to standard output (`acas_top::acas`).
 #![tactic(auto)]
 
 use acas_io::{StdSink, StdSource};
@@ -22,7 +22,8 @@ fn words_of<R: Env + Alloc<A = Global>>(rt: &R) -> io::Result<Vec<String>> {
 // What is told on standard error.
 fn message(status: Status) -> &'static str {
     match status {
-        Status::Usage => "usage: acas serial | play | audit | sum | gen NUMBER CRAFTS CYCLES",
+        Status::Usage =>
+            "usage: acas serial | play | audit | sum | gen NUMBER CRAFTS CYCLES | reports | sweep NUMBER COUNT CRAFTS CYCLES | response | watch | resume | why",
         Status::ReadFault => "read fault",
         Status::WriteFault => "write fault",
         Status::TooLong => "input too long",
@@ -36,7 +37,7 @@ fn main(rt: HostRuntime) -> ExitCode {
         Ok(words) => {
             let mut source = StdSource::new(rt.stdin());
             let mut sink = StdSink::new(rt.stdout());
-            acas(rt.alloc(), words.as_slice(), &mut source, &mut sink)
+            acas(&rt, rt.alloc(), words.as_slice(), &mut source, &mut sink)
         }
         Err(error) => {
             if error.kind() == ErrorKind::OutOfMemory {

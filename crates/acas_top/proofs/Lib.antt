@@ -1,2 +1,5 @@
 pub mod Endings
 pub mod OneStatus
+pub mod FewEach
+pub mod FiveWords
+pub mod Tools

@@ -1,13 +1,17 @@
 -- At most one status answers a command on the bytes that it read.
-use Rattle.std.proofs.Common.{◌≡◌, List, ℕ, refl}
-use Rattle.acas_top.specs.Answers.{Answers, IsLegal, IsWrong, Plays, Refuses}
-use Rattle.rec_audit.specs.Judging.{Judged}
+use Rattle.std.proofs.Common.{◌≡◌, List, ℕ, length, refl}
+use Rattle.acas_top.specs.Answers.{Answers, IsLegal, IsWrong, IsWrongPart, Plays, Refuses, Resumes}
+use Rattle.rec_audit.specs.Judging.{IsPartLoaded, Judged}
+use Rattle.rec_audit.specs.declared.verdict.Loaded.{Loaded}
+use Rattle.rec_audit.specs.declared.verdict.Loaded.TheVariants as loaded
 use Rattle.rec_audit.specs.declared.verdict.Verdict.{Verdict}
 use Rattle.rec_audit.specs.declared.verdict.Verdict.TheVariants as verdicts
 use Rattle.acas_top.specs.declared.status.Status.{Status}
 use Rattle.acas_top.specs.declared.status.Status.TheVariants.{Done, Refused, Wrong}
 use Rattle.acas_top.specs.declared.words.Command.{Command}
-use Rattle.acas_top.specs.declared.words.Command.TheVariants.{Audit, Gen, Serial}
+use Rattle.acas_top.specs.declared.words.Command.TheVariants.{Audit, Gen, Resume, Serial, Sweep, Tell}
+use Rattle.acas_top.specs.Telling.{Tells}
+use Rattle.acas_top.specs.declared.words.Tool.{Tool}
 
 -- What can be played has no cause to be refused.
 not-both : (bytes text other : List ℕ) → Plays bytes text → Refuses bytes other → ⊥
@@ -43,13 +47,58 @@ wrong-only law bytes text other Done wrong is = absurd (not-wrong law bytes othe
 wrong-only law bytes text other Wrong wrong is = refl
 wrong-only law bytes text other also wrong is = absurd is
 
-pub one-status : HasOneVerdict → (command : Command) (bytes text other : List ℕ) (status also : Status) → Answers command bytes status text → Answers command bytes also other → status ≡ also
-one-status law Serial bytes text other Done also is other_is = done-only bytes text other also is other_is
-one-status law Serial bytes text other Refused also is other_is = refused-only bytes text other also is other_is
-one-status law Serial bytes text other status also is other_is = absurd is
-one-status law Audit bytes text other Done also is other_is = legal-only law bytes text other also is other_is
-one-status law Audit bytes text other Wrong also is other_is = wrong-only law bytes text other also is other_is
-one-status law Audit bytes text other status also is other_is = absurd is
-one-status law (Gen number crafts cycles) bytes text other Done Done is other_is = refl
-one-status law (Gen number crafts cycles) bytes text other Done also is other_is = absurd other_is
-one-status law (Gen number crafts cycles) bytes text other status also is other_is = absurd is
+-- What a tool tells of isn't wrong.
+not-told : HasOneVerdict → (tool : Tool) (bytes text other : List ℕ) → Tells tool bytes text → IsWrong bytes other → ⊥
+not-told law tool bytes text other told wrong =
+    let same = law bytes (verdicts.Legal (length told.state.journal)) (verdicts.Wrong wrong.line wrong.reason) (record { state = told.state; recording = told.recording; count = refl }) wrong.is in
+    cc
+
+told-only : HasOneVerdict → (tool : Tool) (bytes text other : List ℕ) (also : Status) → Tells tool bytes text → Answers (Tell tool) bytes also other → Done ≡ also
+told-only law tool bytes text other Done told is = refl
+told-only law tool bytes text other Wrong told is = absurd (not-told law tool bytes text other told is)
+told-only law tool bytes text other also told is = absurd is
+
+untold-only : HasOneVerdict → (tool : Tool) (bytes text other : List ℕ) (also : Status) → IsWrong bytes text → Answers (Tell tool) bytes also other → Wrong ≡ also
+untold-only law tool bytes text other Done wrong is = absurd (not-told law tool bytes other text is wrong)
+untold-only law tool bytes text other Wrong wrong is = refl
+untold-only law tool bytes text other also wrong is = absurd is
+
+-- At most one thing is loaded from bytes as a beginning.
+abbrev pub HasOnePart : Type 0
+HasOnePart = (bytes : List ℕ) (one two : Loaded) → IsPartLoaded bytes one → IsPartLoaded bytes two → one ≡ two
+
+-- A beginning isn't wrong.
+not-wrong-part : HasOnePart → (bytes text other : List ℕ) → Resumes bytes text → IsWrongPart bytes other → ⊥
+not-wrong-part law bytes text other resumes wrong =
+    let same = law bytes (loaded.Legal resumes.begun) (loaded.Wrong wrong.line wrong.reason) resumes.beginning wrong.is in
+    cc
+
+resumed-only : HasOnePart → (bytes text other : List ℕ) (also : Status) → Resumes bytes text → Answers Resume bytes also other → Done ≡ also
+resumed-only law bytes text other Done resumes is = refl
+resumed-only law bytes text other Wrong resumes is = absurd (not-wrong-part law bytes text other resumes is)
+resumed-only law bytes text other also resumes is = absurd is
+
+wrong-part-only : HasOnePart → (bytes text other : List ℕ) (also : Status) → IsWrongPart bytes text → Answers Resume bytes also other → Wrong ≡ also
+wrong-part-only law bytes text other Done wrong is = absurd (not-wrong-part law bytes other text is wrong)
+wrong-part-only law bytes text other Wrong wrong is = refl
+wrong-part-only law bytes text other also wrong is = absurd is
+
+pub one-status : HasOneVerdict → HasOnePart → (command : Command) (bytes text other : List ℕ) (status also : Status) → Answers command bytes status text → Answers command bytes also other → status ≡ also
+one-status law part Serial bytes text other Done also is other_is = done-only bytes text other also is other_is
+one-status law part Serial bytes text other Refused also is other_is = refused-only bytes text other also is other_is
+one-status law part Serial bytes text other status also is other_is = absurd is
+one-status law part Audit bytes text other Done also is other_is = legal-only law bytes text other also is other_is
+one-status law part Audit bytes text other Wrong also is other_is = wrong-only law bytes text other also is other_is
+one-status law part Audit bytes text other status also is other_is = absurd is
+one-status law part (Gen number crafts cycles) bytes text other Done Done is other_is = refl
+one-status law part (Gen number crafts cycles) bytes text other Done also is other_is = absurd other_is
+one-status law part (Gen number crafts cycles) bytes text other status also is other_is = absurd is
+one-status law part (Tell tool) bytes text other Done also is other_is = told-only law tool bytes text other also is other_is
+one-status law part (Tell tool) bytes text other Wrong also is other_is = untold-only law tool bytes text other also is other_is
+one-status law part (Tell tool) bytes text other status also is other_is = absurd is
+one-status law part (Sweep number count crafts cycles) bytes text other Done Done is other_is = refl
+one-status law part (Sweep number count crafts cycles) bytes text other Done also is other_is = absurd other_is
+one-status law part (Sweep number count crafts cycles) bytes text other status also is other_is = absurd is
+one-status law part Resume bytes text other Done also is other_is = resumed-only part bytes text other also is other_is
+one-status law part Resume bytes text other Wrong also is other_is = wrong-part-only part bytes text other also is other_is
+one-status law part Resume bytes text other status also is other_is = absurd is

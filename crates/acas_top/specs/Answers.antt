@@ -6,8 +6,12 @@ use Rattle.acas_base.specs.declared.entry.Entry.{Entry}
 use Rattle.acas_top.specs.declared.status.Status.{Status}
 use Rattle.acas_top.specs.declared.status.Status.TheVariants.{Done, Refused, Wrong}
 use Rattle.acas_top.specs.declared.words.Command.{Command}
-use Rattle.acas_top.specs.declared.words.Command.TheVariants.{Audit, Gen, Serial}
+use Rattle.acas_top.specs.declared.words.Command.TheVariants.{Audit, Gen, Resume, Serial, Sweep, Tell}
+use Rattle.acas_top.specs.Sweeping.{Sweeps}
+use Rattle.acas_top.specs.Telling.{Tells}
 use Rattle.air_journal.specs.Airs.{air_of}
+use Rattle.air_journal.specs.States.{State}
+use Rattle.air_rules.specs.Journal.{Begins}
 use Rattle.air_rules.specs.Priority.{HasPriority}
 use Rattle.air_rules.specs.Rules.{IsComplete, IsLegal as IsLegalJournal}
 use Rattle.air_rules.specs.Safe.{IsSafe}
@@ -18,13 +22,15 @@ use Rattle.enc_file.specs.Codes.{code_number}
 use Rattle.enc_file.specs.Reading.{Says, reading_of}
 use Rattle.enc_file.specs.declared.refusal.Refusal.{Refusal}
 use Rattle.enc_gen.specs.Generated.{generated}
-use Rattle.rec_audit.specs.Judging.{Judged}
+use Rattle.rec_audit.specs.Judging.{IsBeginningOf, IsPartLoaded, Judged}
 use Rattle.rec_audit.specs.Reasons.{reason_number}
+use Rattle.rec_audit.specs.declared.verdict.Loaded.TheVariants as loaded
 use Rattle.rec_audit.specs.declared.verdict.Reason.{Reason}
 use Rattle.rec_audit.specs.declared.verdict.Reason.TheVariants.{Encounter}
 use Rattle.rec_audit.specs.declared.verdict.Verdict.{Verdict}
 use Rattle.rec_audit.specs.declared.verdict.Verdict.TheVariants as verdicts
 use Rattle.rec_text.specs.Recording.{recording}
+use Rattle.resume.specs.Filling.{IsFilled}
 
 -- The line of a refusal: the number of the record, and that of the code.
 abbrev pub refused_line : ℕ → ℕ → List ℕ
@@ -82,6 +88,27 @@ pub record IsWrong (bytes text : List ℕ) : Type 0 where
   pub is : Judged bytes (verdicts.Wrong line reason)
   pub text_is : text ≡ verdict_line (verdicts.Wrong line reason)
 
+-- Where a run that was begun begins the serial one, it became that one.
+abbrev pub IsSerialOf : Parts → List Entry → List Entry → Type 0
+IsSerialOf e begun journal = (serial : List Entry) → IsSerial (air_of e) serial → Begins begun serial → journal ≡ serial
+
+-- The bytes are a beginning of a recording, and the text is the recording of its journal, gone on with to its end.
+pub record Resumes (bytes text : List ℕ) : Type 0 where
+  pub begun : State
+  pub beginning : IsBeginningOf bytes begun
+  pub journal : List Entry
+  pub filled : IsFilled (air_of begun.encounter) begun.journal journal
+  pub run : IsRun begun.encounter journal
+  pub serial : IsSerialOf begun.encounter begun.journal journal
+  pub text_is : text ≡ recording begun.encounter journal
+
+-- They are none, and the text tells the first line that is wrong, and why.
+pub record IsWrongPart (bytes text : List ℕ) : Type 0 where
+  pub line : ℕ
+  pub reason : Reason
+  pub is : IsPartLoaded bytes (loaded.Wrong line reason)
+  pub text_is : text ≡ verdict_line (verdicts.Wrong line reason)
+
 -- This status and this text answer a command on the bytes that it read. Every other status is no answer.
 abbrev pub Answers : Command → List ℕ → Status → List ℕ → Type 0
 Answers Serial bytes Done text = Plays bytes text
@@ -92,3 +119,11 @@ Answers Audit bytes Wrong text = IsWrong bytes text
 Answers Audit bytes status text = ⊥
 Answers (Gen number crafts cycles) bytes Done text = IsMade number crafts cycles text
 Answers (Gen number crafts cycles) bytes status text = ⊥
+Answers (Tell tool) bytes Done text = Tells tool bytes text
+Answers (Tell tool) bytes Wrong text = IsWrong bytes text
+Answers (Tell tool) bytes status text = ⊥
+Answers (Sweep number count crafts cycles) bytes Done text = Sweeps number count crafts cycles text
+Answers (Sweep number count crafts cycles) bytes status text = ⊥
+Answers Resume bytes Done text = Resumes bytes text
+Answers Resume bytes Wrong text = IsWrongPart bytes text
+Answers Resume bytes status text = ⊥

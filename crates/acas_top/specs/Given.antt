@@ -2,8 +2,10 @@
 use Rattle.std.specs.Prelude.{ℕ, ◌≤◌, List, [], ◌∷◌, length, Option, None, Some}
 use Rattle.acas_lines.specs.Lines.{joined}
 use Rattle.acas_top.specs.Answers.{refused_line, verdict_line}
+use Rattle.acas_top.specs.Sweeping.{swept_lines}
+use Rattle.acas_top.specs.Telling.{tool_lines}
 use Rattle.acas_top.specs.declared.answers.Answer.{Answer}
-use Rattle.acas_top.specs.declared.answers.Answer.TheVariants.{Judged, Made, Recorded, Refused}
+use Rattle.acas_top.specs.declared.answers.Answer.TheVariants.{Judged, Made, Recorded, Refused, Swept, Told}
 use Rattle.acas_top.specs.declared.status.Status.{Status}
 use Rattle.acas_top.specs.declared.status.Status.TheVariants as statuses
 use Rattle.enc_file.specs.Canonical.{canonical_lines}
@@ -19,12 +21,16 @@ verdict_status (verdicts.Wrong line reason) = statuses.Wrong
 abbrev pub answer_status : Answer → Status
 answer_status (Recorded state) = statuses.Done
 answer_status (Made encounter) = statuses.Done
+answer_status (Swept swept) = statuses.Done
+answer_status (Told tool state) = statuses.Done
 answer_status (Judged verdict) = verdict_status verdict
 answer_status (Refused at code) = statuses.Refused
 
 abbrev pub answer_lines : Answer → List (List ℕ)
 answer_lines (Recorded state) = recording_lines state.encounter state.journal
 answer_lines (Made encounter) = canonical_lines encounter
+answer_lines (Swept swept) = swept_lines swept.first swept.count swept.list.items swept.total
+answer_lines (Told tool state) = tool_lines tool state.encounter state.journal
 answer_lines (Judged verdict) = verdict_line verdict ∷ []
 answer_lines (Refused at code) = refused_line at code ∷ []
 

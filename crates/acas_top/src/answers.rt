@@ -1,26 +1,25 @@
 // What answers a command: a status and a text.
 ghost use Rattle.std.specs.Prelude.{◌≡◌, ◌≤◌, IfOk, length};
-ghost use Rattle.acas_base.specs.Encounter.{Parts};
-ghost use Rattle.acas_top.specs.Answers.{Answers, IsMade, IsRun};
+ghost use Rattle.acas_top.specs.Answers.{Answers, IsMade};
 ghost use Rattle.acas_top.specs.Given.{IsReadable, answer_status, answer_text};
 ghost use Rattle.acas_top.specs.Words.{IsCommand, limit_of};
-ghost use Rattle.air_journal.specs.Airs.{air_of};
-ghost use Rattle.air_rules.specs.Rules.{IsComplete};
-ghost use Rattle.air_rules.specs.Serial.{IsSerial};
-ghost use Rattle.flight.specs.Inside.{IsInside};
+ghost use Rattle.acas_top.specs.Sweeping.{Sweeps};
 
 use crate::refusal::refusal_line;
+use crate::runs::{filled, serial_state};
+use crate::sweeping::{Swept, sweep};
+use crate::telling::put_told;
 use crate::verdict::verdict_line;
-use crate::{Command, Status};
+use crate::{Command, Status, Tool};
 use acas_base::Encounter;
 use acas_lines::{LineSink, Text};
-use air_journal::{AirState, priority_law, settled_law};
-use craft_worker::serial;
+use air_journal::AirState;
 use enc_file::{CanonicalText, ReadError};
 use enc_gen::make;
-use rec_audit::{Verdict, judge};
+use rec_audit::{Loaded, Verdict, judge, load, load_part};
 use rec_text::Recording;
 use std::alloc::{AllocError, Global};
+use std::thread::Threads;
 
 /// The answer to a command: its status, and the text that is put out.
 #[derive(Drop)]
@@ -29,6 +28,10 @@ pub(crate) enum Answer {
     Recorded(AirState),
     /// An encounter is made.
     Made(Encounter),
+    /// A tool tells of a recording.
+    Told(Tool, AirState),
+    /// Many encounters are played.
+    Swept(Swept),
     /// A recording is judged.
     Judged(Verdict),
     /// The input is refused: the number of the record, and that of the code.
@@ -41,7 +44,9 @@ impl Answer {
         ensures { result ≡ answer_status self.now }
     {
         match self {
-            Answer::Recorded(_) | Answer::Made(_) => Status::Done,
+            Answer::Recorded(_) | Answer::Made(_) | Answer::Told(_, _) | Answer::Swept(_) => {
+                Status::Done
+            }
             Answer::Judged(Verdict::Legal(_)) => Status::Done,
             Answer::Judged(Verdict::Wrong(_, _)) => Status::Wrong,
             Answer::Refused(_, _) => Status::Refused,
@@ -58,33 +63,12 @@ impl Text for Answer {
         match self {
             Answer::Recorded(state) => Recording(state).put(sink),
             Answer::Made(encounter) => CanonicalText(encounter).put(sink),
+            Answer::Told(tool, state) => put_told(*tool, state, sink),
+            Answer::Swept(swept) => swept.put(sink),
             Answer::Judged(verdict) => sink.line(&verdict_line(*verdict)),
             Answer::Refused(at, code) => sink.line(&refusal_line(*at, *code)),
         }
     }
-}
-
-// A law: what holds of a complete journal of a state.
-fn run_law(state: &AirState)
-    requires { IsComplete (air_of state.now.encounter) state.now.journal }
-    ensures { IsRun state.now.encounter state.now.journal }
-{
-    state.legal_law();
-    settled_law(state);
-    priority_law(state);
-}
-
-// The state of the air after the serial run of an encounter.
-fn serial_state(alloc: Global, encounter: &Encounter) -> Result<AirState, AllocError>
-    requires { IsInside encounter.now }
-    ensures encounter { IfOk result (λ state. state.encounter ≡ encounter.now) }
-    ensures serial { IfOk result (λ state. IsSerial (air_of encounter.now) state.journal) }
-    ensures run { IfOk result (λ state. IsRun encounter.now state.journal) }
-{
-    let mut state = AirState::new(alloc, encounter)?;
-    serial(&mut state, encounter);
-    run_law(&state);
-    Ok(state)
 }
 
 // The answer to `serial`.
@@ -119,8 +103,52 @@ fn answer_gen(alloc: Global, number: u32, crafts: u8, cycles: u16) -> Result<Ans
     Ok(Answer::Made(make(alloc, number, crafts, cycles)?))
 }
 
+// The answer to the word of a tool.
+#[tactic(auto, using(crate::proofs::Tools::told))]
+fn answer_tool(alloc: Global, tool: Tool, bytes: &[u8]) -> Result<Answer, AllocError>
+    requires { length bytes.now ≤ 67108864 }
+    ensures { IfOk result (λ answer. Answers (Command.Tell tool) bytes.now (answer_status answer) (answer_text answer)) }
+{
+    match load(alloc, bytes)? {
+        Loaded::Legal(state) => Ok(Answer::Told(tool, state)),
+        Loaded::Wrong(line, reason) => Ok(Answer::Judged(Verdict::Wrong(line, reason))),
+    }
+}
+
+// The answer to `sweep`.
+fn answer_sweep<R: Threads + Sync>(
+    rt: &R,
+    alloc: Global,
+    number: u32,
+    count: u16,
+    crafts: u8,
+    cycles: u16,
+) -> Result<Answer, AllocError>
+    requires { IsCommand (Command.Sweep number count crafts cycles) }
+    ensures status { IfOk result (λ answer. answer_status answer ≡ Status.Done) }
+    ensures text { IfOk result (λ answer. Sweeps number count crafts cycles (answer_text answer)) }
+{
+    Ok(Answer::Swept(sweep(rt, alloc, number, count, crafts, cycles)?))
+}
+
+// The answer to `resume`.
+fn answer_resume(alloc: Global, bytes: &[u8]) -> Result<Answer, AllocError>
+    requires { length bytes.now ≤ 67108864 }
+    ensures { IfOk result (λ answer. Answers Command.Resume bytes.now (answer_status answer) (answer_text answer)) }
+{
+    match load_part(alloc, bytes)? {
+        Loaded::Legal(begun) => Ok(Answer::Recorded(filled(alloc, begun)?)),
+        Loaded::Wrong(line, reason) => Ok(Answer::Judged(Verdict::Wrong(line, reason))),
+    }
+}
+
 /// The answer to a command on the bytes that it read. An error says that memory was wanting; all of it is asked for here.
-pub(crate) fn answer_to(alloc: Global, command: Command, bytes: &[u8]) -> Result<Answer, AllocError>
+pub(crate) fn answer_to<R: Threads + Sync>(
+    rt: &R,
+    alloc: Global,
+    command: Command,
+    bytes: &[u8],
+) -> Result<Answer, AllocError>
     requires command { IsCommand command }
     requires bytes { IsReadable (limit_of command) bytes.now }
     ensures { IfOk result (λ answer. Answers command bytes.now (answer_status answer) (answer_text answer)) }
@@ -133,5 +161,13 @@ pub(crate) fn answer_to(alloc: Global, command: Command, bytes: &[u8]) -> Result
             crafts,
             cycles,
         } => answer_gen(alloc, number, crafts, cycles),
+        Command::Tell(tool) => answer_tool(alloc, tool, bytes),
+        Command::Sweep {
+            number,
+            count,
+            crafts,
+            cycles,
+        } => answer_sweep(rt, alloc, number, count, crafts, cycles),
+        Command::Resume => answer_resume(alloc, bytes),
     }
 }

@@ -1,8 +1,15 @@
 // Whole runs of the program: tests that cross crates.
+mod faulty_recordings;
+
 use crate::{Status, acas};
 use acas_io::{MemSink, MemSource};
 use std::alloc::{AllocError, Global};
 use std::test::Fail;
+use std::thread::Threads;
+
+mod resumed;
+mod swept;
+mod told;
 
 // Two aircraft with resolution advisories that fly towards each other, at different altitudes and at the same one, without
 // the end of the text.
@@ -15,6 +22,10 @@ const LEVEL: &[u8] =
 // The same two at one altitude, in format 2.
 const LEVEL_2: &[u8] =
     b"encounter,2\nrun,31,0\ncraft,400A01,RA,0,0,35000\ncraft,400B02,RA,91200,0,35000\nleg,400A01,1,760,0,0\nleg,400B02,1,-760,0,0\n";
+
+// How the text of the two at one altitude goes on, where a copy is held back so long that it is taken last.
+const HELD_LONG: &[u8] =
+    b"gains,1024,1024,1024,1024\nleg,400B02,27,-760,0,6000\nfate,400A01,400B02,2,0,00,3,00\nfate,400A01,400B02,5\nend\n";
 
 // The lower address misses the replies of the other one from cycle 22 on, and its cancel is lost.
 const LAPSING: &[u8] =
@@ -38,13 +49,14 @@ struct Outcome {
 }
 
 // Runs the words on a source and a sink in memory, which fail at these reads and writes.
-fn run(
-    alloc: Global,
+fn run<R: Threads + Sync + Alloc<A = Global>>(
+    rt: &R,
     texts: &[&str],
     input: &[u8],
     failing_reads: &[u64],
     failing_writes: &[u64],
 ) -> Result<Outcome, AllocError> {
+    let alloc = rt.alloc();
     let mut words = Vec::new(alloc);
     for text in texts {
         words.push(String::from_str(alloc, *text)?)?;
@@ -52,15 +64,19 @@ fn run(
     let mut source = MemSource::new(input.to_vec(alloc)?, 64, failing_reads.to_vec(alloc)?);
     let room = Vec::with_capacity(alloc, 2_000_000)?;
     let mut sink = MemSink::new(room, 16, failing_writes.to_vec(alloc)?);
-    let status = acas(alloc, words.as_slice(), &mut source, &mut sink);
+    let status = acas(rt, alloc, words.as_slice(), &mut source, &mut sink);
     Ok(Outcome { status, sink })
 }
 
 // Plays a text of two parts.
-fn play(alloc: Global, open: &[u8], rest: &[u8]) -> Result<Outcome, AllocError> {
-    let mut input = open.to_vec(alloc)?;
+fn play<R: Threads + Sync + Alloc<A = Global>>(
+    rt: &R,
+    open: &[u8],
+    rest: &[u8],
+) -> Result<Outcome, AllocError> {
+    let mut input = open.to_vec(rt.alloc())?;
     input.extend_from_slice(rest)?;
-    run(alloc, &["serial"], input.as_slice(), &[], &[])
+    run(rt, &["serial"], input.as_slice(), &[], &[])
 }
 
 // How many lines of a text begin so.
@@ -99,7 +115,7 @@ const PLAYED: [Row; 17] = [
     // A copy that is held back is taken last.
     (
         LEVEL,
-        b"gains,1024,1024,1024,1024\nleg,400B02,27,-760,0,6000\nfate,400A01,400B02,2,0,00,3,00\nfate,400A01,400B02,5\nend\n",
+        HELD_LONG,
         [62, 12, 12],
         b"report,9\nr,13,400A01,TRAFFIC,Traffic traffic\nr,13,400B02,TRAFFIC,Traffic traffic\nr,26,400A01,UP-CLIMB,Climb climb\nr,26,400B02,UP-CLIMB,Climb climb\nr,27,400B02,DOWN-DESCEND,Descend descend NOW\nr,28,400A01,DOWN-DESCEND,Descend descend NOW\nr,28,400B02,DOWN-INCREASE,Increase descent\nr,29,400B02,UP-CLIMB,Climb climb NOW\nr,31,400B02,DOWN-DESCEND,Descend descend NOW\nclose\n",
     ),
@@ -189,7 +205,7 @@ const PLAYED: [Row; 17] = [
 #[test]
 fn plays_encounters(rt: HostRuntime) -> Result<(), Fail> {
     for (open, rest, counts, end) in PLAYED {
-        let done = play(rt.alloc(), open, rest)?;
+        let done = play(&rt, open, rest)?;
         assert_eq!(rt; done.status, Status::Done);
         let text = done.sink.bytes();
         assert_eq!(rt; lines_with(text, b"c,"), counts[0]);
@@ -254,7 +270,7 @@ fn entry_in(text: &[u8], position: usize) -> &[u8] {
 #[test]
 fn tells_each_entry(rt: HostRuntime) -> Result<(), Fail> {
     for (open, rest, position, line) in TOLD {
-        let done = play(rt.alloc(), open, rest)?;
+        let done = play(&rt, open, rest)?;
         assert_eq!(rt; entry_in(done.sink.bytes(), position), line);
     }
     Ok(())
@@ -282,9 +298,9 @@ fn traffic_recording(alloc: Global) -> Result<Vec<u8>, AllocError> {
 #[test]
 fn writes_whole_recordings(rt: HostRuntime) -> Result<(), Fail> {
     let alloc = rt.alloc();
-    let done = play(alloc, TRAFFIC, b"end\n")?;
+    let done = play(&rt, TRAFFIC, b"end\n")?;
     assert_eq!(rt; done.sink.bytes(), traffic_recording(alloc)?.as_slice());
-    let one = play(alloc, ONE_CYCLE, b"")?;
+    let one = play(&rt, ONE_CYCLE, b"")?;
     assert_eq!(rt; one.sink.bytes(), ONE_CYCLE_RECORDING);
     Ok(())
 }
@@ -325,7 +341,7 @@ const REFUSED: [Case; 12] = [
 #[test]
 fn refuses_by_record_and_code(rt: HostRuntime) -> Result<(), Fail> {
     for (open, rest, line) in REFUSED {
-        let refused = play(rt.alloc(), open, rest)?;
+        let refused = play(&rt, open, rest)?;
         assert_eq!(rt; refused.status, Status::Refused);
         assert_eq!(rt; refused.sink.bytes(), line);
     }
@@ -338,15 +354,15 @@ fn tells_faults(rt: HostRuntime) -> Result<(), Fail> {
     let alloc = rt.alloc();
     let mut input = APART.to_vec(alloc)?;
     input.extend_from_slice(b"end\n")?;
-    let whole = run(alloc, &["serial"], input.as_slice(), &[], &[])?;
+    let whole = run(&rt, &["serial"], input.as_slice(), &[], &[])?;
     for read in 1..4u64 {
-        let unread = run(alloc, &["serial"], input.as_slice(), &[read], &[])?;
+        let unread = run(&rt, &["serial"], input.as_slice(), &[read], &[])?;
         assert_eq!(rt; unread.status, Status::ReadFault);
         assert_eq!(rt; unread.sink.bytes(), b"".as_slice());
     }
     let writes = whole.sink.bytes().len() as u64 / 16;
     for write in 0..writes {
-        let unwritten = run(alloc, &["serial"], input.as_slice(), &[], &[write + 1])?;
+        let unwritten = run(&rt, &["serial"], input.as_slice(), &[], &[write + 1])?;
         assert_eq!(rt; unwritten.status, Status::WriteFault);
         assert!(rt; whole.sink.bytes().starts_with(unwritten.sink.bytes()));
         assert!(rt; unwritten.sink.bytes().len() < whole.sink.bytes().len());
@@ -356,12 +372,12 @@ fn tells_faults(rt: HostRuntime) -> Result<(), Fail> {
 
 #[test]
 fn reads_nothing_without_a_command(rt: HostRuntime) -> Result<(), Fail> {
-    let two = run(rt.alloc(), &["serial", "now"], ONE_CYCLE, &[1], &[1])?;
+    let two = run(&rt, &["serial", "now"], ONE_CYCLE, &[1], &[1])?;
     assert_eq!(rt; two.status, Status::Usage);
     assert_eq!(rt; two.sink.bytes(), b"".as_slice());
-    let none = run(rt.alloc(), &[], ONE_CYCLE, &[1], &[1])?;
+    let none = run(&rt, &[], ONE_CYCLE, &[1], &[1])?;
     assert_eq!(rt; none.status, Status::Usage);
-    let other = run(rt.alloc(), &["play"], ONE_CYCLE, &[1], &[1])?;
+    let other = run(&rt, &["play"], ONE_CYCLE, &[1], &[1])?;
     assert_eq!(rt; other.status, Status::Usage);
     Ok(())
 }
@@ -372,11 +388,11 @@ fn reads_texts_up_to_the_limit(rt: HostRuntime) -> Result<(), Fail> {
     let alloc = rt.alloc();
     let mut text = vec![in alloc; b'\n'; 16_777_216 - ONE_CYCLE.len()]?;
     text.extend_from_slice(ONE_CYCLE)?;
-    let done = run(alloc, &["serial"], text.as_slice(), &[], &[])?;
+    let done = run(&rt, &["serial"], text.as_slice(), &[], &[])?;
     assert_eq!(rt; done.status, Status::Done);
     assert_eq!(rt; done.sink.bytes(), ONE_CYCLE_RECORDING);
     text.push(b'\n')?;
-    let too_long = run(alloc, &["serial"], text.as_slice(), &[], &[])?;
+    let too_long = run(&rt, &["serial"], text.as_slice(), &[], &[])?;
     assert_eq!(rt; too_long.status, Status::TooLong);
     assert_eq!(rt; too_long.sink.bytes(), b"".as_slice());
     Ok(())
@@ -398,7 +414,7 @@ fn plays_sixteen_aircraft(rt: HostRuntime) -> Result<(), Fail> {
         }
     }
     text.extend_from_slice(b"end\n")?;
-    let done = run(alloc, &["serial"], text.as_slice(), &[], &[])?;
+    let done = run(&rt, &["serial"], text.as_slice(), &[], &[])?;
     assert_eq!(rt; done.status, Status::Done);
     assert_eq!(rt; lines_with(done.sink.bytes(), b"c,"), 9600);
     Ok(())
@@ -407,9 +423,9 @@ fn plays_sixteen_aircraft(rt: HostRuntime) -> Result<(), Fail> {
 // ---- recordings
 
 // The recording of the two at different altitudes.
-fn apart_recording(alloc: Global) -> Result<Vec<u8>, AllocError> {
-    let done = play(alloc, APART, b"end\n")?;
-    done.sink.bytes().to_vec(alloc)
+fn apart_recording<R: Threads + Sync + Alloc<A = Global>>(rt: &R) -> Result<Vec<u8>, AllocError> {
+    let done = play(rt, APART, b"end\n")?;
+    done.sink.bytes().to_vec(rt.alloc())
 }
 
 // The lines of a text from one number on, from 1, as far as another one, with one of them replaced.
@@ -457,10 +473,10 @@ const JUDGED: [Fault; 14] = [
 #[test]
 fn judges_recordings(rt: HostRuntime) -> Result<(), Fail> {
     let alloc = rt.alloc();
-    let recording = apart_recording(alloc)?;
+    let recording = apart_recording(&rt)?;
     for (replaced, other, last, verdict) in JUDGED {
         let text = lines_between(alloc, recording.as_slice(), 1, last, replaced, other)?;
-        let judged = run(alloc, &["audit"], text.as_slice(), &[], &[])?;
+        let judged = run(&rt, &["audit"], text.as_slice(), &[], &[])?;
         let status = if replaced == 0 && last == 102 {
             Status::Done
         } else {
@@ -475,11 +491,11 @@ fn judges_recordings(rt: HostRuntime) -> Result<(), Fail> {
 #[test]
 fn judges_a_journal_without_entries(rt: HostRuntime) -> Result<(), Fail> {
     let alloc = rt.alloc();
-    let recording = apart_recording(alloc)?;
+    let recording = apart_recording(&rt)?;
     let mut text = lines_between(alloc, recording.as_slice(), 1, 10, 10, b"journal,0")?;
     let rest = lines_between(alloc, recording.as_slice(), 97, 102, 0, b"")?;
     text.extend_from_slice(rest.as_slice())?;
-    let judged = run(alloc, &["audit"], text.as_slice(), &[], &[])?;
+    let judged = run(&rt, &["audit"], text.as_slice(), &[], &[])?;
     assert_eq!(rt; judged.sink.bytes(), b"wrong,11,5\n".as_slice());
     Ok(())
 }
@@ -489,7 +505,7 @@ fn judges_a_journal_without_entries(rt: HostRuntime) -> Result<(), Fail> {
 #[test]
 fn makes_encounters(rt: HostRuntime) -> Result<(), Fail> {
     let alloc = rt.alloc();
-    let made = run(alloc, &["gen", "7", "1", "1"], b"", &[1], &[])?;
+    let made = run(&rt, &["gen", "7", "1", "1"], b"", &[1], &[])?;
     assert_eq!(rt; made.status, Status::Done);
     assert_eq!(rt; made.sink.bytes(), ONE_CYCLE);
     for words in [
@@ -500,10 +516,10 @@ fn makes_encounters(rt: HostRuntime) -> Result<(), Fail> {
         ["gen", "4294967296", "1", "1"],
         ["Gen", "7", "1", "1"],
     ] {
-        let other = run(alloc, &words, b"", &[1], &[1])?;
+        let other = run(&rt, &words, b"", &[1], &[1])?;
         assert_eq!(rt; other.status, Status::Usage);
     }
-    let most = run(alloc, &["gen", "4294967295", "16", "600"], b"", &[1], &[])?;
+    let most = run(&rt, &["gen", "4294967295", "16", "600"], b"", &[1], &[])?;
     assert_eq!(rt; most.status, Status::Done);
     Ok(())
 }

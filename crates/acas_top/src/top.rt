@@ -14,6 +14,7 @@ use acas_io::{InError, Sink, Source, read_all};
 use acas_lines::write_text;
 use rec_audit::verdict_law;
 use std::alloc::Global;
+use std::thread::Threads;
 
 // What a command reads.
 fn read_input<S: Source>(
@@ -37,9 +38,13 @@ fn read_input<S: Source>(
 /// `serial` reads an encounter and writes the recording of its serial run, or where it is refused the line
 /// `refused,RECORD,CODE`. `audit` reads a recording and writes `legal,ENTRIES`, or where it is wrong `wrong,LINE,REASON`.
 /// `gen NUMBER CRAFTS CYCLES` reads nothing and writes the encounter that is made of this number, with
-/// so many aircraft and cycles. Every other list of words is [`Status::Usage`]. All memory is taken before the first byte is
-/// written.
-pub fn acas<S: Source, K: Sink>(
+/// so many aircraft and cycles. `sweep NUMBER COUNT CRAFTS CYCLES` reads nothing, plays the encounters that are made of so many
+/// numbers, in as many threads as there are processors, and writes what each has. `resume` reads a beginning of a recording and
+/// writes a whole one, or the line of its verdict. `reports`, `response`, `watch` and `why` read a recording and write what this tool
+/// tells of it, or the line of its verdict. Every other list of words is [`Status::Usage`]. All memory is taken before
+/// the first byte is written.
+pub fn acas<R: Threads + Sync, S: Source, K: Sink>(
+    rt: &R,
     alloc: Global,
     words: &[String],
     source: &mut S,
@@ -82,7 +87,7 @@ pub fn acas<S: Source, K: Sink>(
         Err(InError::TooLong) => return Status::TooLong,
         Err(InError::OutOfMemory) => return Status::OutOfMemory,
     };
-    let Ok(found) = answer_to(alloc, command, bytes.as_slice()) else {
+    let Ok(found) = answer_to(rt, alloc, command, bytes.as_slice()) else {
         return Status::OutOfMemory;
     };
     match write_text(&found, sink) {

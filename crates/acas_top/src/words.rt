@@ -6,6 +6,19 @@ ghost use Rattle.acas_top.specs.Words.{AreNoCommand, IsCommand, limit_of, words_
 use acas_base::CRAFTS;
 use acas_text::parse_within;
 
+/// What reads a recording, and tells something of it.
+#[derive(Clone, Copy, Debug, PartialEq, Eq)]
+pub enum Tool {
+    /// `reports`: the RA report blocks that aircraft would have downlinked.
+    Reports,
+    /// `response`: how near aircraft would have come, had each flown with the modelled response to its advisories.
+    Response,
+    /// `watch`: each interval in which two coordinating aircraft had equal senses, and its cause.
+    Watch,
+    /// `why`: why each cell is what it is.
+    Why,
+}
+
 /// What the program can be told to do.
 #[derive(Clone, Copy, Debug, PartialEq, Eq)]
 pub enum Command {
@@ -20,6 +33,18 @@ pub enum Command {
         crafts: u8,
         cycles: u16,
     },
+    /// The word of a tool: reads a recording, and writes the tool's text of it.
+    Tell(Tool),
+    /// `sweep NUMBER COUNT CRAFTS CYCLES`: reads nothing, plays the encounters that are made of so many numbers (1 to 4,096)
+    /// from a first one on, with so many aircraft (1 to 4) and cycles (1 to 120), and writes what each has.
+    Sweep {
+        number: u32,
+        count: u16,
+        crafts: u8,
+        cycles: u16,
+    },
+    /// `resume`: reads a beginning of a recording, and writes a recording of its journal, gone on with to its end.
+    Resume,
 }
 
 impl Command {
@@ -29,8 +54,8 @@ impl Command {
     {
         match self {
             Command::Serial => Some(16_777_216),
-            Command::Audit => Some(67_108_864),
-            Command::Gen { .. } => None,
+            Command::Audit | Command::Tell(_) | Command::Resume => Some(67_108_864),
+            Command::Gen { .. } | Command::Sweep { .. } => None,
         }
     }
 }
@@ -46,6 +71,21 @@ fn of_one(word: &str) -> Option<Command>
     }
     if word == "audit" {
         return Some(Command::Audit);
+    }
+    if word == "reports" {
+        return Some(Command::Tell(Tool::Reports));
+    }
+    if word == "response" {
+        return Some(Command::Tell(Tool::Response));
+    }
+    if word == "watch" {
+        return Some(Command::Tell(Tool::Watch));
+    }
+    if word == "why" {
+        return Some(Command::Tell(Tool::Why));
+    }
+    if word == "resume" {
+        return Some(Command::Resume);
     }
     None
 }
@@ -69,6 +109,27 @@ fn of_four(word: &str, number: &str, crafts: &str, cycles: &str) -> Option<Comma
     })
 }
 
+// The command of a word and four numbers.
+fn of_five(word: &str, number: &str, count: &str, crafts: &str, cycles: &str) -> Option<Command>
+    ensures some { IfSome result (λ command. word.now ∷ number.now ∷ count.now ∷ crafts.now ∷ cycles.now ∷ [] ≡ words_of command) }
+    ensures valid { IfSome result IsCommand }
+    ensures none { IfNone result (AreNoCommand (word.now ∷ number.now ∷ count.now ∷ crafts.now ∷ cycles.now ∷ [])) }
+{
+    if word != "sweep" {
+        return None;
+    }
+    let number = parse_within(number.as_bytes(), 0, u32::MAX)?;
+    let count = parse_within(count.as_bytes(), 1, 4_096)?;
+    let crafts = parse_within(crafts.as_bytes(), 1, 4)?;
+    let cycles = parse_within(cycles.as_bytes(), 1, 120)?;
+    Some(Command::Sweep {
+        number,
+        count: count as u16,
+        crafts: crafts as u8,
+        cycles: cycles as u16,
+    })
+}
+
 /// The command that the words say, or none where they say none.
 pub(crate) fn parse(words: &[String]) -> Option<Command>
     ensures some { IfSome result (λ command. map string_bytes words.now ≡ words_of command) }
@@ -80,6 +141,13 @@ pub(crate) fn parse(words: &[String]) -> Option<Command>
         [word, number, crafts, cycles] => of_four(
             word.as_str(),
             number.as_str(),
+            crafts.as_str(),
+            cycles.as_str(),
+        ),
+        [word, number, count, crafts, cycles] => of_five(
+            word.as_str(),
+            number.as_str(),
+            count.as_str(),
             crafts.as_str(),
             cycles.as_str(),
         ),

@@ -1,0 +1,50 @@
+-- The sweep over the encounters of a row of numbers.
+use Rattle.std.specs.Prelude.{◌≡◌, ℕ, List, [], ◌∷◌, ◌++◌, length, map, slice_index_or, codes}
+use Rattle.std.specs.Fmt.{decimal}
+use Rattle.std.specs.List.{AllZip, range_with_len}
+use Rattle.acas_lines.specs.Lines.{joined}
+use Rattle.acas_top.specs.Counted.{AreSerial, counts_text}
+use Rattle.enc_gen.specs.Generated.{generated}
+use Rattle.sweep.specs.Numbers.{number_at, numbers}
+use Rattle.sweep.specs.Totals.{total}
+use Rattle.sweep.specs.declared.counts.Counts.{Counts}
+
+-- How many aircraft and cycles each encounter has.
+pub record Sizes : Type 0 where
+  pub crafts : ℕ
+  pub cycles : ℕ
+
+-- What is counted of a number: the counts of the serial run of the encounter that is made of it.
+abbrev pub HasCounted : Sizes → ℕ → Counts → Type 0
+HasCounted sizes number counts = AreSerial (generated number sizes.crafts sizes.cycles) counts
+
+-- ---- the text
+
+abbrev pub sweep_count_line : ℕ → List ℕ
+sweep_count_line count = codes "sweep," ++ decimal count ++ codes "\n"
+
+abbrev pub number_line : ℕ → Counts → List ℕ
+number_line number counts = codes "e," ++ decimal number ++ codes "," ++ counts_text counts
+
+abbrev pub total_line : Counts → List ℕ
+total_line counts = codes "total," ++ counts_text counts
+
+abbrev pub nothing : Counts
+nothing = record { commits = 0; sends = 0; takes = 0; lines = 0 }
+
+-- The line at a place, from 0.
+abbrev pub line_at : ℕ → List Counts → ℕ → List ℕ
+line_at first list at = number_line (number_at first at) (slice_index_or list at nothing)
+
+abbrev pub number_lines : ℕ → List Counts → List (List ℕ)
+number_lines first list = map (line_at first list) (range_with_len 0 (length list))
+
+-- First how many there are, then a line for each number, in order, and then the sums.
+abbrev pub swept_lines : ℕ → ℕ → List Counts → Counts → List (List ℕ)
+swept_lines first count list sums = sweep_count_line count ∷ (number_lines first list ++ total_line sums ∷ [])
+
+-- The text of the sweep over so many numbers from a first one on.
+pub record Sweeps (number count crafts cycles : ℕ) (text : List ℕ) : Type 0 where
+  pub list : List Counts
+  pub counted : AllZip (HasCounted (record { crafts = crafts; cycles = cycles })) (numbers number count) list
+  pub text_is : text ≡ joined (swept_lines number count list (total list))

@@ -1,0 +1,37 @@
+// What a run counts.
+ghost use Rattle.std.specs.Prelude.{◌≡◌, ◌++◌, ◌+◌, ◌≤◌, length};
+ghost use Rattle.acas_text.specs.declared.line.TheConstants.{LINE_BYTES};
+ghost use Rattle.acas_top.specs.Counted.{counts_of, counts_text};
+
+use acas_text::Line;
+use air_journal::AirState;
+use rec_text::{entry_counts, report_count};
+use sweep::Counts;
+
+/// The counts of a run: its entries of each kind, and the lines of its report.
+pub(crate) fn counts_of(state: &AirState) -> Counts
+    ensures { result ≡ counts_of state.now.encounter state.now.journal }
+{
+    let entries = entry_counts(state);
+    Counts {
+        commits: entries.commits,
+        sends: entries.sends,
+        takes: entries.takes,
+        lines: report_count(state),
+    }
+}
+
+/// Adds counts, and the end of the line.
+pub(crate) fn add_counts(line: &mut Line, counts: &Counts)
+    requires { length line.old + 44 ≤ LINE_BYTES }
+    ensures { line.new ≡ line.old ++ counts_text counts.now }
+{
+    line.u32(counts.commits);
+    line.text(",");
+    line.u32(counts.sends);
+    line.text(",");
+    line.u32(counts.takes);
+    line.text(",");
+    line.u32(counts.lines);
+    line.text("\n");
+}
