@@ -120,6 +120,18 @@ fn goes_on_from_another_order(rt: HostRuntime) -> Result<(), Fail> {
     Ok(())
 }
 
+// No entry may follow the last one, and a line that isn't finished is none.
+#[test]
+fn refuses_a_whole_recording_and_an_unfinished_line(rt: HostRuntime) -> Result<(), Fail> {
+    let recording = apart_recording(&rt)?;
+    let whole = resume(&rt, recording.as_slice())?;
+    assert_eq!(rt; whole.sink.bytes(), b"wrong,97,6\n".as_slice());
+    let text = cut(&rt, recording.as_slice(), 60, 7)?;
+    let unfinished = resume(&rt, text.as_slice())?;
+    assert_eq!(rt; unfinished.sink.bytes(), b"wrong,61,2\n".as_slice());
+    Ok(())
+}
+
 #[test]
 fn tells_faults_of_resume(rt: HostRuntime) -> Result<(), Fail> {
     let recording = apart_recording(&rt)?;
