@@ -1,8 +1,9 @@
 -- Which texts are plain decimals.
-use Rattle.std.proofs.Common.{◌≡◌, ℤ, pos, negsuc, drop, ℕ, zero, suc, ◌<◌, ◌≤◌, ◌^◌, List, [], ◌∷◌, length, get_or, take, sym, ap, ◌∙◌, subst, arith, inl, inr}
-use Rattle.std.proofs.lemmas.Fmt.{decimal-digits_value, decimal_injective, decimal_is_IsNumeral, first_decimal, decimal_digit}
+use Rattle.std.proofs.Common.{◌≡◌, ℤ, pos, negsuc, drop, ℕ, zero, suc, ◌<◌, ◌≤◌, ◌^◌, List, [], ◌∷◌, length, get_or, take, sym, ap, ◌∙◌, subst, arith, inl, inr, suc, ◌+◌, ◌/◌, ◌%◌, length-append}
+use Rattle.std.proofs.lemmas.Fmt.{decimal-digits_value, decimal_injective, decimal_is_IsNumeral, first_decimal, decimal_digit, decimal_step}
 use Rattle.std.proofs.lemmas.Str.Parse.{digits_value-take-le, numerals_by_value, tells_digits}
 use Rattle.std.proofs.lemmas.Bool.{cases_lt}
+use Rattle.itoa.proofs.Decimal.{length_two}
 use Rattle.std.specs.Char.{digit_value}
 use Rattle.std.specs.Fmt.{decimal}
 use Rattle.std.specs.Str.Parse.{AllDigits, digits_value}
@@ -54,3 +55,11 @@ below-zero bytes (pos k) minus h =
     let short = decimal-short k (omega (arith, h.1)) in
     absurd (omega (arith, decimal-digit k 0 bytes (omega (arith, h.1)) (sym h.0) (omega (arith, short.some, ap length h.0)), ap digit_value minus))
 below-zero bytes (negsuc k) minus h = record { size = suc k; some = omega arith; small = omega (arith, h.1); spelled = sym (ap (drop 1) h.0) }
+
+-- How many digits a number of two or more has.
+pub length-from-ten : (k n : ℕ) → 10 ^ suc k ≤ n → n < 10 ^ suc (suc k) → n < 2 ^ 64 → length (decimal n) ≡ suc (suc k)
+length-from-ten zero n low high fits = length_two n (omega (arith, low)) (omega (arith, high))
+length-from-ten (suc k) n low high fits =
+    let some : 10 ≤ n = omega (arith, low) in
+    let front = length-from-ten k (n / 10) (omega (arith, low)) (omega (arith, high)) (omega arith) in
+    ap length (decimal_step n some fits) ∙ length-append (decimal (n / 10)) ((48 + n % 10) ∷ []) ∙ omega (arith, front)

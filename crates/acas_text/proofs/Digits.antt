@@ -1,42 +1,16 @@
 -- Digits that are written and read from the first one on.
-use Rattle.std.proofs.Common.{◌≡◌, ℕ, zero, suc, ◌+◌, ◌-◌, ◌*◌, ◌/◌, ◌%◌, ◌^◌, ◌<◌, true, List, [], ◌∷◌, ◌++◌, length, get_or, refl, sym, ap, ap₂, ◌∙◌, arith, length-append, pow-suc, inl, inr}
-use Rattle.std.proofs.Math.Nat.{div-div-eq-div-mul, pow-le-pow_right}
+use Rattle.std.proofs.Common.{◌≡◌, ℕ, zero, suc, ◌+◌, ◌-◌, ◌*◌, ◌/◌, ◌%◌, ◌^◌, ◌<◌, true, List, [], ◌∷◌, ◌++◌, length, get_or, refl, sym, ◌∙◌, arith, length-append, pow-suc, inl, inr, Bool, T, eqb, eqb→eq, eq-zero-or-pos, ◌&&◌, append_assoc, drop, set, add-one}
+use Rattle.std.proofs.Math.Nat.{pow-le-pow_right}
 use Rattle.std.proofs.Math.Seq.{get_or-append_seam}
 use Rattle.std.proofs.lemmas.Bool.{cases_lt}
-use Rattle.std.proofs.lemmas.Nat.{pow-add}
-use Rattle.std.proofs.lemmas.List.{append-nil, get_or_append_left}
+use Rattle.std.proofs.lemmas.List.{drop-set, get_or_append_left}
+use lib.Ieee.Fits.{and_l, and_r}
 use Rattle.std.specs.Fmt.{digit_glyph}
 use Rattle.std.specs.Char.{digit_value}
 use Rattle.std.specs.Str.Parse.{digits_value}
 use Rattle.std.proofs.lemmas.Int.Digits.{digits_value_push}
 use Rattle.acas_text.specs.Hex.{hex}
-
--- Four bits are a digit.
-pub power-of-two : (k : ℕ) → 2 ^ (4 * k) ≡ 16 ^ k
-power-of-two zero = refl
-power-of-two (suc k) =
-    let four : 4 * suc k ≡ 4 * k + 4 = omega arith in
-    ap (λ n. 2 ^ n) four ∙ pow-add 2 (4 * k) 4 ∙ ap (λ p. p * 16) (power-of-two k) ∙ sym (pow-suc 16 k)
-
--- Before the first digit.
-pub hex-start : (line : List ℕ) (k n : ℕ) → line ≡ line ++ hex (k - k) n
-unfolding hex
-hex-start line k n = let none : k - k ≡ 0 = omega arith in rw none (sym (append-nil line))
-
--- After the last one.
-pub hex-all : (k n left : ℕ) → left ≡ 0 → hex (k - left) (n / 16 ^ left) ≡ hex k n
-hex-all k n left none =
-    let digits : k - left ≡ k = omega (arith, none) in
-    let number : n / 16 ^ left ≡ n = ap (λ i. n / 16 ^ i) none ∙ omega arith in
-    ap₂ (λ (i j : ℕ). hex i j) digits number
-
--- With one digit more, down to a place.
-pub hex-next : (k place n : ℕ) → hex k (n / 16 ^ suc place) ++ digit_glyph true (n / 16 ^ place % 16) ∷ [] ≡ hex (suc k) (n / 16 ^ place)
-unfolding hex
-hex-next k place n =
-    let power : 16 ^ place * 16 ≡ 16 ^ suc place = omega (arith, pow-suc 16 place) in
-    let rest : n / 16 ^ place / 16 ≡ n / 16 ^ suc place = div-div-eq-div-mul n (16 ^ place) 16 ∙ ap (λ p. n / p) power in
-    ap (λ r. hex k r ++ digit_glyph true (n / 16 ^ place % 16) ∷ []) (sym rest)
+use Rattle.acas_text.specs.declared.hexadecimal.TheConstants.{DIGITS}
 
 -- There are as many digits as were asked for.
 pub length-hex : (k n : ℕ) → length (hex k n) ≡ k
@@ -95,3 +69,31 @@ pow-small i v h few = omega (arith, pow-le-pow_right {n = 16} (omega arith) {i =
 
 pub pow-step : (i v d : ℕ) → v < 16 ^ i → d < 16 → v * 16 + d < 16 ^ suc i
 pow-step i v d h few = omega (arith, pow-suc 16 i)
+
+-- The digits stand at their values.
+abbrev are-digits : ℕ → Bool
+are-digits zero = true
+are-digits (suc d) = eqb (get_or DIGITS d 0) (digit_glyph true d) && are-digits d
+
+are-below : (n d : ℕ) → T (are-digits n) → d < n → get_or DIGITS d 0 ≡ digit_glyph true d
+are-below zero d t h = absurd (omega arith)
+are-below (suc n) d t h = elim (eq-zero-or-pos (n - d)) [
+  | inl z ↦ let same : d ≡ n = omega arith in rw same (eqb→eq _ _ (and_l _ (are-digits n) t))
+  | inr g ↦ are-below n d (and_r _ (are-digits n) t) (omega arith)
+]
+
+pub digit-here : (d : ℕ) → d < 16 → get_or DIGITS d 0 ≡ digit_glyph true d
+digit-here d h = are-below 16 d tt h
+
+-- The last digit is written in front of those that are.
+pub hex-last : (place rest : ℕ) (text : List ℕ) → place < length text
+    → hex (suc place) rest ++ drop (suc place) text ≡ hex place (rest / 16) ++ drop place (set text place (get_or DIGITS (rest % 16) 0))
+unfolding hex
+hex-last place rest text within =
+    rw (digit-here (rest % 16) (omega arith), drop-set text place (digit_glyph true (rest % 16)) within, add-one) (append_assoc (hex place (rest / 16)) (digit_glyph true (rest % 16) ∷ []) (drop (suc place) text))
+
+-- All digits are written.
+pub written-all : (k n left rest : ℕ) (text : List ℕ) → left ≡ 0 → hex k n ≡ hex left rest ++ drop left text → text ≡ hex k n
+unfolding hex
+written-all k n zero rest text none h = sym h
+written-all k n (suc left) rest text none h = absurd (omega arith)

@@ -1,6 +1,7 @@
 // Plain decimals.
-ghost use Rattle.std.specs.Prelude.{◌≡◌, ◌<◌, ◌≤◌, ◌^◌, ℤ, IfSome, IfNone, MatchBool, MatchOption};
+ghost use Rattle.std.specs.Prelude.{◌≡◌, ◌<◌, ◌≤◌, ◌^◌, ℤ, length, IfSome, IfNone, MatchBool, MatchOption};
 ghost use Rattle.std.specs.Char.{digit_value};
+ghost use Rattle.std.specs.Fmt.{decimal};
 ghost use Rattle.acas_text.specs.Decimal.{IsPlain, IsShort, SpellsWithin};
 
 // The greatest number of ten digits.
@@ -84,4 +85,23 @@ pub fn parse_within(bytes: &[u8], low: u32, high: u32) -> Option<u32>
         return None;
     }
     Some(value as u32)
+}
+
+/// How many digits the plain decimal of a number has.
+pub(crate) fn count_digits(value: u64) -> usize
+    requires { value < 10 ^ 10 }
+    ensures { result ≡ length (decimal value) }
+{
+    match value {
+        0..=9 => 1,
+        10..=99 => 2,
+        100..=999 => 3,
+        1_000..=9_999 => 4,
+        10_000..=99_999 => 5,
+        100_000..=999_999 => 6,
+        1_000_000..=9_999_999 => 7,
+        10_000_000..=99_999_999 => 8,
+        100_000_000..=999_999_999 => 9,
+        _ => 10,
+    }
 }

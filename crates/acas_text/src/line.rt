@@ -4,8 +4,9 @@ ghost use Rattle.std.specs.Fmt.{decimal, signed_decimal};
 ghost use Rattle.std.specs.Str.Parse.{digits_value};
 ghost use Rattle.acas_text.specs.Hex.{hex};
 
-use crate::hexadecimal::digit_at;
-use itoa::{Buffer, Integer};
+use crate::decimal::count_digits;
+use crate::hexadecimal::write_hex;
+use itoa::write_digits;
 use std::marker::Model;
 
 /// The most bytes that a line holds.
@@ -65,12 +66,7 @@ impl Line {
         ensures added { self.new ≡ self.old ++ decimal value }
         ensures short { length self.new ≤ length self.old + U16_BYTES }
     {
-        // Most numbers that are told have one digit: a thirtieth of the instructions of a run of 16 aircraft in conflict.
-        if value < 10 {
-            self.push(b'0' + value as u8);
-        } else {
-            self.number(value);
-        }
+        self.number(u64::from(value));
     }
 
     /// Adds a number as a plain decimal.
@@ -79,7 +75,7 @@ impl Line {
         ensures added { self.new ≡ self.old ++ decimal value }
         ensures short { length self.new ≤ length self.old + U32_BYTES }
     {
-        self.number(value);
+        self.number(u64::from(value));
     }
 
     /// Adds a number as a plain decimal.
@@ -88,7 +84,10 @@ impl Line {
         ensures added { self.new ≡ self.old ++ signed_decimal value }
         ensures short { length self.new ≤ length self.old + I32_BYTES }
     {
-        self.number(value);
+        if value < 0 {
+            self.push(b'-');
+        }
+        self.number(u64::from(value.unsigned_abs()));
     }
 
     /// Adds the number of an address, in six hexadecimal digits 0-9A-F.
@@ -112,11 +111,10 @@ impl Line {
         // No digit is missing: what was added reads as the number.
         ensures whole { digits_value 16 (hex digits value) ≡ value }
     {
-        let mut left = digits;
-        while left > 0 {
-            left -= 1;
-            self.push(digit_at(value, left));
-        }
+        let count = usize::from(digits);
+        let end = self.len + count;
+        write_hex(&mut self.bytes[self.len..end], value);
+        self.len += count;
     }
 
     /// Adds a text.
@@ -137,13 +135,21 @@ impl Line {
         &self.bytes[..self.len]
     }
 
-    fn number<I: Integer>(&mut self, value: I)
-        requires { length self.old + I.MAX_STR_LEN ≤ LINE_BYTES }
-        ensures added { self.new ≡ self.old ++ I.text value }
-        ensures short { length self.new ≤ length self.old + I.MAX_STR_LEN }
+    // Adds a number as a plain decimal. Most numbers that are told have one digit.
+    fn number(&mut self, value: u64)
+        requires few { value < 2 ^ 32 }
+        requires room { length self.old + length (decimal value) ≤ LINE_BYTES }
+        ensures added { self.new ≡ self.old ++ decimal value }
+        ensures longer { length self.new ≡ length self.old + length (decimal value) }
     {
-        let mut buffer = Buffer::new();
-        self.add(buffer.format(value).as_bytes());
+        if value < 10 {
+            self.push(b'0' + value as u8);
+            return;
+        }
+        let count = count_digits(value);
+        let end = self.len + count;
+        let _ = write_digits(value, &mut self.bytes, end);
+        self.len += count;
     }
 
     fn push(&mut self, byte: u8)

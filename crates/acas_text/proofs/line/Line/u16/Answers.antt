@@ -1,6 +1,9 @@
-use Rattle.std.proofs.Common.{◌∙◌, ◌++◌, ap, sym}
-use Rattle.std.proofs.lemmas.Fmt.{decimal_digit}
+use Rattle.std.proofs.Common.{arith}
+use Rattle.std.proofs.lemmas.Fmt.{length-decimal-le}
 use Rattle.acas_text.proofs.line.Line.u16.Goals as goal
 
-pub returns-then-value-lt10-clause-added : goal.returns-then-value-lt10-clause-added
-returns-then-value-lt10-clause-added c = c.push.ensures ∙ ap (λ digits. c.args.self.now ++ digits) (sym (decimal_digit c.args.value c.if-value-lt10.true))
+pub number-requires-clause-room : goal.number-requires-clause-room
+number-requires-clause-room c = omega (arith, c.requires, length-decimal-le 5 c.from.result (omega arith) (omega (arith, c.from.ensures)) (omega (arith, c.from.ensures)))
+
+pub returns-clause-short : goal.returns-clause-short
+returns-clause-short c = omega (arith, c.number.ensures.longer, length-decimal-le 5 c.from.result (omega arith) (omega (arith, c.from.ensures)) (omega (arith, c.from.ensures)))
