@@ -12,7 +12,7 @@ ghost use Rattle.flight.specs.Inside.{IsInside};
 use crate::motion::{Motion, motion_of};
 use crate::others::{is_other, step_tracks};
 use crate::own::{OwnAircraft, own_of};
-use crate::pair::{no_picture, no_view, put_view};
+use crate::pair::{no_picture, put_no_view, put_view};
 use crate::tracks::Tracks;
 use acas_base::{CRAFTS, Encounter, Picture, View};
 use acas_num::TrackState;
@@ -173,7 +173,7 @@ impl Craft {
         if is_other(encounter, self.own, target) {
             put_view(own, &self.altitude, &self.tracks[usize::from(target)], view);
         } else {
-            *view = no_view();
+            put_no_view(view);
         }
     }
 

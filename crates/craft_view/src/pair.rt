@@ -23,7 +23,7 @@ pub(crate) fn put_view(own: &OwnAircraft, altitude: &AltTrack, tracks: &Tracks, 
 {
     match motion_of(altitude, tracks) {
         Some(motion) => put_tested(own, &motion, view),
-        None => *view = plain_view(false, false, own.resolution.is_some()),
+        None => put_plain(view, false, false, own.resolution.is_some()),
     }
 }
 
@@ -52,7 +52,7 @@ fn put_tested(own: &OwnAircraft, motion: &Motion, view: &mut View)
 {
     match own.resolution {
         Some(row) => *view = resolving_view(own, motion, &row),
-        None => *view = plain_view(true, is_hit(motion, &own.traffic), false),
+        None => put_plain(view, true, is_hit(motion, &own.traffic), false),
     }
 }
 
@@ -89,6 +89,34 @@ fn side_of(motion: &Motion) -> Sense
     } else {
         Sense::Down
     }
+}
+
+// Puts the view of what isn't there.
+pub(crate) fn put_no_view(view: &mut View)
+    ensures { view.new ≡ no_view }
+{
+    put_plain(view, false, false, false);
+}
+
+// Puts a plain view, field by field: one that is made first would have to be moved.
+fn put_plain(view: &mut View, tested: bool, traffic: bool, resolves: bool)
+    ensures { view.new ≡ plain_view tested traffic resolves }
+{
+    view.tested = tested;
+    view.traffic = traffic;
+    view.resolves = resolves;
+    view.threat = false;
+    view.climbs = false;
+    view.side = Sense::Up;
+    view.halves = 0;
+    view.alim = 0;
+    view.gap = 0;
+    view.rate = 0;
+    view.agl = 0;
+    view.first.up = [0; 6];
+    view.first.down = [0; 6];
+    view.later.up = [0; 6];
+    view.later.down = [0; 6];
 }
 
 fn plain_view(tested: bool, traffic: bool, resolves: bool) -> View

@@ -6,7 +6,7 @@ use Rattle.craft_view.proofs.Viewing.{view-none, view-other}
 use Rattle.craft_view.proofs.craft.Craft.put_view.Goals as goal
 
 pub returns-else-is_other : goal.returns-else-is_other
-returns-else-is_other c = c.no_view.ensures ∙ view-none c.args.encounter.now c.args.self.now.own c.args.self.now.cycle c.args.target (search rules)
+returns-else-is_other c = c.put_no_view.ensures ∙ view-none c.args.encounter.now c.args.self.now.own c.args.self.now.cycle c.args.target (search rules)
 
 pub returns-then-is_other : goal.returns-then-is_other
 returns-then-is_other c =
