@@ -1,5 +1,5 @@
 // The fates of most messages.
-ghost use Rattle.std.specs.Prelude.{◌≡◌, ◌<◌, length, IfOk};
+ghost use Rattle.std.specs.Prelude.{◌≡◌, ◌<◌, length, IfOk, IfSome, IsTrue};
 ghost use Rattle.acas_base.specs.Fates.{copies_of, fate_of};
 ghost use Rattle.acas_base.specs.declared.TheConstants.{CRAFTS};
 ghost use Rattle.air_journal.specs.Usual.{AreUnnamed, AreUsual};
@@ -14,6 +14,8 @@ use std::marker::Model;
 #[derive(Drop)]
 pub(crate) struct UsualFates {
     fates: Vec<Option<Fate>>,
+    // Where the first record of each pair stands: that of a later message mostly stands as many places on.
+    firsts: [usize; PAIRS],
 }
 
 impl Model for UsualFates {
@@ -36,15 +38,40 @@ fn all_unnamed(alloc: Global, encounter: &Encounter) -> Result<Vec<Option<Fate>>
     Ok(fates)
 }
 
-// Leaves out the pairs of the records.
-fn leave_named(fates: &mut Vec<Option<Fate>>, encounter: &Encounter)
+// Leaves out the pairs of the records, and notes where the first record of each stands.
+fn leave_named(fates: &mut Vec<Option<Fate>>, firsts: &mut [usize; PAIRS], encounter: &Encounter)
     requires { AreUnnamed encounter.now 0 fates.old.items }
     ensures { AreUnnamed encounter.now (length encounter.now.fates) fates.new.items }
 {
     let records = encounter.fates();
     for at in 0..records.len() {
         let named = records[at];
-        fates[pair_of(named.sender, named.receiver)] = None;
+        let pair = pair_of(named.sender, named.receiver);
+        if fates[pair].is_some() {
+            firsts[pair] = at;
+        }
+        fates[pair] = None;
+    }
+}
+
+// Whether a record is of this message.
+fn is_of(fate: &Fate, sender: u8, receiver: u8, number: u16) -> bool
+    ensures { IsTrue result → (fate.now.sender ≡ sender) × (fate.now.receiver ≡ receiver) × (fate.now.number ≡ number) }
+{
+    fate.sender == sender && fate.receiver == receiver && fate.number == number
+}
+
+// What becomes of a message, where the record at a place tells.
+fn fate_at(encounter: &Encounter, at: usize, sender: u8, receiver: u8, number: u16) -> Option<Fate>
+    ensures { IfSome result (λ fate. fate ≡ fate_of encounter.now sender receiver number) }
+{
+    let Some(fate) = encounter.fates().get(at) else {
+        return None;
+    };
+    if is_of(fate, sender, receiver, number) {
+        Some(*fate)
+    } else {
+        None
     }
 }
 
@@ -54,8 +81,9 @@ impl UsualFates {
         ensures { IfOk result (AreUsual encounter.now) }
     {
         let mut fates = all_unnamed(alloc, encounter)?;
-        leave_named(&mut fates, encounter);
-        Ok(UsualFates { fates })
+        let mut firsts = [0; PAIRS];
+        leave_named(&mut fates, &mut firsts, encounter);
+        Ok(UsualFates { fates, firsts })
     }
 
     /// What becomes of a message of the encounter.
@@ -65,7 +93,14 @@ impl UsualFates {
         requires usual { AreUsual encounter.now self.now }
         ensures { copies_of result ≡ copies_of (fate_of encounter.now sender receiver number) }
     {
-        match self.fates[pair_of(sender, receiver)] {
+        let pair = pair_of(sender, receiver);
+        if let Some(fate) = self.fates[pair] {
+            return fate;
+        }
+        let at = self.firsts[pair]
+            .saturating_add(usize::from(number))
+            .saturating_sub(1);
+        match fate_at(encounter, at, sender, receiver, number) {
             Some(fate) => fate,
             None => encounter.fate(sender, receiver, number),
         }
