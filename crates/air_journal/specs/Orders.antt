@@ -66,6 +66,10 @@ pub record AreOrders (kept : Kept) (orders : List (Option (List Arrival))) : Typ
   pub size : length orders ≡ CRAFTS
   pub each : (own : ℕ) → own < CRAFTS → Knows kept own (slice_index_or orders own None)
 
+-- No copy waits to be taken by it.
+abbrev pub IsQuiet : Kept → ℕ → Type 0
+IsQuiet kept own = (sender : ℕ) → sender < CRAFTS → (waiting : Waiting) → IsIn waiting (queue_at kept sender own) → ⊥
+
 -- The first copy of this sender's queue waits before all others to the aircraft, or together with them.
 pub record WaitsFirst (kept : Kept) (own sender : ℕ) : Type 0 where
   pub sender_is : sender < CRAFTS

@@ -68,6 +68,9 @@ pub(crate) fn first_due_to(tables: &Tables, own: u8, made: u16, count: u8) -> Op
     requires ordered { (sender : ℕ) → sender < count → AreOrdered (queue_at tables.now sender own) }
     ensures { MatchOption result (NoneOf tables.now own made count) (IsLeast tables.now own made count) }
 {
+    if tables.is_quiet(own) {
+        return None;
+    }
     let mut best = None;
     for sender in 0..count {
         let queue = tables.queue(sender, own);

@@ -1,5 +1,5 @@
 // The order of the messages to an aircraft.
-ghost use Rattle.std.specs.Prelude.{◌≡◌, ◌<◌, Some, [], IfOk, IfSome};
+ghost use Rattle.std.specs.Prelude.{◌≡◌, ◌<◌, Some, [], IfOk, IfSome, IsTrue};
 ghost use Rattle.acas_base.specs.declared.TheConstants.{CRAFTS};
 ghost use Rattle.air_journal.specs.Orders.{IsFront, Pushed, without_front};
 
@@ -65,6 +65,16 @@ impl Order {
             return None;
         }
         Some(self.messages[self.passed])
+    }
+
+    /// Whether the order is known and has no message.
+    pub(crate) fn is_over(&self) -> bool
+        ensures { IsTrue result → self.now ≡ Some [] }
+    {
+        if !self.known {
+            return false;
+        }
+        self.passed >= self.messages.len()
     }
 
     /// Passes over the first message.

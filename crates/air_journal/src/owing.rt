@@ -46,6 +46,9 @@ pub(crate) fn first_owed(encounter: &Encounter, tables: &Tables, own: u8) -> Opt
     requires { own < length encounter.now.crafts }
     ensures { MatchOption result (NothingOwedBy (air_of encounter.now) tables.now own (length encounter.now.crafts)) (λ owing. IsFirstOwedBy (air_of encounter.now) tables.now own owing.target owing.message) }
 {
+    if !is_ra(encounter, own) {
+        return None;
+    }
     let count = count_of(encounter);
     let address = encounter.crafts()[usize::from(own)].address;
     for target in 0..count {

@@ -1,9 +1,9 @@
 // What is kept of all aircraft and pairs, and the order of the messages to each aircraft.
-ghost use Rattle.std.specs.Prelude.{◌≡◌, ℕ, ◌+◌, ◌<◌, ◌≤◌, [], length, replicate, IfOk, MatchBool, Some};
+ghost use Rattle.std.specs.Prelude.{◌≡◌, ℕ, ◌+◌, ◌<◌, ◌≤◌, [], length, replicate, IfOk, IsTrue, MatchBool, Some};
 ghost use Rattle.acas_base.specs.Fates.{copies_of};
 ghost use Rattle.acas_base.specs.declared.TheConstants.{CRAFTS};
 ghost use Rattle.air_journal.specs.Kept.{AfterCommit, AfterSend, AfterTake, IsBlank, copies_from, link_at, made_at, queue_at, read_as, vrc_of};
-ghost use Rattle.air_journal.specs.Orders.{IsTold, StartsOtherwise, StartsWith};
+ghost use Rattle.air_journal.specs.Orders.{IsQuiet, IsTold, StartsOtherwise, StartsWith};
 ghost use Rattle.air_journal.specs.Queues.{AreOrdered};
 ghost use Rattle.air_journal.specs.Rooms.{queue_room};
 ghost use Rattle.res_message.specs.Words.{flip_word, read_word};
@@ -103,6 +103,14 @@ impl Tables {
         ensures { result.now ≡ queue_at self.now sender receiver }
     {
         self.rows.queue(sender, receiver)
+    }
+
+    /// Whether no copy waits to be taken by an aircraft, as far as the order of its messages tells.
+    pub(crate) fn is_quiet(&self, own: u8) -> bool
+        requires { own < CRAFTS }
+        ensures { IsTrue result → IsQuiet self.now own }
+    {
+        self.orders[usize::from(own)].is_over()
     }
 
     /// Looks at the first message to an aircraft, and passes over it where none of its copies waits.

@@ -14,3 +14,6 @@ loop-sender-preserved c =
 
 pub returns : goal.returns
 returns c = subst (λ (n : ℕ). Best c.args.tables.now c.args.own c.args.made n c.loop-sender.best) (let e : c.loop-sender.sender ≡ c.args.count = omega arith in e) c.loop-sender.invariant
+
+pub returns-then-is_quiet : goal.returns-then-is_quiet
+returns-then-is_quiet c = λ s below w here. absurd (c.is_quiet.ensures c.if-is_quiet.true s (omega (arith, below, c.requires.count)) w here)
