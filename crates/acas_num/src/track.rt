@@ -2,7 +2,6 @@
 ghost use Rattle.std.specs.Prelude.{◌≡◌, ℕ, ◌≤◌, ◌^◌, ℤ, ◌-ℤ◌, unsigned_abs, IfSome, List, Option, fold, reverse};
 ghost use Rattle.acas_num.specs.Tracks.{units, IsSound, IsEstimate, IsRate, IsWithinLimits, share, corrected, measured, missed, step, track};
 
-use crate::division::floor_div;
 use crate::limits::Limits;
 
 /// The state of a track (this project's profile).
@@ -134,13 +133,13 @@ fn difference(a: i64, b: i64) -> i64
     a - b
 }
 
-// The part of a difference that a gain takes over.
+// The part of a difference that a gain takes over. The shift divides by 1024 and rounds down.
 fn share(gain: u16, off: i64) -> i64
     requires { unsigned_abs off ≤ 2 ^ 29 }
     ensures value { result ≡ share gain off }
     ensures bound { unsigned_abs result ≤ 2 ^ 40 }
 {
-    floor_div(i64::from(gain) * off, 1024)
+    (i64::from(gain) * off) >> 10
 }
 
 /// A law: the track of a list of measurements and misses, the newest first, is what its steps, the
