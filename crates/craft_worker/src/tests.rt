@@ -1,52 +1,147 @@
+// Whole runs of small encounters.
+mod orders;
+
 use crate::serial;
-use acas_base::{Address, Cell, CraftSpec, Encounter, Gains, Kind, Leg, Sense};
+use acas_base::{
+    Address, Cell, CopyPlan, CraftSpec, Encounter, Fate, Gains, Kind, Leg, Miss, Sense,
+};
 use air_journal::AirState;
 use flight::inside;
 use std::alloc::Global;
 use std::test::Fail;
 
-fn aircraft(address: u32, x: i32) -> Result<CraftSpec, Fail> {
+fn aircraft(address: u32, x: i32, alt: i32) -> Result<CraftSpec, Fail> {
     Ok(CraftSpec {
         address: Address::new(address).ok_or("no address")?,
         kind: Kind::Ra,
         x,
         y: 0,
-        alt: 35_000,
+        alt,
         ceiling: None,
     })
 }
 
-fn leg(craft: u8, vx: i32) -> Leg {
+fn leg(craft: u8, from: u16, vx: i32, vz: i32) -> Leg {
     Leg {
         craft,
-        from: 1,
+        from,
         vx,
         vy: 0,
-        vz: 0,
+        vz,
     }
+}
+
+fn copy(hold: u8) -> CopyPlan {
+    CopyPlan { hold, mask: 0 }
+}
+
+// The fate of a message of the first aircraft to the second one: so many copies of two, which are held for so long.
+fn fate(number: u16, copies: u8, first: u8, second: u8) -> Fate {
+    Fate {
+        sender: 0,
+        receiver: 1,
+        number,
+        copies,
+        first: copy(first),
+        second: copy(second),
+        third: copy(0),
+    }
+}
+
+// An encounter of these parts, whose tracks all have one gain or those of the format.
+fn encounter(
+    alloc: Global,
+    cycles: u16,
+    gain: Option<u16>,
+    crafts: &[CraftSpec],
+    legs: &[Leg],
+    misses: &[Miss],
+    fates: &[Fate],
+) -> Result<Encounter, Fail> {
+    let made = Encounter::make(
+        1,
+        cycles,
+        0,
+        Gains {
+            alpha: gain.unwrap_or(683),
+            beta: gain.unwrap_or(256),
+        },
+        Gains {
+            alpha: gain.unwrap_or(512),
+            beta: gain.unwrap_or(128),
+        },
+        crafts.to_vec(alloc)?,
+        legs.to_vec(alloc)?,
+        misses.to_vec(alloc)?,
+        Vec::new(alloc),
+        fates.to_vec(alloc)?,
+    );
+    Ok(made.ok_or("refused")?)
 }
 
 // Two aircraft that fly towards each other at one altitude.
 fn meeting(alloc: Global) -> Result<Encounter, Fail> {
-    let made = Encounter::make(
-        1,
-        31,
-        0,
-        Gains {
-            alpha: 683,
-            beta: 256,
-        },
-        Gains {
-            alpha: 512,
-            beta: 128,
-        },
-        [aircraft(0x40_0A01, 0)?, aircraft(0x40_0B02, 91_200)?].to_vec(alloc)?,
-        [leg(0, 760), leg(1, -760)].to_vec(alloc)?,
-        Vec::new(alloc),
-        Vec::new(alloc),
-        Vec::new(alloc),
-    );
-    Ok(made.ok_or("refused")?)
+    let crafts = [
+        aircraft(0x40_0A01, 0, 35_000)?,
+        aircraft(0x40_0B02, 91_200, 35_000)?,
+    ];
+    let legs = [leg(0, 1, 760, 0), leg(1, 1, -760, 0)];
+    encounter(alloc, 31, None, &crafts, &legs, &[], &[])
+}
+
+// The same two, where the second one climbs in the end. One copy of the first one's second message comes late, and its fifth
+// message is lost.
+fn climbing(alloc: Global) -> Result<Encounter, Fail> {
+    let crafts = [
+        aircraft(0x40_0A01, 0, 35_000)?,
+        aircraft(0x40_0B02, 91_200, 35_000)?,
+    ];
+    let legs = [
+        leg(0, 1, 760, 0),
+        leg(1, 1, -760, 0),
+        leg(1, 27, -760, 6_000),
+    ];
+    let fates = [fate(2, 2, 0, 3), fate(5, 0, 0, 0)];
+    encounter(alloc, 31, Some(1024), &crafts, &legs, &[], &fates)
+}
+
+// One between two others.
+fn between(alloc: Global) -> Result<Encounter, Fail> {
+    let crafts = [
+        aircraft(0x40_0A01, 45_600, 34_700)?,
+        aircraft(0x40_0B02, -45_600, 35_300)?,
+        aircraft(0x40_0C03, 0, 35_000)?,
+    ];
+    let legs = [leg(0, 1, -760, 0), leg(1, 1, 760, 0)];
+    encounter(alloc, 25, Some(1024), &crafts, &legs, &[], &[])
+}
+
+fn miss(own: u8, target: u8, from: u16, to: u16) -> Miss {
+    Miss {
+        own,
+        target,
+        from,
+        to,
+    }
+}
+
+// The first one loses sight of the second one soon after its advisory, and its cancel is lost.
+fn lapsing(alloc: Global) -> Result<Encounter, Fail> {
+    let crafts = [
+        aircraft(0x40_0A01, 0, 35_000)?,
+        aircraft(0x40_0B02, 91_200, 35_000)?,
+    ];
+    let legs = [leg(0, 1, 760, 0), leg(1, 1, -760, 0)];
+    let misses = [miss(0, 1, 22, 60), miss(1, 0, 1, 31)];
+    encounter(
+        alloc,
+        33,
+        None,
+        &crafts,
+        &legs,
+        &misses,
+        &[fate(2, 0, 0, 0)],
+    )
 }
 
 // The sense of an aircraft's advisory against another one in a cycle, if it has one.

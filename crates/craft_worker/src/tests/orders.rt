@@ -1,0 +1,300 @@
+// Journals in other orders than the serial one.
+ghost use Rattle.std.specs.Prelude.{◌≡◌, ◌+◌, ◌<◌};
+ghost use Rattle.craft_view.specs.Kept.{IsActive};
+ghost use Rattle.craft_view.specs.Views.{picture_of};
+ghost use Rattle.flight.specs.Inside.{IsInside};
+
+use super::{between, climbing, lapsing, meeting, sense_in};
+use acas_base::{Encounter, Picture, Sense};
+use air_journal::{AirState, Commit, Sent, Took, TookThis, Waiting};
+use craft_view::{Craft, is_active};
+use flight::inside;
+use resume::fill;
+use std::alloc::Global;
+use std::process::Abort;
+use std::test::Fail;
+
+// In which order the entries come.
+#[derive(Clone, Copy, Debug)]
+enum Schedule {
+    /// By rounds, as in the serial order; but of the due copies the last one is taken first.
+    LastFirst,
+    /// This aircraft does all that it may, and the others go on where it has to wait.
+    Ahead(u8),
+    /// This aircraft sends where nothing else is left to do.
+    Late(u8),
+}
+
+// ---- single entries
+
+// The picture of an active aircraft's next cycle.
+fn look(enc: &Encounter, own: u8, made: u16) -> Picture
+    requires active { IsActive enc.now own }
+    requires inside { IsInside enc.now }
+    requires left { made < enc.now.cycles }
+    ensures { result ≡ picture_of enc.now own (made + 1) }
+{
+    let mut craft = Craft::new(enc, own);
+    for _cycle in 0..made {
+        let _ = craft.look(enc);
+    }
+    craft.look(enc)
+}
+
+fn commits(state: &mut AirState, own: u8) -> bool {
+    state.legal_law();
+    if !is_active(state.enc(), own) {
+        return false;
+    }
+    if state.hindrance(own).is_some() {
+        return false;
+    }
+    let picture = look(state.enc(), own, state.commits(own));
+    matches!(state.commit(own, &picture), Commit::Done(_))
+}
+
+fn sends(state: &mut AirState, own: u8) -> bool {
+    if !is_active(state.enc(), own) {
+        return false;
+    }
+    matches!(state.send(own), Sent::Done(_))
+}
+
+fn takes(state: &mut AirState, own: u8) -> bool {
+    if !is_active(state.enc(), own) {
+        return false;
+    }
+    matches!(state.take(own), Took::Done(_, _))
+}
+
+// The one that was sent last, of the due copies of a queue and another one.
+fn later_due(best: Option<Waiting>, queue: &[Waiting], made: u16) -> Option<Waiting> {
+    let mut last = best;
+    for waiting in queue {
+        let is_later = match last {
+            Some(other) => other.send <= waiting.send,
+            None => true,
+        };
+        if is_later && waiting.due <= made {
+            last = Some(*waiting);
+        }
+    }
+    last
+}
+
+// The last copy that is due to an aircraft, by the position of its send and by its number.
+fn last_due(state: &AirState, own: u8) -> Option<Waiting> {
+    let count = state.enc().crafts().len() as u8;
+    if own >= count {
+        return None;
+    }
+    let mut last = None;
+    for sender in 0..count {
+        last = later_due(last, state.waiting(sender, own), state.commits(own));
+    }
+    last
+}
+
+fn takes_last(state: &mut AirState, own: u8) -> bool {
+    if !is_active(state.enc(), own) {
+        return false;
+    }
+    match last_due(state, own) {
+        Some(last) => matches!(
+            state.take_this(own, last.send, last.copy),
+            TookThis::Done(_, _)
+        ),
+        None => false,
+    }
+}
+
+// ---- the next entry
+
+#[derive(Clone, Copy)]
+enum Act {
+    Takes,
+    Commits,
+    Sends,
+}
+
+fn acts(state: &mut AirState, own: u8, act: Act) -> bool {
+    match act {
+        Act::Takes => takes(state, own),
+        Act::Commits => commits(state, own),
+        Act::Sends => sends(state, own),
+    }
+}
+
+// The first aircraft that may do so does it, where one may.
+fn some_acts(state: &mut AirState, act: Act) -> bool {
+    for own in 0..state.enc().crafts().len() as u8 {
+        if acts(state, own, act) {
+            return true;
+        }
+    }
+    false
+}
+
+// The same of sends, but one aircraft comes last.
+fn some_sends(state: &mut AirState, late: u8) -> bool {
+    for own in 0..state.enc().crafts().len() as u8 {
+        if own != late && sends(state, own) {
+            return true;
+        }
+    }
+    sends(state, late)
+}
+
+// The last aircraft to which a copy is due takes the last one of these.
+fn some_takes_last(state: &mut AirState) -> bool {
+    let count = state.enc().crafts().len() as u8;
+    for passed in 0..count {
+        if takes_last(state, count - passed - 1) {
+            return true;
+        }
+    }
+    false
+}
+
+// Whether all aircraft have as many commits as the first one. (All are active here.)
+fn is_even(state: &AirState) -> bool {
+    for own in 0..state.enc().crafts().len() as u8 {
+        if state.commits(own) != state.commits(0) {
+            return false;
+        }
+    }
+    true
+}
+
+fn goes_round(state: &mut AirState) -> bool {
+    if !is_even(state) && some_acts(state, Act::Commits) {
+        return true;
+    }
+    some_acts(state, Act::Sends) || some_takes_last(state) || some_acts(state, Act::Commits)
+}
+
+fn goes_ahead(state: &mut AirState, own: u8) -> bool {
+    for act in [Act::Takes, Act::Commits, Act::Sends] {
+        if acts(state, own, act) {
+            return true;
+        }
+    }
+    some_acts(state, Act::Takes) || some_acts(state, Act::Commits) || some_acts(state, Act::Sends)
+}
+
+// Adds the next entry, where there is one.
+fn goes_on(state: &mut AirState, schedule: Schedule) -> bool {
+    match schedule {
+        Schedule::LastFirst => goes_round(state),
+        Schedule::Ahead(own) => goes_ahead(state, own),
+        Schedule::Late(own) => {
+            some_acts(state, Act::Takes) || some_acts(state, Act::Commits) || some_sends(state, own)
+        }
+    }
+}
+
+// The journal of a schedule, to its end or to so many entries.
+fn played(alloc: Global, enc: &Encounter, schedule: Schedule, most: u32) -> Result<AirState, Fail> {
+    if !inside(enc) {
+        return Err("outside the box".into());
+    }
+    let mut state = AirState::new(alloc, enc)?;
+    for _entry in 0..most {
+        if !goes_on(&mut state, schedule) {
+            return Ok(state);
+        }
+    }
+    Ok(state)
+}
+
+// ---- whole journals
+
+const SCHEDULES: [Schedule; 5] = [
+    Schedule::LastFirst,
+    Schedule::Ahead(0),
+    Schedule::Ahead(1),
+    Schedule::Late(0),
+    Schedule::Late(1),
+];
+
+fn begins(part: &AirState, whole: &AirState, count: u32) -> bool {
+    for at in 0..count {
+        if part.entry(at) != whole.entry(at) {
+            return false;
+        }
+    }
+    true
+}
+
+// The journal of a schedule that breaks off after so many entries, and is completed.
+fn completed(
+    alloc: Global,
+    enc: &Encounter,
+    schedule: Schedule,
+    most: u32,
+) -> Result<AirState, Fail> {
+    let mut state = played(alloc, enc, schedule, most)?;
+    let same = state.enc().copy(alloc)?;
+    fill(&mut state, &same);
+    Ok(state)
+}
+
+// Each schedule ends, with so many entries, and each is completed from three places of its middle.
+fn each_ends(rt: &impl Abort, alloc: Global, enc: &Encounter, entries: u32) -> Result<(), Fail> {
+    for schedule in SCHEDULES {
+        let whole = played(alloc, enc, schedule, 1000)?;
+        assert_eq!(rt; whole.count(), entries, "{schedule:?}");
+        assert!(rt; whole.complete(), "{schedule:?}");
+        for left in [25u32, 15, 5] {
+            let begun = entries.saturating_sub(left);
+            let state = completed(alloc, enc, schedule, begun)?;
+            assert!(rt; begins(&state, &whole, begun), "{schedule:?}, {begun}");
+            assert_eq!(rt; state.count(), entries, "{schedule:?}, {begun}");
+            assert!(rt; state.complete(), "{schedule:?}, {begun}");
+        }
+    }
+    Ok(())
+}
+
+// When an advisory comes and goes depends on no message, and after each commit with an advisory, and after the first one
+// without it, one message is sent. So in any order there are equally many sends, and takes too, since here all copies come due.
+#[test]
+fn ends_in_each_order(rt: HostRuntime) -> Result<(), Fail> {
+    let alloc = rt.alloc();
+    each_ends(&rt, alloc, &meeting(alloc)?, 86)?;
+    each_ends(&rt, alloc, &climbing(alloc)?, 86)?;
+    each_ends(&rt, alloc, &between(alloc)?, 91)?;
+    each_ends(&rt, alloc, &lapsing(alloc)?, 71)
+}
+
+// A schedule, a cycle, and the senses of both aircraft in it. Both advisories start in cycle 26, and go up where no message
+// was taken. Whoever has taken one starts in the other sense, and the aircraft of higher address turns as soon as it has.
+const SENSES: [(Schedule, u16, Sense, Sense); 8] = [
+    (Schedule::LastFirst, 26, Sense::Up, Sense::Up),
+    (Schedule::LastFirst, 27, Sense::Up, Sense::Down),
+    (Schedule::Ahead(0), 26, Sense::Up, Sense::Down),
+    (Schedule::Ahead(1), 26, Sense::Down, Sense::Up),
+    (Schedule::Late(0), 27, Sense::Up, Sense::Up),
+    (Schedule::Late(0), 28, Sense::Up, Sense::Down),
+    (Schedule::Late(1), 26, Sense::Up, Sense::Up),
+    (Schedule::Late(1), 27, Sense::Up, Sense::Down),
+];
+
+#[test]
+fn decides_by_the_order(rt: HostRuntime) -> Result<(), Fail> {
+    let enc = meeting(rt.alloc())?;
+    for (schedule, cycle, low, high) in SENSES {
+        let state = played(rt.alloc(), &enc, schedule, 1000)?;
+        assert_eq!(rt;
+            sense_in(&state, 0, 1, cycle),
+            Some(low),
+            "{schedule:?}, {cycle}"
+        );
+        assert_eq!(rt;
+            sense_in(&state, 1, 0, cycle),
+            Some(high),
+            "{schedule:?}, {cycle}"
+        );
+    }
+    Ok(())
+}
