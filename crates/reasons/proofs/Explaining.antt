@@ -4,7 +4,6 @@ use Rattle.std.specs.Prelude.{◌==◌, ◌&&◌, ◌||◌, if◌then◌else◌,
 use Rattle.std.proofs.lemmas.Bool.Decides.{nat_tests}
 use Rattle.std.proofs.lemmas.List.FromFn.{get_or-map-range_with_len}
 use Rattle.acas_base.specs.Choice.{calls_for_reversal, strength_after, weakens as weakens_to_level}
-use Rattle.acas_base.specs.Complements.{forbids}
 use Rattle.acas_base.specs.Encounter.{IsEncounter, Parts}
 use Rattle.acas_base.specs.Next.{cell_after, changes_sense, continuation_of, continuing_cell, ends, following_cell, is_turned_after, new_advisory, reversal_of, starting_cell, starting_sense, traffic_cell}
 use Rattle.acas_base.specs.Strengths.{place_of}
@@ -154,7 +153,7 @@ seen-rank : (e : Parts) (own cycle other : ℕ) → own ≢ other → (seen_of (
 unfolding seen_of
 seen-rank e own cycle other apart = sym (rank-known e own other cycle apart)
 
-cell-is : (e : Parts) (K : List Entry) (own cycle : ℕ) (made : Cells) (other : ℕ) → MayCommit (air_of e) K own cycle made → other < length e.crafts → other < CRAFTS → own ≢ other
+pub cell-is : (e : Parts) (K : List Entry) (own cycle : ℕ) (made : Cells) (other : ℕ) → MayCommit (air_of e) K own cycle made → other < length e.crafts → other < CRAFTS → own ≢ other
     → cell_at made other ≡ following_cell (last_cell K own other) (seen_of (sight_of e own cycle) other).view (complement_from (air_of e) K own other) (seen_of (sight_of e own cycle) other).rank
 cell-is e K own cycle made other may within few apart =
     let air = air_of e in

@@ -2,14 +2,13 @@
 use Rattle.std.proofs.Common.{◌≡◌, ℕ, zero, suc, List, [], ◌∷◌, ◌++◌, Option, refl, sym, ap, ◌∙◌, append_assoc}
 use Rattle.std.specs.Prelude.{codes, replicate}
 use Rattle.std.specs.Fmt.{decimal}
-use Rattle.std.specs.List.{flat_map, join_with_byte}
+use Rattle.std.specs.List.{join_with_byte}
 use Rattle.std.proofs.lemmas.List.{append-nil}
-use Rattle.std.proofs.lemmas.List.Concat.{flat_map-append}
 use Rattle.acas_base.specs.declared.advisory.Cell.{Cell}
 use Rattle.acas_base.specs.declared.view.View.{View}
 use Rattle.acas_lines.specs.Lines.{joined}
 use Rattle.reasons.specs.Columns.{chosen_fields, decided_fields, named_fields, nothing, own_fields, projected_fields, reply_fields, tested_fields, told_fields, tracked_fields}
-use Rattle.reasons.specs.Fields.{line_of_fields, with_field, with_fields}
+use Rattle.reasons.specs.Fields.{with_field, with_fields}
 use Rattle.reasons.specs.Rows.{Row, back_fields, front_fields, row_line, row_parts}
 use Rattle.reasons.specs.declared.rules.Rule.{Rule}
 use Rattle.reasons.specs.declared.seen.Seen.{Seen}

@@ -7,3 +7,5 @@ pub mod Ready
 pub mod Texts
 pub mod Reading
 pub mod Explaining
+pub mod Hearing
+pub mod OnBoard

@@ -1,6 +1,6 @@
 -- What is seen, from what is kept and measured.
-use Rattle.std.proofs.Common.{◌≡◌, ◌≢◌, ◌<◌, ◌≤◌, ◌^◌, ◌∙◌, ℕ, zero, suc, ℤ, ◌-ℤ◌, length, get_or, Option, Some, None, true, false, arith, refl, sym, ap, ap₂, inl, inr, List, ne_eqb, subst, unsigned_abs}
-use Rattle.std.specs.Prelude.{◌==◌, Bool, IfSome, if◌then◌else◌, option_map, slice_get, slice_index_or}
+use Rattle.std.proofs.Common.{◌≡◌, ◌≢◌, ◌<◌, ◌≤◌, ◌^◌, ◌∙◌, ℕ, zero, suc, ℤ, ◌-ℤ◌, length, get_or, Option, Some, None, false, arith, refl, sym, ap, ap₂, inl, inr, List, ne_eqb, subst, unsigned_abs}
+use Rattle.std.specs.Prelude.{Bool, IfSome, if◌then◌else◌, option_map, slice_get, slice_index_or}
 use Rattle.std.specs.Option.{option_and_then, option_map_or}
 use Rattle.std.proofs.lemmas.Int.{ints}
 use Rattle.std.proofs.lemmas.Option.{slice_get_cases}
@@ -20,7 +20,7 @@ use Rattle.craft_view.specs.Kept.{Belongs, Kept, kept_of}
 use Rattle.craft_view.specs.KnownTracks.{IsMotion, motion_of, no_tracks, own_track, tracks_by, tracks_of}
 use Rattle.craft_view.specs.Own.{AreRows, own_of}
 use Rattle.craft_view.specs.Sight.{Other, Sight, known_of, other_craft, sight_of}
-use Rattle.craft_view.specs.Views.{no_view, picture_of, view_by, view_in, view_of}
+use Rattle.craft_view.specs.Views.{no_view, picture_of, view_by, view_in}
 use Rattle.craft_view.specs.declared.motion.Motion.{Motion}
 use Rattle.craft_view.specs.declared.own.OwnAircraft.{OwnAircraft}
 use Rattle.flight.specs.Measurement.{measurement, own_altitude}

@@ -1,5 +1,5 @@
 -- The fields of a line, group by group. Estimates are in 1/1024 ft, rates in 1/1024 ft/s.
-use Rattle.std.specs.Prelude.{ℕ, ◌/◌, ◌&&◌, Bool, true, false, if◌then◌else◌, ℤ, ◌-ℤ◌, unsigned_abs, List, [], ◌∷◌, ◌++◌, Option, Some, None, codes, replicate}
+use Rattle.std.specs.Prelude.{ℕ, ◌/◌, ◌&&◌, true, false, if◌then◌else◌, ℤ, ◌-ℤ◌, unsigned_abs, List, [], ◌∷◌, ◌++◌, Option, Some, None, codes, replicate}
 use Rattle.std.specs.Fmt.{decimal, signed_decimal}
 use Rattle.acas_base.specs.Choice.{is_fresh_after, least_strength, separation_of, strongest}
 use Rattle.acas_base.specs.Senses.{other_sense}

@@ -1,5 +1,5 @@
 -- Lines of fields, and the texts of single fields.
-use Rattle.std.specs.Prelude.{ℕ, ◌*◌, ◌/◌, ◌%◌, Bool, if◌then◌else◌, ℤ, pos, ◌*ℤ◌, int_lt, unsigned_abs, List, [], ◌∷◌, ◌++◌, Option, Some, None, codes}
+use Rattle.std.specs.Prelude.{ℕ, ◌/◌, ◌%◌, Bool, if◌then◌else◌, ℤ, pos, ◌*ℤ◌, int_lt, unsigned_abs, List, [], ◌∷◌, ◌++◌, Option, codes}
 use Rattle.std.specs.Fmt.{decimal}
 use Rattle.std.specs.Int.{int_div_euclid}
 use Rattle.std.specs.List.{join_with_byte}

@@ -8,3 +8,4 @@ pub mod Rows
 pub mod Reasons
 pub mod Crews
 pub mod Explained
+pub mod Aboard

@@ -1,5 +1,5 @@
 -- How many seconds the tests of an advisory need.
-use Rattle.std.specs.Prelude.{◌≡◌, ℕ, ◌||◌, Bool, false, if◌then◌else◌, ℤ, pos, int_le, int_lt, nat_le, unsigned_abs, Option, Some, None}
+use Rattle.std.specs.Prelude.{◌≡◌, ℕ, Bool, false, if◌then◌else◌, ℤ, pos, int_le, int_lt, nat_le, unsigned_abs, Option, Some, None}
 use Rattle.std.specs.Option.{option_map_or}
 use Rattle.acas_base.specs.declared.level.Row.{Row}
 use Rattle.acas_num.specs.Seconds.{need}

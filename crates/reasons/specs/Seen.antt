@@ -1,5 +1,5 @@
 -- What an aircraft sees of another one in a cycle, from what it may know alone.
-use Rattle.std.specs.Prelude.{ℕ, ◌-ℤ◌, None, Option, option_map, slice_index_or}
+use Rattle.std.specs.Prelude.{ℕ, ◌-ℤ◌, None, slice_index_or}
 use Rattle.std.specs.Option.{option_and_then, option_map_or}
 use Rattle.acas_base.specs.declared.advisory.Rank.TheVariants.{Free}
 use Rattle.craft_view.specs.KnownTracks.{motion_of, own_track, tracks_of}

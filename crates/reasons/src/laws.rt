@@ -4,6 +4,7 @@ ghost use Rattle.acas_base.specs.declared.advisory.Cell.{Cell};
 ghost use Rattle.acas_base.specs.declared.advisory.Rank.{Rank};
 ghost use Rattle.acas_base.specs.declared.advisory.Vrc.{Vrc};
 ghost use Rattle.acas_base.specs.declared.view.View.{View};
+ghost use Rattle.reasons.specs.Aboard.{GoesByBoth, GoesByHearing, GoesBySight};
 ghost use Rattle.reasons.specs.Explained.{AreExplained, Explains};
 ghost use Rattle.reasons.specs.Rules.{rule_of};
 
@@ -21,3 +22,21 @@ pub fn reason_law(state: &AirState)
 {
     state.legal_law();
 }
+
+/// A law: what a line tells that was measured, tracked, tested and projected follows from the sight of own aircraft up to the
+/// cycle of the line.
+pub fn seen_law()
+    ensures { GoesBySight }
+{}
+
+/// A law: which complement was in force, and for how many commits, follows from what own aircraft heard: its own commits and the
+/// messages that it took unspoilt.
+pub fn heard_law()
+    ensures { GoesByHearing }
+{}
+
+/// A law: all of a line of a legal journal follows from both, but for its position, the addresses, and the positions of the
+/// message in force, which only name.
+pub fn on_board_law()
+    ensures { GoesByBoth }
+{}

@@ -12,10 +12,12 @@ mod laws;
 mod rules;
 mod seconds;
 mod seen;
+#[cfg(test)]
+mod tests;
 mod text;
 mod told;
 
-pub use laws::{reason_law, rule_law};
+pub use laws::{heard_law, on_board_law, reason_law, rule_law, seen_law};
 pub use rules::{Rule, rule_of};
 pub use seconds::test_law;
 pub use text::{Reasons, write};

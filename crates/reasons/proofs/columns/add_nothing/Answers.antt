@@ -1,4 +1,4 @@
-use Rattle.std.proofs.Common.{◌≡◌, ◌∙◌, ◌++◌, ap, length}
+use Rattle.std.proofs.Common.{◌∙◌, ◌++◌, ap, length}
 use Rattle.reasons.proofs.Gathered.{with-nothing}
 use Rattle.reasons.proofs.columns.add_nothing.Goals as goal
 

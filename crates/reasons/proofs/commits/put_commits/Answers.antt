@@ -1,4 +1,4 @@
-use Rattle.std.proofs.Common.{◌≡◌, ◌∙◌, ◌∷◌, ◌<◌, ◌≤◌, ap, arith, length, subst}
+use Rattle.std.proofs.Common.{◌≡◌, ◌∙◌, ◌∷◌, ap, arith, length, subst}
 use Rattle.air_journal.specs.Airs.{air_of}
 use Rattle.air_journal.specs.EntryRefs.{entry_of}
 use Rattle.air_rules.proofs.Beginnings.{begins-length}

@@ -1,6 +1,4 @@
-use Rattle.std.proofs.Common.{◌≡◌, ◌∙◌, ◌-◌, List, ap, length, subst, sym}
-use Rattle.acas_base.specs.Encounter.{Parts}
-use Rattle.acas_base.specs.declared.entry.Entry.{Entry}
+use Rattle.std.proofs.Common.{◌∙◌, ◌-◌, ap, length, subst, sym}
 use Rattle.air_journal.specs.EntryRefs.{entry_of}
 use Rattle.air_journal.specs.Ranges.{IsEntry}
 use Rattle.air_journal.specs.declared.entry_ref.EntryRef.{EntryRef}

@@ -1,4 +1,3 @@
-use Rattle.std.proofs.Common.{◌≡◌, ◌∙◌, ap, sym}
 use Rattle.reasons.proofs.Gathered.{back-joined}
 use Rattle.reasons.proofs.halves.set_back.Goals as goal
 

@@ -1,7 +1,6 @@
-use Rattle.std.proofs.Common.{◌≡◌, ◌∙◌, ◌-ℤ◌, ap, ap₂, rules, w32}
+use Rattle.std.proofs.Common.{◌≡◌, ◌∙◌, ◌-ℤ◌, ap, rules, w32}
 use Rattle.std.proofs.lemmas.Int.{to_z-of_z}
 use Rattle.acas_base.specs.Encounter.{Parts}
-use Rattle.acas_base.specs.declared.level.Level.{Level}
 use Rattle.flight.specs.Measurement.{own_altitude}
 use Rattle.sens_table.specs.Levels.{level_at}
 use Rattle.reasons.proofs.Looking.{own-side-is, small-alim}

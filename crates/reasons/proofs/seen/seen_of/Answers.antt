@@ -1,12 +1,10 @@
-use Rattle.std.proofs.Common.{◌≡◌, ◌∙◌, ◌<◌, length, get_or, ap, arith, subst, sym, refl}
-use Rattle.std.specs.Prelude.{IfSome, slice_index_or}
-use Rattle.acas_base.specs.Encounter.{IsEncounter, Parts}
+use Rattle.std.proofs.Common.{◌∙◌, ◌<◌, ap, arith, subst}
+use Rattle.std.specs.Prelude.{slice_index_or}
+use Rattle.acas_base.specs.Encounter.{IsEncounter}
 use Rattle.acas_base.specs.declared.TheConstants.{CRAFTS}
-use Rattle.acas_base.specs.declared.view.View.{View}
 use Rattle.air_journal.proofs.Bounds.{few-crafts}
 use Rattle.air_journal.specs.Airs.{air_of}
 use Rattle.air_rules.specs.Air.{rank_of}
-use Rattle.craft_view.specs.Views.{no_view}
 use Rattle.flight.specs.Measurement.{measurement}
 use Rattle.reasons.proofs.Looking.{moderate-seen, seen-is}
 use Rattle.reasons.proofs.seen.seen_of.Goals as goal

@@ -1,0 +1,77 @@
+-- What a line tells follows from what was on board: from what own aircraft saw, and from the messages that it took.
+use Rattle.std.specs.Prelude.{◌≡◌, ◌≢◌, ℕ, ◌<◌, ◌==◌, ◌&&◌, if◌then◌else◌, List, [], ◌∷◌, length, take, drop, Option, Some, None, slice_set}
+use Rattle.acas_base.specs.Encounter.{IsEncounter, Parts}
+use Rattle.acas_base.specs.declared.advisory.Cells.{Cells}
+use Rattle.acas_base.specs.declared.advisory.Vrc.{Vrc}
+use Rattle.acas_base.specs.declared.entry.Entry.{Entry}
+use Rattle.acas_base.specs.declared.entry.Entry.TheVariants.{Commit, Send, Take}
+use Rattle.air_journal.specs.Airs.{air_of}
+use Rattle.air_rules.specs.Air.{Air}
+use Rattle.air_rules.specs.Journal.{Sent, sent_at}
+use Rattle.air_rules.specs.Rules.{IsLegal}
+use Rattle.air_rules.specs.Takes.{complement_read, read_copy}
+use Rattle.craft_view.specs.Facts.{SeesAlike}
+use Rattle.reasons.specs.Reasons.{reason_row}
+use Rattle.reasons.specs.Rows.{Row}
+
+-- ---- what was heard
+
+-- An aircraft committed itself, or took a message of another one unspoilt, which put a complement in force.
+pub data Heard : Type 0 where
+  committed : Heard
+  told : (sender : ℕ) (complement : Vrc) → Heard
+
+abbrev pub with_message : Air → Option Sent → ℕ → List Heard → List Heard
+with_message air None copy heard = heard
+with_message air (Some sent) copy heard = told sent.sender (complement_read (read_copy air (Some sent) copy)) ∷ heard
+
+-- What an aircraft has heard in a journal, the newest first: its own commits and its own good takes, and of these who sent the
+-- message and what it reads as. What others entered isn't in it, nor any position.
+abbrev pub heard_in : Air → List Entry → ℕ → List Heard
+heard_in air [] craft = []
+heard_in air (Commit own cycle cells ∷ earlier) craft = if own == craft then committed ∷ heard_in air earlier craft else heard_in air earlier craft
+heard_in air (Send own target number word ∷ earlier) craft = heard_in air earlier craft
+heard_in air (Take own send copy good ∷ earlier) craft =
+    if good && own == craft then with_message air (sent_at earlier send) copy (heard_in air earlier craft) else heard_in air earlier craft
+
+-- ---- a line without its names
+
+-- A line without what only names: its position, both addresses, and the positions of the send and of the take of a message.
+abbrev pub without_names : Row → Row
+without_names row = record {
+  first = [];
+  front = slice_set (slice_set row.front 1 []) 2 [];
+  back = slice_set (slice_set row.back 13 []) 14 [];
+}
+
+-- Of such a line what was measured, tracked, tested and projected: as far as `threat`, and from `halves` to `down_ft`.
+pub record ShowsTheSame (one two : Row) : Type 0 where
+  pub front : (without_names one).front ≡ (without_names two).front
+  pub projected : take 7 one.back ≡ take 7 two.back
+
+-- From `complement` to `commits_since`.
+abbrev pub told_side : Row → List (List ℕ)
+told_side row = take 4 (drop 12 (without_names row).back)
+
+-- ---- what follows from what
+
+-- What was measured, tracked, tested and projected follows from the sight up to the cycle of the line, whatever else the
+-- encounters and the journals have.
+abbrev pub GoesBySight : Type 0
+GoesBySight = (e f : Parts) (own cycle : ℕ) → SeesAlike e f own cycle →
+    (journal_one journal_two : List Entry) (cells_one cells_two : Cells) (other : ℕ) →
+    ShowsTheSame (reason_row e journal_one own cycle cells_one other) (reason_row f journal_two own cycle cells_two other)
+
+-- What was in force, and for how many commits, follows from what was heard before.
+abbrev pub GoesByHearing : Type 0
+GoesByHearing = (e f : Parts) (own : ℕ) (journal_one journal_two : List Entry) → heard_in (air_of e) journal_one own ≡ heard_in (air_of f) journal_two own →
+    (cycle_one cycle_two : ℕ) (cells_one cells_two : Cells) (other : ℕ) →
+    told_side (reason_row e journal_one own cycle_one cells_one other) ≡ told_side (reason_row f journal_two own cycle_two cells_two other)
+
+-- All of a line of a legal journal, the cells before and after and the rule among it, follows from both.
+abbrev pub GoesByBoth : Type 0
+GoesByBoth = (e f : Parts) (own cycle : ℕ) (earlier_one earlier_two : List Entry) (cells_one cells_two : Cells) → IsEncounter e →
+    IsLegal (air_of e) (Commit own cycle cells_one ∷ earlier_one) → IsLegal (air_of f) (Commit own cycle cells_two ∷ earlier_two) →
+    SeesAlike e f own cycle → heard_in (air_of e) earlier_one own ≡ heard_in (air_of f) earlier_two own →
+    (other : ℕ) → other < length e.crafts → other ≢ own →
+    without_names (reason_row e earlier_one own cycle cells_one other) ≡ without_names (reason_row f earlier_two own cycle cells_two other)
