@@ -4,11 +4,19 @@
 
 use acas_io::{StdSink, StdSource};
 use acas_top::{Status, acas};
+use craft_worker::Pause;
 use std::alloc::Global;
 use std::io::ErrorKind;
 use std::process::ExitCode;
 use std::rt::Env;
 use std::{env, io};
+
+// Holds no aircraft.
+struct NoPause;
+
+impl Pause for NoPause {
+    fn pause(&self, _craft: u8, _cycle: u16) {}
+}
 
 // The words after the program's name.
 fn words_of<R: Env + Alloc<A = Global>>(rt: &R) -> io::Result<Vec<String>> {
@@ -37,7 +45,14 @@ fn main(rt: HostRuntime) -> ExitCode {
         Ok(words) => {
             let mut source = StdSource::new(rt.stdin());
             let mut sink = StdSink::new(rt.stdout());
-            acas(&rt, rt.alloc(), words.as_slice(), &mut source, &mut sink)
+            acas(
+                &rt,
+                rt.alloc(),
+                words.as_slice(),
+                &mut source,
+                &mut sink,
+                &NoPause,
+            )
         }
         Err(error) => {
             if error.kind() == ErrorKind::OutOfMemory {

@@ -1,6 +1,6 @@
 -- At most one status answers a command on the bytes that it read.
 use Rattle.std.proofs.Common.{◌≡◌, List, ℕ, length, refl}
-use Rattle.acas_top.specs.Answers.{Answers, IsLegal, IsWrong, IsWrongPart, Plays, Refuses, Resumes}
+use Rattle.acas_top.specs.Answers.{Answers, IsLegal, IsWrong, IsWrongPart, Plays, Refuses, Resumes, Runs}
 use Rattle.rec_audit.specs.Judging.{IsPartLoaded, Judged}
 use Rattle.rec_audit.specs.declared.verdict.Loaded.{Loaded}
 use Rattle.rec_audit.specs.declared.verdict.Loaded.TheVariants as loaded
@@ -9,7 +9,9 @@ use Rattle.rec_audit.specs.declared.verdict.Verdict.TheVariants as verdicts
 use Rattle.acas_top.specs.declared.status.Status.{Status}
 use Rattle.acas_top.specs.declared.status.Status.TheVariants.{Done, Refused, Wrong}
 use Rattle.acas_top.specs.declared.words.Command.{Command}
-use Rattle.acas_top.specs.declared.words.Command.TheVariants.{Audit, Gen, Resume, Serial, Sweep, Tell}
+use Rattle.acas_top.specs.declared.words.Command.TheVariants.{Audit, Gen, Resume, Run, Serial, Sweep, Tell}
+use Rattle.acas_top.specs.declared.words.Threaded.{Threaded}
+use Rattle.acas_top.specs.declared.words.Threaded.TheVariants.{Play, Sum}
 use Rattle.acas_top.specs.Telling.{Tells}
 use Rattle.acas_top.specs.declared.words.Tool.{Tool}
 
@@ -83,6 +85,21 @@ wrong-part-only law bytes text other Done wrong is = absurd (not-wrong-part law 
 wrong-part-only law bytes text other Wrong wrong is = refl
 wrong-part-only law bytes text other also wrong is = absurd is
 
+-- What can be run in threads has no cause to be refused.
+not-run : (run : Threaded) (bytes text other : List ℕ) → Runs run bytes text → Refuses bytes other → ⊥
+not-run Play bytes text other ran refused = let one = ran.says in let two = refused.is in cc
+not-run Sum bytes text other ran refused = let one = ran.says in let two = refused.is in cc
+
+ran-only : (run : Threaded) (bytes text other : List ℕ) (also : Status) → Runs run bytes text → Answers (Run run) bytes also other → Done ≡ also
+ran-only run bytes text other Done ran is = refl
+ran-only run bytes text other Refused ran is = absurd (not-run run bytes text other ran is)
+ran-only run bytes text other also ran is = absurd is
+
+not-run-only : (run : Threaded) (bytes text other : List ℕ) (also : Status) → Refuses bytes text → Answers (Run run) bytes also other → Refused ≡ also
+not-run-only run bytes text other Done refused is = absurd (not-run run bytes other text is refused)
+not-run-only run bytes text other Refused refused is = refl
+not-run-only run bytes text other also refused is = absurd is
+
 pub one-status : HasOneVerdict → HasOnePart → (command : Command) (bytes text other : List ℕ) (status also : Status) → Answers command bytes status text → Answers command bytes also other → status ≡ also
 one-status law part Serial bytes text other Done also is other_is = done-only bytes text other also is other_is
 one-status law part Serial bytes text other Refused also is other_is = refused-only bytes text other also is other_is
@@ -102,3 +119,6 @@ one-status law part (Sweep number count crafts cycles) bytes text other status a
 one-status law part Resume bytes text other Done also is other_is = resumed-only part bytes text other also is other_is
 one-status law part Resume bytes text other Wrong also is other_is = wrong-part-only part bytes text other also is other_is
 one-status law part Resume bytes text other status also is other_is = absurd is
+one-status law part (Run run) bytes text other Done also is other_is = ran-only run bytes text other also is other_is
+one-status law part (Run run) bytes text other Refused also is other_is = not-run-only run bytes text other also is other_is
+one-status law part (Run run) bytes text other status also is other_is = absurd is

@@ -3,10 +3,15 @@ use Rattle.std.specs.Prelude.{◌≡◌, ℕ, List, ◌++◌, Err, codes}
 use Rattle.std.specs.Fmt.{decimal}
 use Rattle.acas_base.specs.Encounter.{Parts}
 use Rattle.acas_base.specs.declared.entry.Entry.{Entry}
+use Rattle.acas_lines.specs.Lines.{joined}
+use Rattle.acas_top.specs.Counted.{AreSerial, counts_of}
+use Rattle.acas_top.specs.Summing.{summed_lines}
 use Rattle.acas_top.specs.declared.status.Status.{Status}
 use Rattle.acas_top.specs.declared.status.Status.TheVariants.{Done, Refused, Wrong}
 use Rattle.acas_top.specs.declared.words.Command.{Command}
-use Rattle.acas_top.specs.declared.words.Command.TheVariants.{Audit, Gen, Resume, Serial, Sweep, Tell}
+use Rattle.acas_top.specs.declared.words.Command.TheVariants.{Audit, Gen, Resume, Run, Serial, Sweep, Tell}
+use Rattle.acas_top.specs.declared.words.Threaded.{Threaded}
+use Rattle.acas_top.specs.declared.words.Threaded.TheVariants.{Play, Sum}
 use Rattle.acas_top.specs.Sweeping.{Sweeps}
 use Rattle.acas_top.specs.Telling.{Tells}
 use Rattle.air_journal.specs.Airs.{air_of}
@@ -31,6 +36,7 @@ use Rattle.rec_audit.specs.declared.verdict.Verdict.{Verdict}
 use Rattle.rec_audit.specs.declared.verdict.Verdict.TheVariants as verdicts
 use Rattle.rec_text.specs.Recording.{recording}
 use Rattle.resume.specs.Filling.{IsFilled}
+use Rattle.sweep.specs.declared.counts.Counts.{Counts}
 
 -- The line of a refusal: the number of the record, and that of the code.
 abbrev pub refused_line : ℕ → ℕ → List ℕ
@@ -109,6 +115,29 @@ pub record IsWrongPart (bytes text : List ℕ) : Type 0 where
   pub is : IsPartLoaded bytes (loaded.Wrong line reason)
   pub text_is : text ≡ verdict_line (verdicts.Wrong line reason)
 
+-- The bytes say an encounter, and the text is the recording of some journal of it.
+pub record PlaysSome (bytes text : List ℕ) : Type 0 where
+  pub encounter : Parts
+  pub journal : List Entry
+  pub says : Says bytes encounter
+  pub run : IsRun encounter journal
+  pub text_is : text ≡ recording encounter journal
+
+-- The bytes say an encounter. The text has the commits of some journal of it, and the counts of the serial one.
+pub record Sums (bytes text : List ℕ) : Type 0 where
+  pub encounter : Parts
+  pub journal : List Entry
+  pub counts : Counts
+  pub says : Says bytes encounter
+  pub run : IsRun encounter journal
+  pub serial : AreSerial encounter counts
+  pub text_is : text ≡ joined (summed_lines (counts_of encounter journal).commits counts)
+
+-- What a run in threads writes. It is no function of the bytes: the order of the entries is nobody's choice.
+abbrev pub Runs : Threaded → List ℕ → List ℕ → Type 0
+Runs Play bytes text = PlaysSome bytes text
+Runs Sum bytes text = Sums bytes text
+
 -- This status and this text answer a command on the bytes that it read. Every other status is no answer.
 abbrev pub Answers : Command → List ℕ → Status → List ℕ → Type 0
 Answers Serial bytes Done text = Plays bytes text
@@ -127,3 +156,6 @@ Answers (Sweep number count crafts cycles) bytes status text = ⊥
 Answers Resume bytes Done text = Resumes bytes text
 Answers Resume bytes Wrong text = IsWrongPart bytes text
 Answers Resume bytes status text = ⊥
+Answers (Run run) bytes Done text = Runs run bytes text
+Answers (Run run) bytes Refused text = Refuses bytes text
+Answers (Run run) bytes status text = ⊥

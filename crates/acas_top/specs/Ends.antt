@@ -9,7 +9,8 @@ use Rattle.acas_top.specs.Words.{IsCommand, limit_of, words_of}
 use Rattle.acas_top.specs.declared.status.Status.{Status}
 use Rattle.acas_top.specs.declared.status.Status.TheVariants.{Done, Refused, Wrong}
 use Rattle.acas_top.specs.declared.words.Command.{Command}
-use Rattle.acas_top.specs.declared.words.Command.TheVariants.{Serial}
+use Rattle.acas_top.specs.declared.words.Command.TheVariants.{Run, Serial}
+use Rattle.acas_top.specs.declared.words.Threaded.TheVariants.{Play}
 use Rattle.air_journal.specs.Airs.{air_of}
 use Rattle.air_rules.specs.Serial.{IsSerial}
 use Rattle.enc_file.specs.Reading.{Says}
@@ -55,5 +56,15 @@ pub record PlaysSerial (old new : Option (List ℕ)) (IsPut : List ℕ → Type 
   pub read : WasRead (limit_of Serial) old new bytes
   pub says : Says bytes encounter
   pub serial : IsSerial (air_of encounter) journal
+  pub run : IsRun encounter journal
+  pub put : IsPut (recording encounter journal)
+
+-- The bytes that were read say this encounter, and the recording of a journal of it was put out.
+pub record PlaysInThreads (old new : Option (List ℕ)) (IsPut : List ℕ → Type 0) : Type 0 where
+  pub bytes : List ℕ
+  pub encounter : Parts
+  pub journal : List Entry
+  pub read : WasRead (limit_of (Run Play)) old new bytes
+  pub says : Says bytes encounter
   pub run : IsRun encounter journal
   pub put : IsPut (recording encounter journal)

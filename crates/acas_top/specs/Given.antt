@@ -2,10 +2,11 @@
 use Rattle.std.specs.Prelude.{ℕ, ◌≤◌, List, [], ◌∷◌, length, Option, None, Some}
 use Rattle.acas_lines.specs.Lines.{joined}
 use Rattle.acas_top.specs.Answers.{refused_line, verdict_line}
+use Rattle.acas_top.specs.Summing.{summed_lines}
 use Rattle.acas_top.specs.Sweeping.{swept_lines}
 use Rattle.acas_top.specs.Telling.{tool_lines}
 use Rattle.acas_top.specs.declared.answers.Answer.{Answer}
-use Rattle.acas_top.specs.declared.answers.Answer.TheVariants.{Judged, Made, Recorded, Refused, Swept, Told}
+use Rattle.acas_top.specs.declared.answers.Answer.TheVariants.{Judged, Made, Recorded, Refused, Summed, Swept, Told}
 use Rattle.acas_top.specs.declared.status.Status.{Status}
 use Rattle.acas_top.specs.declared.status.Status.TheVariants as statuses
 use Rattle.enc_file.specs.Canonical.{canonical_lines}
@@ -23,6 +24,7 @@ answer_status (Recorded state) = statuses.Done
 answer_status (Made encounter) = statuses.Done
 answer_status (Swept swept) = statuses.Done
 answer_status (Told tool state) = statuses.Done
+answer_status (Summed commits counts) = statuses.Done
 answer_status (Judged verdict) = verdict_status verdict
 answer_status (Refused at code) = statuses.Refused
 
@@ -31,6 +33,7 @@ answer_lines (Recorded state) = recording_lines state.encounter state.journal
 answer_lines (Made encounter) = canonical_lines encounter
 answer_lines (Swept swept) = swept_lines swept.first swept.count swept.list.items swept.total
 answer_lines (Told tool state) = tool_lines tool state.encounter state.journal
+answer_lines (Summed commits counts) = summed_lines commits counts
 answer_lines (Judged verdict) = verdict_line verdict ∷ []
 answer_lines (Refused at code) = refused_line at code ∷ []
 

@@ -3,6 +3,7 @@ pub mod Words
 pub mod Counted
 pub mod Sweeping
 pub mod Telling
+pub mod Summing
 pub mod Answers
 pub mod Ends
 pub mod Given

@@ -2,11 +2,12 @@
 ghost use Rattle.std.specs.Prelude.{◌≡◌, ◌≤◌, IfOk, length};
 ghost use Rattle.acas_top.specs.Answers.{Answers, IsMade};
 ghost use Rattle.acas_top.specs.Given.{IsReadable, answer_status, answer_text};
-ghost use Rattle.acas_top.specs.Words.{IsCommand, limit_of};
+ghost use Rattle.acas_top.specs.Words.{IsCommand, IsPlain, limit_of};
 ghost use Rattle.acas_top.specs.Sweeping.{Sweeps};
 
 use crate::refusal::refusal_line;
 use crate::runs::{filled, serial_state};
+use crate::summing::put_summed;
 use crate::sweeping::{Swept, sweep};
 use crate::telling::put_told;
 use crate::verdict::verdict_line;
@@ -20,6 +21,7 @@ use rec_audit::{Loaded, Verdict, judge, load, load_part};
 use rec_text::Recording;
 use std::alloc::{AllocError, Global};
 use std::thread::Threads;
+use sweep::Counts;
 
 /// The answer to a command: its status, and the text that is put out.
 #[derive(Drop)]
@@ -32,6 +34,8 @@ pub(crate) enum Answer {
     Told(Tool, AirState),
     /// Many encounters are played.
     Swept(Swept),
+    /// A run in threads has so many commits, and the serial run these counts.
+    Summed(u32, Counts),
     /// A recording is judged.
     Judged(Verdict),
     /// The input is refused: the number of the record, and that of the code.
@@ -44,9 +48,11 @@ impl Answer {
         ensures { result ≡ answer_status self.now }
     {
         match self {
-            Answer::Recorded(_) | Answer::Made(_) | Answer::Told(_, _) | Answer::Swept(_) => {
-                Status::Done
-            }
+            Answer::Recorded(_)
+            | Answer::Made(_)
+            | Answer::Told(_, _)
+            | Answer::Swept(_)
+            | Answer::Summed(_, _) => Status::Done,
             Answer::Judged(Verdict::Legal(_)) => Status::Done,
             Answer::Judged(Verdict::Wrong(_, _)) => Status::Wrong,
             Answer::Refused(_, _) => Status::Refused,
@@ -65,6 +71,7 @@ impl Text for Answer {
             Answer::Made(encounter) => CanonicalText(encounter).put(sink),
             Answer::Told(tool, state) => put_told(*tool, state, sink),
             Answer::Swept(swept) => swept.put(sink),
+            Answer::Summed(commits, counts) => put_summed(*commits, counts, sink),
             Answer::Judged(verdict) => sink.line(&verdict_line(*verdict)),
             Answer::Refused(at, code) => sink.line(&refusal_line(*at, *code)),
         }
@@ -142,7 +149,7 @@ fn answer_resume(alloc: Global, bytes: &[u8]) -> Result<Answer, AllocError>
     }
 }
 
-/// The answer to a command on the bytes that it read. An error says that memory was wanting; all of it is asked for here.
+/// The answer to a plain command on the bytes that it read. An error says that memory was wanting; all of it is asked for here.
 pub(crate) fn answer_to<R: Threads + Sync>(
     rt: &R,
     alloc: Global,
@@ -150,6 +157,7 @@ pub(crate) fn answer_to<R: Threads + Sync>(
     bytes: &[u8],
 ) -> Result<Answer, AllocError>
     requires command { IsCommand command }
+    requires plain { IsPlain command }
     requires bytes { IsReadable (limit_of command) bytes.now }
     ensures { IfOk result (λ answer. Answers command bytes.now (answer_status answer) (answer_text answer)) }
 {
@@ -169,5 +177,6 @@ pub(crate) fn answer_to<R: Threads + Sync>(
             cycles,
         } => answer_sweep(rt, alloc, number, count, crafts, cycles),
         Command::Resume => answer_resume(alloc, bytes),
+        Command::Run(_) => unreachable!(),
     }
 }

@@ -1,7 +1,7 @@
 // Whole runs of the program: tests that cross crates.
 mod faulty_recordings;
 
-use crate::{Status, acas};
+use crate::{Status, acas_plain};
 use acas_io::{MemSink, MemSource};
 use std::alloc::{AllocError, Global};
 use std::test::Fail;
@@ -64,7 +64,7 @@ fn run<R: Threads + Sync + Alloc<A = Global>>(
     let mut source = MemSource::new(input.to_vec(alloc)?, 64, failing_reads.to_vec(alloc)?);
     let room = Vec::with_capacity(alloc, 2_000_000)?;
     let mut sink = MemSink::new(room, 16, failing_writes.to_vec(alloc)?);
-    let status = acas(rt, alloc, words.as_slice(), &mut source, &mut sink);
+    let status = acas_plain(rt, alloc, words.as_slice(), &mut source, &mut sink);
     Ok(Outcome { status, sink })
 }
 

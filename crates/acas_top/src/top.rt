@@ -1,11 +1,11 @@
-// The top call: words and bytes in, bytes and a status out.
+// The top call for all words that wait for nobody: words and bytes in, bytes and a status out.
 ghost use Rattle.std.specs.Prelude.{◌≡◌, ◌↔◌, ◌⊎◌, ℕ, List, None, IfOk, IsErrOf, map};
 ghost use Rattle.std.specs.String.{string_bytes};
 ghost use Rattle.acas_io.specs.Faults.{Rose};
 ghost use Rattle.acas_io.specs.Stream.{Grew, GrewByPrefix};
 ghost use Rattle.acas_top.specs.Answers.{Answers};
 ghost use Rattle.acas_top.specs.Ends.{Answered, IsAnswer, IsTooLong, IsWithin, PlaysSerial, WasRead};
-ghost use Rattle.acas_top.specs.Words.{AreNoCommand, limit_of, words_of};
+ghost use Rattle.acas_top.specs.Words.{AreNoPlainCommand, limit_of, words_of};
 
 use crate::answers::answer_to;
 use crate::words::parse;
@@ -16,8 +16,8 @@ use rec_audit::verdict_law;
 use std::alloc::Global;
 use std::thread::Threads;
 
-// What a command reads.
-fn read_input<S: Source>(
+/// What a command reads.
+pub(crate) fn read_input<S: Source>(
     alloc: Global,
     command: Command,
     source: &mut S,
@@ -33,7 +33,7 @@ fn read_input<S: Source>(
     }
 }
 
-/// Does what the words of a command line say: reads the source, writes the sink, and says how it ended.
+/// Does what the words of a plain command say, which waits for nobody: reads the source, writes the sink, and says how it ended.
 ///
 /// `serial` reads an encounter and writes the recording of its serial run, or where it is refused the line
 /// `refused,RECORD,CODE`. `audit` reads a recording and writes `legal,ENTRIES`, or where it is wrong `wrong,LINE,REASON`.
@@ -43,14 +43,14 @@ fn read_input<S: Source>(
 /// writes a whole one, or the line of its verdict. `reports`, `response`, `watch` and `why` read a recording and write what this tool
 /// tells of it, or the line of its verdict. Every other list of words is [`Status::Usage`]. All memory is taken before
 /// the first byte is written.
-pub fn acas<R: Threads + Sync, S: Source, K: Sink>(
+pub fn acas_plain<R: Threads + Sync, S: Source, K: Sink>(
     rt: &R,
     alloc: Global,
     words: &[String],
     source: &mut S,
     sink: &mut K,
 ) -> Status
-    ensures usage { (result ≡ Status.Usage) ↔ AreNoCommand (map string_bytes words.now) }
+    ensures usage { (result ≡ Status.Usage) ↔ AreNoPlainCommand (map string_bytes words.now) }
     ensures untouched { result ≡ Status.Usage → (source.new ≡ source.old) × (sink.new ≡ sink.old) }
 
     // The status and what was written are the answer to the command on the bytes that were read, to their end.
@@ -67,7 +67,7 @@ pub fn acas<R: Threads + Sync, S: Source, K: Sink>(
 
     // Where the source has no more bytes than the limit and no fault is counted, a command is answered, unless memory is
     // wanting.
-    ensures complete { (AreNoCommand (map string_bytes words.now) → ⊥) → IsWithin (map string_bytes words.now) (S.left source.old)
+    ensures complete { (AreNoPlainCommand (map string_bytes words.now) → ⊥) → IsWithin (map string_bytes words.now) (S.left source.old)
         → (Rose (S.faults source.old) (S.faults source.new) → ⊥) → (Rose (K.faults sink.old) (K.faults sink.new) → ⊥)
         → IsAnswer result ⊎ (result ≡ Status.OutOfMemory) }
 

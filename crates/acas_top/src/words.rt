@@ -1,7 +1,7 @@
 // The commands, and the words that say them.
 ghost use Rattle.std.specs.Prelude.{◌≡◌, [], ◌∷◌, IfNone, IfSome, map};
 ghost use Rattle.std.specs.String.{string_bytes};
-ghost use Rattle.acas_top.specs.Words.{AreNoCommand, IsCommand, limit_of, words_of};
+ghost use Rattle.acas_top.specs.Words.{AreNoPlainCommand, AreNoThreadedRun, IsCommand, IsPlain, limit_of, words_of};
 
 use acas_base::CRAFTS;
 use acas_text::parse_within;
@@ -17,6 +17,15 @@ pub enum Tool {
     Watch,
     /// `why`: why each cell is what it is.
     Why,
+}
+
+/// What runs an encounter in threads, one for each of its aircraft.
+#[derive(Clone, Copy, Debug, PartialEq, Eq)]
+pub enum Threaded {
+    /// `play`: writes the recording of the run.
+    Play,
+    /// `sum`: compares the run with the serial one, in two lines.
+    Sum,
 }
 
 /// What the program can be told to do.
@@ -45,6 +54,8 @@ pub enum Command {
     },
     /// `resume`: reads a beginning of a recording, and writes a recording of its journal, gone on with to its end.
     Resume,
+    /// The word of a run in threads: reads an encounter.
+    Run(Threaded),
 }
 
 impl Command {
@@ -53,7 +64,7 @@ impl Command {
         ensures { result ≡ limit_of self }
     {
         match self {
-            Command::Serial => Some(16_777_216),
+            Command::Serial | Command::Run(_) => Some(16_777_216),
             Command::Audit | Command::Tell(_) | Command::Resume => Some(67_108_864),
             Command::Gen { .. } | Command::Sweep { .. } => None,
         }
@@ -64,7 +75,8 @@ impl Command {
 fn of_one(word: &str) -> Option<Command>
     ensures some { IfSome result (λ command. word.now ∷ [] ≡ words_of command) }
     ensures valid { IfSome result IsCommand }
-    ensures none { IfNone result (AreNoCommand (word.now ∷ [])) }
+    ensures plain { IfSome result IsPlain }
+    ensures none { IfNone result (AreNoPlainCommand (word.now ∷ [])) }
 {
     if word == "serial" {
         return Some(Command::Serial);
@@ -90,11 +102,26 @@ fn of_one(word: &str) -> Option<Command>
     None
 }
 
+// The run in threads of one word.
+fn threaded_of(word: &str) -> Option<Threaded>
+    ensures some { IfSome result (λ run. word.now ∷ [] ≡ words_of (Command.Run run)) }
+    ensures none { IfNone result (AreNoThreadedRun (word.now ∷ [])) }
+{
+    if word == "play" {
+        return Some(Threaded::Play);
+    }
+    if word == "sum" {
+        return Some(Threaded::Sum);
+    }
+    None
+}
+
 // The command of a word and three numbers.
 fn of_four(word: &str, number: &str, crafts: &str, cycles: &str) -> Option<Command>
     ensures some { IfSome result (λ command. word.now ∷ number.now ∷ crafts.now ∷ cycles.now ∷ [] ≡ words_of command) }
     ensures valid { IfSome result IsCommand }
-    ensures none { IfNone result (AreNoCommand (word.now ∷ number.now ∷ crafts.now ∷ cycles.now ∷ [])) }
+    ensures plain { IfSome result IsPlain }
+    ensures none { IfNone result (AreNoPlainCommand (word.now ∷ number.now ∷ crafts.now ∷ cycles.now ∷ [])) }
 {
     if word != "gen" {
         return None;
@@ -113,7 +140,8 @@ fn of_four(word: &str, number: &str, crafts: &str, cycles: &str) -> Option<Comma
 fn of_five(word: &str, number: &str, count: &str, crafts: &str, cycles: &str) -> Option<Command>
     ensures some { IfSome result (λ command. word.now ∷ number.now ∷ count.now ∷ crafts.now ∷ cycles.now ∷ [] ≡ words_of command) }
     ensures valid { IfSome result IsCommand }
-    ensures none { IfNone result (AreNoCommand (word.now ∷ number.now ∷ count.now ∷ crafts.now ∷ cycles.now ∷ [])) }
+    ensures plain { IfSome result IsPlain }
+    ensures none { IfNone result (AreNoPlainCommand (word.now ∷ number.now ∷ count.now ∷ crafts.now ∷ cycles.now ∷ [])) }
 {
     if word != "sweep" {
         return None;
@@ -130,11 +158,12 @@ fn of_five(word: &str, number: &str, count: &str, crafts: &str, cycles: &str) ->
     })
 }
 
-/// The command that the words say, or none where they say none.
+/// The plain command that the words say, or none where they say none.
 pub(crate) fn parse(words: &[String]) -> Option<Command>
     ensures some { IfSome result (λ command. map string_bytes words.now ≡ words_of command) }
     ensures valid { IfSome result IsCommand }
-    ensures none { IfNone result (AreNoCommand (map string_bytes words.now)) }
+    ensures plain { IfSome result IsPlain }
+    ensures none { IfNone result (AreNoPlainCommand (map string_bytes words.now)) }
 {
     match words {
         [word] => of_one(word.as_str()),
@@ -151,6 +180,17 @@ pub(crate) fn parse(words: &[String]) -> Option<Command>
             crafts.as_str(),
             cycles.as_str(),
         ),
+        _ => None,
+    }
+}
+
+/// The run in threads that the words say, or none where they say none.
+pub(crate) fn parse_threaded(words: &[String]) -> Option<Threaded>
+    ensures some { IfSome result (λ run. map string_bytes words.now ≡ words_of (Command.Run run)) }
+    ensures none { IfNone result (AreNoThreadedRun (map string_bytes words.now)) }
+{
+    match words {
+        [word] => threaded_of(word.as_str()),
         _ => None,
     }
 }

@@ -2,11 +2,11 @@ use Rattle.std.proofs.Common.{◌≡◌, ◌∙◌, [], ◌∷◌, subst, sym}
 use Rattle.std.specs.Prelude.{IfNone}
 use Rattle.std.specs.String.{string_bytes}
 use Rattle.acas_top.proofs.FiveWords.{map-five}
-use Rattle.acas_top.specs.Words.{AreNoCommand}
+use Rattle.acas_top.specs.Words.{AreNoPlainCommand}
 use Rattle.acas_top.proofs.words.parse.Goals as goal
 
 pub returns-in-len5-clause-none : goal.returns-in-len5-clause-none
 returns-in-len5-clause-none c =
     let items = map-five string_bytes _ _ _ _ _ c.args.words.now c.in-len5.len_at_least c.in-len5.len_below c.word-item-then-words-lt6.is c.number-item-then-words-lt6.is c.count-item.is c.crafts-item-then-words-lt6.is c.cycles-item-then-words-lt6.is in
     let given = rw (c.as_str-in-len5.ensures.value, c.as_str-in-len5-2.ensures.value, c.as_str-in-len5-3.ensures.value, c.as_str-in-len5-4.ensures.value, c.as_str-in-len5-5.ensures.value) at c.of_five.ensures.none in
-    subst (λ words. IfNone c.of_five.result (AreNoCommand words)) (sym items) given
+    subst (λ words. IfNone c.of_five.result (AreNoPlainCommand words)) (sym items) given

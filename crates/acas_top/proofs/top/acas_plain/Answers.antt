@@ -2,7 +2,7 @@ use Rattle.std.proofs.Common.{Err, ap, sym, ◌∙◌}
 use Rattle.acas_top.proofs.Endings.{plays-serial, within-long}
 use Rattle.acas_top.specs.Answers.{Answers}
 use Rattle.acas_top.specs.Given.{answer_status, answer_text}
-use Rattle.acas_top.proofs.top.acas.Goals as goal
+use Rattle.acas_top.proofs.top.acas_plain.Goals as goal
 
 pub returns-in-Err-TooLong-clause-complete : goal.returns-in-Err-TooLong-clause-complete
 returns-in-Err-TooLong-clause-complete g c = λ _ within _ _.

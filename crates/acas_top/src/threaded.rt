@@ -1,0 +1,67 @@
+// Runs in threads, and what answers their words.
+ghost use Rattle.std.specs.Prelude.{◌≡◌, ◌≤◌, IfOk, length};
+ghost use Rattle.acas_top.specs.Answers.{Answers, IsRun};
+ghost use Rattle.acas_top.specs.Given.{answer_status, answer_text};
+ghost use Rattle.flight.specs.Inside.{IsInside};
+
+use crate::answers::Answer;
+use crate::counts::counts_of;
+use crate::runs::{run_law, serial_state};
+use crate::{Command, Threaded};
+use acas_base::Encounter;
+use air_journal::AirState;
+use air_turn::Air;
+use craft_worker::{Pause, play, played_law};
+use enc_file::ReadError;
+use std::alloc::{AllocError, Global};
+use std::sync::Wait;
+use std::thread::Threads;
+
+// The state of the air after a run of an encounter in threads, one for each of its active aircraft.
+fn threaded_state<R: Threads + Wait + Sync, P: Pause + Sync>(
+    rt: &R,
+    alloc: Global,
+    encounter: &Encounter,
+    pause: &P,
+) -> Result<AirState, AllocError>
+    requires { IsInside encounter.now }
+    ensures encounter { IfOk result (λ state. state.encounter ≡ encounter.now) }
+    ensures run { IfOk result (λ state. IsRun encounter.now state.journal) }
+{
+    let state = AirState::new(alloc, encounter)?;
+    let (air, mut seats) = Air::open(alloc, state)?;
+    play(rt, alloc, &air, &mut seats, encounter, pause)?;
+    played_law();
+    let closed = air.close(seats);
+    run_law(&closed);
+    Ok(closed)
+}
+
+/// The answer to the word of a run in threads on the bytes that it read. An error says that memory was wanting; all of it
+/// is asked for here.
+pub(crate) fn answer_in_threads<R: Threads + Wait + Sync, P: Pause + Sync>(
+    rt: &R,
+    alloc: Global,
+    run: Threaded,
+    bytes: &[u8],
+    pause: &P,
+) -> Result<Answer, AllocError>
+    requires { length bytes.now ≤ 16777216 }
+    ensures { IfOk result (λ answer. Answers (Command.Run run) bytes.now (answer_status answer) (answer_text answer)) }
+{
+    let encounter = match enc_file::read(alloc, bytes) {
+        Ok(encounter) => encounter,
+        Err(ReadError::Refused(refusal)) => {
+            return Ok(Answer::Refused(refusal.at, refusal.code.number()));
+        }
+        Err(ReadError::OutOfMemory) => return Err(AllocError),
+    };
+    let played = threaded_state(rt, alloc, &encounter, pause)?;
+    match run {
+        Threaded::Play => Ok(Answer::Recorded(played)),
+        Threaded::Sum => {
+            let serial = serial_state(alloc, &encounter)?;
+            Ok(Answer::Summed(counts_of(&played).commits, counts_of(&serial)))
+        }
+    }
+}
