@@ -9,3 +9,4 @@ pub mod Reading
 pub mod Explaining
 pub mod Hearing
 pub mod OnBoard
+pub mod Naming

@@ -1,5 +1,5 @@
 -- What a line tells follows from what was on board: from what own aircraft saw, and from the messages that it took.
-use Rattle.std.specs.Prelude.{◌≡◌, ◌≢◌, ℕ, ◌<◌, ◌==◌, ◌&&◌, if◌then◌else◌, List, [], ◌∷◌, length, take, drop, Option, Some, None, slice_set}
+use Rattle.std.specs.Prelude.{◌≡◌, ◌≢◌, ℕ, ◌+◌, ◌<◌, ◌==◌, ◌&&◌, true, if◌then◌else◌, List, [], ◌∷◌, length, take, drop, Option, Some, None, slice_set}
 use Rattle.acas_base.specs.Encounter.{IsEncounter, Parts}
 use Rattle.acas_base.specs.declared.advisory.Cells.{Cells}
 use Rattle.acas_base.specs.declared.advisory.Vrc.{Vrc}
@@ -7,12 +7,13 @@ use Rattle.acas_base.specs.declared.entry.Entry.{Entry}
 use Rattle.acas_base.specs.declared.entry.Entry.TheVariants.{Commit, Send, Take}
 use Rattle.air_journal.specs.Airs.{air_of}
 use Rattle.air_rules.specs.Air.{Air}
-use Rattle.air_rules.specs.Journal.{Sent, sent_at}
+use Rattle.air_rules.specs.Journal.{Begins, Sent, commits, sent_at}
 use Rattle.air_rules.specs.Rules.{IsLegal}
-use Rattle.air_rules.specs.Takes.{complement_read, read_copy}
+use Rattle.air_rules.specs.Takes.{complement_read, is_from, lapse, read_copy}
 use Rattle.craft_view.specs.Facts.{SeesAlike}
-use Rattle.reasons.specs.Reasons.{reason_row}
+use Rattle.reasons.specs.Reasons.{reason_row, told_of}
 use Rattle.reasons.specs.Rows.{Row}
+use Rattle.reasons.specs.declared.told.Told.{Told}
 
 -- ---- what was heard
 
@@ -75,3 +76,20 @@ GoesByBoth = (e f : Parts) (own cycle : ℕ) (earlier_one earlier_two : List Ent
     SeesAlike e f own cycle → heard_in (air_of e) earlier_one own ≡ heard_in (air_of f) earlier_two own →
     (other : ℕ) → other < length e.crafts → other ≢ own →
     without_names (reason_row e earlier_one own cycle cells_one other) ≡ without_names (reason_row f earlier_two own cycle cells_two other)
+
+-- ---- what the positions name
+
+-- The message that a line names was sent by the other aircraft, and own aircraft took a copy of it unspoilt, at this place; it
+-- reads as this complement, and own aircraft made so many commits since, too few for it to lapse.
+pub record IsNamed (air : Air) (journal : List Entry) (own other : ℕ) (it : Told) : Type 0 where
+  pub before : List Entry
+  pub copy : ℕ
+  pub there : Begins (Take own it.sent_at copy true ∷ before) journal
+  pub place : length before ≡ it.taken_at
+  pub sender : is_from (sent_at before it.sent_at) other ≡ true
+  pub reads : complement_read (read_copy air (sent_at before it.sent_at) copy) ≡ it.complement
+  pub commits_are : commits journal own ≡ commits before own + it.commits_since
+  pub in_force : it.commits_since < lapse
+
+abbrev pub NamesItsMessage : Type 0
+NamesItsMessage = (e : Parts) (journal : List Entry) (own other : ℕ) (it : Told) → told_of (air_of e) journal own other ≡ Some it → IsNamed (air_of e) journal own other it

@@ -4,7 +4,7 @@ ghost use Rattle.acas_base.specs.declared.advisory.Cell.{Cell};
 ghost use Rattle.acas_base.specs.declared.advisory.Rank.{Rank};
 ghost use Rattle.acas_base.specs.declared.advisory.Vrc.{Vrc};
 ghost use Rattle.acas_base.specs.declared.view.View.{View};
-ghost use Rattle.reasons.specs.Aboard.{GoesByBoth, GoesByHearing, GoesBySight};
+ghost use Rattle.reasons.specs.Aboard.{GoesByBoth, GoesByHearing, GoesBySight, NamesItsMessage};
 ghost use Rattle.reasons.specs.Explained.{AreExplained, Explains};
 ghost use Rattle.reasons.specs.Rules.{rule_of};
 
@@ -39,4 +39,10 @@ pub fn heard_law()
 /// message in force, which only name.
 pub fn on_board_law()
     ensures { GoesByBoth }
+{}
+
+/// A law: the message that a line names was sent by the other aircraft at `sent_at`, and own aircraft took a copy of it unspoilt at
+/// `taken_at`; the copy reads as the complement of the line, and hasn't lapsed.
+pub fn message_law()
+    ensures { NamesItsMessage }
 {}

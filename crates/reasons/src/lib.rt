@@ -17,7 +17,7 @@ mod tests;
 mod text;
 mod told;
 
-pub use laws::{heard_law, on_board_law, reason_law, rule_law, seen_law};
+pub use laws::{heard_law, message_law, on_board_law, reason_law, rule_law, seen_law};
 pub use rules::{Rule, rule_of};
 pub use seconds::test_law;
 pub use text::{Reasons, write};
