@@ -1,5 +1,5 @@
 -- What is allowed about a thing, and what the state of the air answers.
-use Rattle.std.proofs.Common.{◌≡◌, ◌≢◌, ℕ, ◌+◌, Bool, true, false, List, ◌∷◌, length, Option, Some, sym, refl, ap, ◌∙◌, subst, arith, inl, inr}
+use Rattle.std.proofs.Common.{◌≡◌, ◌≢◌, ℕ, ◌+◌, Bool, true, false, List, ◌∷◌, Option, Some, sym, refl, ap, ◌∙◌, subst, arith, inl, inr}
 use Rattle.std.specs.Prelude.{MatchBool, reverse, slice_get}
 use Rattle.std.proofs.lemmas.Bool.{cases_lt}
 use Rattle.acas_base.specs.Encounter.{Parts}

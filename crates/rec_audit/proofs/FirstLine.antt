@@ -1,9 +1,11 @@
 -- The first line of a text.
-use Rattle.std.proofs.Common.{◌≡◌, ◌≢◌, ℕ, zero, suc, ◌+◌, ◌<◌, ◌≤◌, Bool, true, false, eqb, cond, List, [], ◌∷◌, ◌++◌, length, get_or, take, drop, refl, sym, ap, ◌∙◌, arith, add-one, eqb-true, eq-eqb, subst}
+use Rattle.std.proofs.Common.{◌≡◌, ◌≢◌, ℕ, zero, suc, ◌+◌, ◌<◌, ◌≤◌, Bool, true, false, eqb, cond, List, [], ◌∷◌, ◌++◌, length, get_or, take, drop, refl, sym, ap, ◌∙◌, arith, add-one, eqb-true, eq-eqb, subst, append_assoc, Option, Some, None, Bor}
+use Rattle.std.specs.Prelude.{◌==◌, MatchOption}
 use Rattle.std.specs.List.{AllByRecursion, onto_first}
 use Rattle.std.proofs.lemmas.List.{take_all, drop_all}
-use Rattle.acas_lines.specs.Cut.{lines_of}
-use Rattle.acas_lines.proofs.Cutting.{cut-last, cut-one}
+use Rattle.acas_lines.specs.Cut.{IsLine, lines_of}
+use Rattle.acas_lines.specs.Lines.{joined}
+use Rattle.acas_lines.proofs.Cutting.{cut-last, cut-one, joined-cut}
 
 -- No line feed stands before a place.
 abbrev pub NoFeed : List ℕ → ℕ → Type 0
@@ -43,6 +45,13 @@ first-all (c ∷ cs) some none =
     let one = cut-last c cs (subst (λ t. AllByRecursion (λ d. d ≢ 10) t) whole (others (c ∷ cs) (length (c ∷ cs)) (omega arith) none)) in
     one ∙ ap (λ (x : List ℕ). x ∷ []) (sym whole) ∙ ap (λ (y : List ℕ). take (length (c ∷ cs)) (c ∷ cs) ∷ lines_of y) (sym (drop_all (length (c ∷ cs)) (c ∷ cs) (omega arith)))
 
+-- By a whole line that the text begins with.
+pub first-whole : (bytes line : List ℕ) (r : Option (Bor (List ℕ))) → IsLine line → MatchOption r ((rest : List ℕ) → bytes ≢ line ++ rest) (λ x. bytes ≡ line ++ x.now) →
+    MatchOption r ((rest : List (List ℕ)) → lines_of bytes ≢ line ∷ rest) (λ x. lines_of bytes ≡ line ∷ lines_of x.now)
+first-whole bytes line None is h = λ rest e. h (joined rest) (sym (joined-cut bytes) ∙ ap joined e)
+first-whole bytes line (Some x) is h =
+    ap lines_of (h ∙ ap (λ l. l ++ x.now) is.whole ∙ append_assoc is.body (10 ∷ []) x.now) ∙ cut-one is.body x.now is.inside ∙ ap (λ (l : List ℕ). l ∷ lines_of x.now) (sym is.whole)
+
 onto-few : (c : ℕ) (cs : List ℕ) (lines : List (List ℕ)) → length lines ≤ length cs → length (onto_first c lines) ≤ length (c ∷ cs)
 onto-few c cs [] h = omega arith
 onto-few c cs (l ∷ ls) h = omega arith
@@ -68,3 +77,8 @@ some-cond false c lines = some-onto c lines
 pub some-line : (bytes : List ℕ) → lines_of bytes ≡ [] → bytes ≡ []
 some-line [] e = refl
 some-line (c ∷ cs) e = absurd (some-cond (eqb c 10) c (lines_of cs) e)
+
+pub empty-lines : (bytes : List ℕ) (r : Bool) → r ≡ (length bytes == 0) → (r ≡ true → lines_of bytes ≡ []) × (lines_of bytes ≡ [] → r ≡ true)
+empty-lines [] r h = (λ t. refl, λ e. h)
+empty-lines (c ∷ cs) true h = absurd (omega (arith, eqb-true (length (c ∷ cs)) 0 (sym h)))
+empty-lines (c ∷ cs) false h = (λ t. absurd cc, λ e. absurd (some-cond (eqb c 10) c (lines_of cs) e))

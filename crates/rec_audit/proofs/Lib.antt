@@ -2,6 +2,7 @@ pub mod Forms
 pub mod Placed
 pub mod Whole
 pub mod Keyed
+pub mod Short
 pub mod FirstLine
 pub mod Comparing
 pub mod Asked

@@ -1,5 +1,5 @@
 -- A text that is taken line by line.
-use Rattle.std.specs.Prelude.{◌≡◌, ◌≢◌, ℕ, ◌+◌, Bool, true, MatchBool, List, ◌∷◌, ◌++◌, length}
+use Rattle.std.specs.Prelude.{◌≡◌, ◌≢◌, ℕ, ◌+◌, Bool, true, MatchBool, List, [], ◌∷◌, ◌++◌, length}
 
 -- The lines that are still to come, and how many were taken before them.
 pub record Cursor : Type 0 where
@@ -10,6 +10,10 @@ pub record Cursor : Type 0 where
 pub record Took (before now : Cursor) (lines : List (List ℕ)) : Type 0 where
   pub lines_are : before.left ≡ lines ++ now.left
   pub taken_is : now.taken ≡ before.taken + length lines
+
+-- The next line was taken where it is this one. Else none was taken.
+abbrev pub TakesLine : Cursor → Cursor → List ℕ → Bool → Type 0
+TakesLine before after line taken = MatchBool taken (Took before after (line ∷ [])) ((after ≡ before) × ((rest : List (List ℕ)) → before.left ≢ line ∷ rest))
 
 -- A front of these lines was taken, and the next one isn't what comes.
 pub record StoppedIn (before now : Cursor) (lines : List (List ℕ)) : Type 0 where

@@ -13,7 +13,7 @@ use Rattle.rec_audit.specs.Cursors.{Cursor, Took}
 use Rattle.rec_audit.specs.Differing.{DifferAt}
 use Rattle.rec_audit.specs.Judging.{IsLoaded, IsPartLoaded, IsWrongAfter, IsWrongBeginning}
 use Rattle.rec_audit.specs.Opening.{IsCut, Opens, first_entry}
-use Rattle.rec_audit.specs.Replays.{Replays, StopsAt}
+use Rattle.rec_audit.specs.Replays.{IsWrongLine, Replays, StopsAt}
 use Rattle.rec_audit.specs.declared.endings.Extent.{Extent}
 use Rattle.rec_audit.specs.declared.endings.Extent.TheVariants.{Whole, Beginning}
 use Rattle.rec_audit.specs.declared.verdict.Loaded.{Loaded}
@@ -23,12 +23,16 @@ use Rattle.rec_audit.specs.declared.fault.Fault.{Fault}
 use Rattle.rec_text.specs.Entries.{entry_line}
 use Rattle.rec_text.specs.Recording.{closing_lines}
 
--- The entry of a line was added.
-pub record AddedLine (air : Air) (old new : List Entry) (line : List ℕ) : Type 0 where
+-- The next line was taken, and the entry that has it was added.
+pub record AddedNext (air : Air) (old new : List Entry) (before after : Cursor) : Type 0 where
   pub entry : Entry
-  pub line_is : line ≡ entry_line air.count entry
+  pub took : Took before after (entry_line air.count entry ∷ [])
   pub allowed : IsAllowed air old entry
   pub new_is : new ≡ entry ∷ old
+
+-- What is wrong with the next line, where there is one.
+abbrev pub IsWrongNext : Air → List Entry → List (List ℕ) → Reason → Type 0
+IsWrongNext air journal lines reason = (line : List ℕ) (rest : List (List ℕ)) → lines ≡ line ∷ rest → IsWrongLine air journal line reason
 
 -- Lines were taken, at most so many, and the journal is theirs. It stopped there, or no line is left.
 pub record Replayed (air : Air) (before after : Cursor) (most : ℕ) (journal : List Entry) : Type 0 where

@@ -1,5 +1,5 @@
 -- What it means to read an entry, or its key.
-use Rattle.std.specs.Prelude.{◌≡◌, ◌≢◌, ◌++◌, ℕ, List, Option, MatchOption}
+use Rattle.std.specs.Prelude.{◌≡◌, ◌≢◌, ◌++◌, ℕ, List, ◌∷◌, Option, MatchOption}
 use Rattle.acas_base.specs.declared.entry.Entry.{Entry}
 use Rattle.air_journal.specs.Ranges.{IsEntry}
 use Rattle.rec_audit.specs.Keys.{IsKey, key, key_fields}
@@ -16,13 +16,17 @@ abbrev pub ReadsLine : ℕ → List ℕ → Option Entry → Type 0
 ReadsLine count line result =
     MatchOption result ((entry : Entry) → IsEntry count entry → entry_line count entry ≢ line) (λ entry. IsEntry count entry × (line ≡ entry_line count entry))
 
--- The key that these fields begin with, and the fields behind it; or no entry has these fields.
+-- The key that these fields begin with, and the fields behind it; or they begin with none.
 abbrev pub ReadsKeyFields : ℕ → List (List ℕ) → List (List ℕ) → Option Key → Type 0
 ReadsKeyFields count fields rest result =
-    MatchOption result ((entry : Entry) → IsEntry count entry → entry_fields count entry ≢ fields) (λ about. IsKey count about × (fields ≡ key_fields about ++ rest))
+    MatchOption result ((about : Key) (after : List (List ℕ)) → IsKey count about → fields ≢ key_fields about ++ after) (λ about. IsKey count about × (fields ≡ key_fields about ++ rest))
 
--- The key of each entry that has this line; or no entry has it.
+-- The key of each entry whose line this text begins with; or it begins with the line of none.
 abbrev pub ReadsKey : ℕ → List ℕ → Option Key → Type 0
-ReadsKey count line result =
-    MatchOption result ((entry : Entry) → IsEntry count entry → entry_line count entry ≢ line)
-    (λ about. IsKey count about × ((entry : Entry) → IsEntry count entry → entry_line count entry ≡ line → key entry ≡ about))
+ReadsKey count text result =
+    MatchOption result ((entry : Entry) (rest : List ℕ) → IsEntry count entry → text ≢ entry_line count entry ++ rest)
+    (λ about. IsKey count about × ((entry : Entry) (rest : List ℕ) → IsEntry count entry → text ≡ entry_line count entry ++ rest → key entry ≡ about))
+
+-- Of the first of these lines the entry that has it, or no entry has it.
+abbrev pub ReadsFirst : ℕ → List (List ℕ) → Option Entry → Type 0
+ReadsFirst count lines result = (line : List ℕ) (rest : List (List ℕ)) → lines ≡ line ∷ rest → ReadsLine count line result

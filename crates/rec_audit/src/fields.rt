@@ -1,10 +1,11 @@
 // The fields of one line, taken in turn.
 ghost use Rattle.std.specs.Prelude.{◌≡◌, ◌≢◌, ◌∷◌, ◌↔◌, [], List, ℕ, MatchOption, MatchBool, IsTrue};
 ghost use Rattle.std.specs.Fmt.{decimal};
-ghost use Rattle.acas_text.specs.Decimal.{IsWithin};
+ghost use Rattle.acas_text.specs.Decimal.{IsWithin, SpellsWithin};
+ghost use Rattle.memchr.specs.Find.{IsFirstByte, is_byte};
+ghost use Rattle.rec_audit.specs.Fields.{BeginsShort};
 
 use acas_text::parse_within;
-use memchr::memchr;
 use std::marker::Model;
 
 const COMMA: u8 = b',';
@@ -39,7 +40,7 @@ impl<'a> Fields<'a> {
         ensures { MatchOption result ((self.old ≡ []) × (self.new ≡ [])) (λ field. self.old ≡ field.now ∷ self.new) }
     {
         let text = self.rest?;
-        match memchr(COMMA, text) {
+        match comma_in(text) {
             Some(at) => {
                 self.rest = Some(&text[at + 1..]);
                 Some(&text[..at])
@@ -49,6 +50,20 @@ impl<'a> Fields<'a> {
                 Some(text)
             }
         }
+    }
+
+    /// The byte that the next field is, where it is a single one and another field follows. Else none is taken.
+    pub fn letter(&mut self) -> Option<u8>
+        ensures { MatchOption result
+            ((self.new ≡ self.old) × ((c : ℕ) (next : List ℕ) (rest : List (List ℕ)) → c ≢ 44 → self.old ≢ (c ∷ []) ∷ next ∷ rest))
+            (λ c. self.old ≡ (c ∷ []) ∷ self.new) }
+    {
+        let text = self.rest?;
+        if !begins_short(text) {
+            return None;
+        }
+        self.rest = Some(&text[2..]);
+        Some(text[0])
     }
 
     /// Whether no field is left.
@@ -64,6 +79,48 @@ impl<'a> Fields<'a> {
             ((n : ℕ) (rest : List (List ℕ)) → IsWithin low high n → self.old ≢ decimal n ∷ rest)
             (λ n. IsWithin low high n × (self.old ≡ decimal n ∷ self.new)) }
     {
+        // Most numbers that are read have one digit.
+        if let Some(glyph) = self.letter() {
+            return digit_within(glyph, low, high);
+        }
         parse_within(self.next()?, low, high)
     }
+}
+
+// Whether the first field of a text is a single byte, and another one follows.
+fn begins_short(text: &[u8]) -> bool
+    ensures { MatchBool result (BeginsShort text.now) (BeginsShort text.now → ⊥) }
+{
+    if text.len() < 2 {
+        return false;
+    }
+    text[0] != COMMA && text[1] == COMMA
+}
+
+// The number of a range that one digit spells.
+fn digit_within(glyph: u8, low: u32, high: u32) -> Option<u32>
+    ensures { SpellsWithin low high (glyph ∷ []) result }
+{
+    match glyph {
+        b'0'..=b'9' => {
+            let value = u32::from(glyph - b'0');
+            if value < low || high < value {
+                return None;
+            }
+            Some(value)
+        }
+        _ => None,
+    }
+}
+
+// Where the first comma stands. A field has a few bytes, so they are looked at one by one.
+fn comma_in(text: &[u8]) -> Option<usize>
+    ensures { IsFirstByte (is_byte 44) text.now result }
+{
+    for (at, glyph) in text.iter().enumerate() {
+        if *glyph == COMMA {
+            return Some(at);
+        }
+    }
+    None
 }

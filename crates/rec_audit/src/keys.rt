@@ -4,7 +4,6 @@ ghost use Rattle.acas_base.specs.declared.TheConstants.{CRAFTS};
 ghost use Rattle.rec_audit.specs.Reading.{ReadsKey, ReadsKeyFields};
 
 use crate::fields::Fields;
-use crate::values::before_flag;
 
 /// What an entry is about: a commit of an aircraft and a cycle, a send of a pair, or a take of a copy by an aircraft.
 #[derive(Clone, Copy, Debug, PartialEq, Eq)]
@@ -52,27 +51,27 @@ fn take_key(fields: &mut Fields<'_>, count: u8) -> Option<Key>
     })
 }
 
-/// The key that comes first in the fields of a line.
+/// The key that comes first in the fields of a line. It is inlined, so that the fields are kept in registers where each line
+/// of a recording is read.
+#[inline(always)]
 pub(crate) fn key_of(fields: &mut Fields<'_>, count: u8) -> Option<Key>
     requires { (0 < count) × (count ≤ CRAFTS) }
     ensures { ReadsKeyFields count fields.old fields.new result }
 {
-    match fields.next()? {
-        b"c" => commit_key(fields, count),
-        b"s" => send_key(fields, count),
-        b"t" => take_key(fields, count),
+    match fields.letter()? {
+        b'c' => commit_key(fields, count),
+        b's' => send_key(fields, count),
+        b't' => take_key(fields, count),
         _ => None,
     }
 }
 
-/// What the entry is about whose line this is, in an encounter of so many aircraft. None only where no entry has this line.
-pub(crate) fn read_key(line: &[u8], count: u8) -> Option<Key>
+/// What the entry is about whose line a text begins with, in an encounter of so many aircraft. None only where it begins with
+/// the line of no entry. No byte behind the key is looked at.
+#[inline(always)]
+pub(crate) fn read_key(text: &[u8], count: u8) -> Option<Key>
     requires { (0 < count) × (count ≤ CRAFTS) }
-    ensures { ReadsKey count line.now result }
+    ensures { ReadsKey count text.now result }
 {
-    let (body, is_whole) = before_flag(line, b'\n');
-    if !is_whole {
-        return None;
-    }
-    key_of(&mut Fields::of(body), count)
+    key_of(&mut Fields::of(text), count)
 }

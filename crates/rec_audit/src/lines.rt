@@ -1,8 +1,8 @@
 // The lines of a text, taken one after the other.
-ghost use Rattle.std.specs.Prelude.{◌≡◌, ◌≢◌, ◌∷◌, ◌+◌, ◌<◌, ◌≤◌, ◌-◌, ◌^◌, [], List, ℕ, MatchBool, MatchOption, length, take, drop};
-ghost use Rattle.acas_lines.specs.Cut.{lines_of};
+ghost use Rattle.std.specs.Prelude.{◌≡◌, ◌≢◌, ◌∷◌, ◌+◌, ◌<◌, ◌≤◌, ◌-◌, ◌^◌, ◌↔◌, [], List, ℕ, IsTrue, MatchOption, length, take, drop};
+ghost use Rattle.acas_lines.specs.Cut.{IsLine, lines_of};
 ghost use Rattle.acas_lines.specs.Lines.{joined};
-ghost use Rattle.rec_audit.specs.Cursors.{Took};
+ghost use Rattle.rec_audit.specs.Cursors.{TakesLine, Took};
 
 use memchr::memchr;
 use std::marker::Model;
@@ -66,6 +66,7 @@ impl<'a> TextLines<'a> {
     }
 
     /// The next line, with its line feed where it has one.
+    #[inline]
     pub fn next(&mut self) -> Option<&'a [u8]>
         ensures { MatchOption result ((self.old.left ≡ []) × (self.new ≡ self.old)) (λ line. Took self.old self.new (line.now ∷ [])) }
     {
@@ -78,9 +79,31 @@ impl<'a> TextLines<'a> {
         Some(line)
     }
 
+    /// Whether no line is left.
+    pub fn is_done(&self) -> bool
+        ensures { IsTrue result ↔ (self.now.left ≡ []) }
+    {
+        self.rest.is_empty()
+    }
+
+    /// Takes the next line where it is this one, which has its line feed. So it isn't looked where the next line ends.
+    pub fn take_whole(&mut self, line: &[u8]) -> bool
+        requires { IsLine line.now }
+        ensures { TakesLine self.old self.new line.now result }
+    {
+        match behind(self.rest, line) {
+            Some(rest) => {
+                self.rest = rest;
+                self.taken += 1;
+                true
+            }
+            None => false,
+        }
+    }
+
     /// Takes the next line where it is this one.
     pub fn take_line(&mut self, line: &[u8]) -> bool
-        ensures { MatchBool result (Took self.old self.new (line.now ∷ [])) ((self.new ≡ self.old) × ((rest : List (List ℕ)) → self.old.left ≢ line.now ∷ rest)) }
+        ensures { TakesLine self.old self.new line.now result }
     {
         let mut after = self.again();
         match after.next() {
@@ -94,6 +117,14 @@ impl<'a> TextLines<'a> {
             None => false,
         }
     }
+}
+
+// What stands behind a whole line, where a text begins with it.
+fn behind<'a>(text: &'a [u8], line: &[u8]) -> Option<&'a [u8]>
+    requires { IsLine line.now }
+    ensures { MatchOption result ((rest : List (List ℕ)) → lines_of text.now ≢ line.now ∷ rest) (λ after. lines_of text.now ≡ line.now ∷ lines_of after.now) }
+{
+    text.strip_prefix(line)
 }
 
 // How long the first line is.

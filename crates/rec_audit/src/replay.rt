@@ -1,9 +1,11 @@
 // Entries read from lines and made again.
-ghost use Rattle.std.specs.Prelude.{◌≡◌, ◌≢◌, [], IfOk, MatchBool, MatchResult, Some, length, reverse, slice_get};
+ghost use Rattle.std.specs.Prelude.{◌≡◌, ◌<◌, ◌≤◌, [], IfOk, MatchResult, Some, length, reverse, slice_get};
+ghost use Rattle.acas_base.specs.declared.TheConstants.{CRAFTS};
 ghost use Rattle.acas_base.specs.declared.entry.Entry.{Entry};
 ghost use Rattle.air_journal.specs.Airs.{air_of};
-ghost use Rattle.rec_audit.specs.Engine.{AddedLine, Replayed, StoppedAt};
-ghost use Rattle.rec_audit.specs.Replays.{IsWrongLine};
+ghost use Rattle.rec_audit.specs.Cursors.{TakesLine};
+ghost use Rattle.rec_audit.specs.Engine.{AddedNext, IsWrongNext, Replayed, StoppedAt};
+ghost use Rattle.rec_audit.specs.Reading.{ReadsFirst};
 ghost use Rattle.rec_text.specs.Entries.{entry_line};
 ghost use Rattle.resume.specs.Crews.{AreReady};
 
@@ -14,61 +16,75 @@ use crate::keys::read_key;
 use crate::lines::TextLines;
 use crate::sky::Sky;
 use crate::verdict::Reason;
+use acas_base::Entry;
 use acas_text::Line;
 use air_journal::AirState;
 use rec_text::set_entry_line;
 use resume::Crew;
 
-// Whether a line is that of the entry at a position. That line is made again.
-fn is_entry_at(state: &AirState, at: u32, made: &mut Line, line: &[u8]) -> bool
-    ensures { (entry : Entry) → slice_get (reverse state.now.journal) at ≡ Some entry → MatchBool result
-        (line.now ≡ entry_line (length state.now.encounter.crafts) entry)
-        (line.now ≢ entry_line (length state.now.encounter.crafts) entry) }
+// Takes the next line where it is that of the entry at a position. That line is made again.
+fn take_entry_at(state: &AirState, at: u32, made: &mut Line, lines: &mut TextLines<'_>) -> bool
+    ensures { (entry : Entry) → slice_get (reverse state.now.journal) at ≡ Some entry → TakesLine lines.old lines.new (entry_line (length state.now.encounter.crafts) entry) result }
 {
     state.legal_law();
     let count = state.enc().crafts().len() as u8;
     match state.entry_ref(at) {
         Some(entry) => {
             set_entry_line(made, &entry, count);
-            made.bytes() == line
+            lines.take_whole(made.bytes())
         }
         None => false,
     }
 }
 
-// Adds the entry of one line, where it is the one that is allowed. The line is read whole only where it is wrong, to tell why.
-fn add_line(
+// The entry that the next line spells. The line isn't taken. It is called once in a judgement, and its locals are to cost
+// nothing for each line.
+#[cold]
+#[inline(never)]
+fn read_first(lines: &TextLines<'_>, count: u8) -> Option<Entry>
+    requires { (0 < count) × (count ≤ CRAFTS) }
+    ensures { ReadsFirst count lines.now.left result }
+{
+    match lines.again().next() {
+        Some(line) => read_entry(line, count),
+        None => None,
+    }
+}
+
+// Adds the entry of the next line, where it is the one that is allowed, and takes the line. It is read whole only where it is
+// wrong, to tell why.
+fn add_next(
     state: &mut AirState,
     crew: &mut Crew,
     sky: &mut Sky<'_>,
     made: &mut Line,
-    line: &[u8],
+    lines: &mut TextLines<'_>,
 ) -> Result<(), Reason>
     requires same { sky.old.encounter ≡ state.old.encounter }
     requires crew { AreReady state.old.encounter state.old.journal crew.old.crafts }
     ensures encounter { state.new.encounter ≡ state.old.encounter }
     ensures sky { sky.new.encounter ≡ state.old.encounter }
     ensures added { MatchResult result
-        (λ _. AddedLine (air_of state.old.encounter) state.old.journal state.new.journal line.now)
-        (λ reason. IsWrongLine (air_of state.old.encounter) state.old.journal line.now reason) }
+        (λ _. AddedNext (air_of state.old.encounter) state.old.journal state.new.journal lines.old lines.new)
+        (λ reason. IsWrongNext (air_of state.old.encounter) state.old.journal lines.old.left reason) }
     ensures crew { IfOk result (λ _. AreReady state.old.encounter state.new.journal crew.new.crafts) }
 {
     state.legal_law();
     let count = state.enc().crafts().len() as u8;
-    let Some(about) = read_key(line, count) else {
+    let Some(about) = read_key(lines.rest(), count) else {
         return Err(Reason::Spelling);
     };
     let at = state.count();
     if !ask(state, crew, sky, about) {
-        return match read_entry(line, count) {
+        return match read_first(lines, count) {
             Some(_) => Err(Reason::NotAllowed),
             None => Err(Reason::Spelling),
         };
     }
-    if is_entry_at(state, at, made, line) {
+    if take_entry_at(state, at, made, lines) {
         return Ok(());
     }
-    match read_entry(line, count) {
+    match read_first(lines, count) {
         Some(_) => Err(Reason::OtherContent),
         None => Err(Reason::Spelling),
     }
@@ -92,15 +108,12 @@ pub(crate) fn replay(
 {
     let mut made = Line::new();
     for _ in 0..most {
-        let number = lines.number();
-        let Some(line) = lines.next() else {
+        if lines.is_done() {
             return Ok(());
-        };
-        if let Err(reason) = add_line(state, crew, sky, &mut made, line) {
-            return Err(Fault {
-                line: number,
-                reason,
-            });
+        }
+        let line = lines.number();
+        if let Err(reason) = add_next(state, crew, sky, &mut made, lines) {
+            return Err(Fault { line, reason });
         }
     }
     Ok(())

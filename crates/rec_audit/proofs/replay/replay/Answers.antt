@@ -1,9 +1,9 @@
-use Rattle.std.proofs.Common.{◌∙◌, sym, subst, refl}
+use Rattle.std.proofs.Common.{◌∙◌, sym, subst, refl, arith}
 use Rattle.acas_base.specs.Encounter.{Parts}
 use Rattle.acas_base.specs.declared.entry.Entry.{Entry}
 use Rattle.std.proofs.Common.{List}
 use Rattle.air_journal.specs.Airs.{air_of}
-use Rattle.rec_audit.proofs.Making.{reaches-more, reaches-none}
+use Rattle.rec_audit.proofs.Making.{reaches-more, reaches-none, stopped-at}
 use Rattle.resume.specs.Crews.{AreReady}
 use Rattle.rec_audit.proofs.replay.replay.Goals as goal
 
@@ -18,10 +18,16 @@ loop-init c = record {
 pub loop-preserved : goal.loop-preserved
 loop-preserved c =
     let i = c.loop.invariant in
-    let added = rw (i.encounter) at c.in_default-add_line.ensures.added in
+    let added = rw (i.encounter) at c.in_default.ensures.added in
     record {
-      encounter = c.add_line.ensures.encounter ∙ i.encounter;
-      sky = c.add_line.ensures.sky ∙ i.encounter;
-      crew = subst (λ (e : Parts). AreReady e c.add_line.new.state.journal c.add_line.new.crew.crafts) i.encounter c.in_default-add_line.ensures.crew;
-      reaches = reaches-more (air_of c.args.state.now.encounter) c.args.lines.now c.loop.lines c.next.new.self c.loop.counter c.loop.state.journal c.add_line.new.state.journal c.in-Some.line.now i.reaches c.in-Some.ensures added;
+      encounter = c.add_next.ensures.encounter ∙ i.encounter;
+      sky = c.add_next.ensures.sky ∙ i.encounter;
+      crew = subst (λ (e : Parts). AreReady e c.add_next.new.state.journal c.add_next.new.crew.crafts) i.encounter c.in_default.ensures.crew;
+      reaches = reaches-more (air_of c.args.state.now.encounter) c.args.lines.now c.loop.lines c.add_next.new.lines c.loop.counter c.loop.state.journal c.add_next.new.state.journal i.reaches added;
     }
+
+pub returns-in-Err-clause-replayed : goal.returns-in-Err-clause-replayed
+returns-in-Err-clause-replayed c =
+    let i = c.loop.invariant in
+    let wrong = rw (i.encounter) at c.in-Err.ensures.added in
+    stopped-at (air_of c.args.state.now.encounter) c.args.lines.now c.loop.lines c.loop.counter c.args.most c.loop.state.journal _ i.reaches (λ e. let done = c.is_done.ensures.1 e in absurd cc) (omega arith) c.number-line.ensures wrong
