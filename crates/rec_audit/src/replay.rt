@@ -37,8 +37,7 @@ fn take_entry_at(state: &AirState, at: u32, made: &mut Line, lines: &mut TextLin
     }
 }
 
-// The entry that the next line spells. The line isn't taken. It is called once in a judgement, and its locals are to cost
-// nothing for each line.
+// The entry that the next line spells. The line isn't taken. This is called once in a judgement.
 #[cold]
 #[inline(never)]
 fn read_first(lines: &TextLines<'_>, count: u8) -> Option<Entry>

@@ -84,7 +84,7 @@ fn add_take(line: &mut Line, own: u8, send: u32, copy: u8, good: bool, count: u8
 
 /// Makes the line of an entry that an encounter of so many aircraft can have, with its line feed, in place of what a line
 /// held.
-#[inline]
+#[inline(always)]
 pub fn set_entry_line(line: &mut Line, entry: &EntryRef<'_>, count: u8)
     requires few { count ≤ CRAFTS }
     requires fits { IsEntry count (entry_of entry.now) }
