@@ -1,7 +1,7 @@
 // What the tools tell of recordings.
 use super::{
     APART, HELD_LONG, JUDGED, LAPSING, LEVEL, Outcome, TRAFFIC, apart_recording, lines_between,
-    play, run,
+    lines_with, play, run,
 };
 use crate::Status;
 use std::alloc::{AllocError, Global};
@@ -18,6 +18,21 @@ const APART_LONGER: &[u8] =
 const LEVEL_LONGER: &[u8] =
     b"encounter,1\nrun,33,0\ncraft,400A01,RA,0,0,35000\ncraft,400B02,RA,91200,0,35000\nleg,400A01,1,760,0,0\nleg,400B02,1,-760,0,0\n";
 
+// One aircraft between two others, of which one is above it and one below: it flies level, or climbs.
+const BETWEEN: &[u8] =
+    b"encounter,1\nrun,25,0\ngains,1024,1024,1024,1024\ncraft,400A01,RA,45600,0,34700\ncraft,400B02,RA,-45600,0,35300\ncraft,400C03,RA,0,0,35000\nleg,400A01,1,-760,0,0\nleg,400B02,1,760,0,0\n";
+
+const CLIMBING_BETWEEN: &[u8] =
+    b"encounter,1\nrun,33,0\ngains,1024,1024,1024,1024\ncraft,400A01,RA,45600,0,34700\ncraft,400B02,RA,-45600,0,35300\ncraft,400C03,RA,0,0,34885\nleg,400A01,1,-760,0,0\nleg,400B02,1,760,0,0\nleg,400C03,1,0,0,300\n";
+
+// The lower address misses the replies of the other one from cycle 22 on, and gives none that the other one gets.
+const UNSEEN: &[u8] =
+    b"encounter,1\nrun,46,0\ncraft,400A01,RA,0,0,35000\ncraft,400B02,RA,91200,0,35000\nleg,400A01,1,760,0,0\nleg,400B02,1,-760,0,0\nmiss,400A01,400B02,22,60\nmiss,400B02,400A01,1,60\n";
+
+// The first message of the lower address is lost, and the other aircraft commits after it was sent.
+const LATE_COMMIT_RECORDING: &[u8] =
+    b"recording,1\nencounter,1\nrun,2,0\ngains,0,0,0,0\ncraft,400A01,RA,0,0,35000\ncraft,400B02,RA,0,0,35000\nfate,400A01,400B02,1\nend\njournal,7\nc,0,1,-,-\nc,1,1,-,-\nc,0,2,-,U5.1c\ns,0,1,1,30080007400A01\nc,1,2,U5.1c,-\ns,1,0,1,30080007400B02\nt,0,5,0,g\nreport,2\nr,2,400A01,UP-CLIMB,Climb climb\nr,2,400B02,UP-CLIMB,Climb climb\nclose\n";
+
 // What a tool tells of the recording of an encounter.
 fn told<R: Threads + Sync + Alloc<A = Global>>(
     rt: &R,
@@ -31,15 +46,34 @@ fn told<R: Threads + Sync + Alloc<A = Global>>(
 
 #[test]
 fn tells_how_near_aircraft_would_have_come(rt: HostRuntime) -> Result<(), Fail> {
-    for (encounter, text) in [
+    for (encounter, rest, text) in [
         (
             APART_LONGER,
+            b"end\n".as_slice(),
             b"response,1\np,400A01,400B02,36,300,484\n".as_slice(),
         ),
-        (LEVEL_LONGER, b"response,1\np,400A01,400B02,33,0,85\n"),
-        (TRAFFIC, b"response,0\n"),
+        // The sense changes within the delay of the first response.
+        (
+            LEVEL_LONGER,
+            b"end\n",
+            b"response,1\np,400A01,400B02,33,0,85\n",
+        ),
+        // Both hold their rates where their strength weakens: by cycle 36 the one has sunk by 84 ft, and the other one, which goes
+        // back to the climb that was planned, has risen by 96 ft.
+        (
+            APART_LONGER,
+            b"leg,400B02,30,-760,0,6000\nend\n",
+            b"response,1\np,400A01,400B02,36,900,480\n",
+        ),
+        // The one that is advised in both senses ends its climb.
+        (
+            CLIMBING_BETWEEN,
+            b"end\n",
+            b"response,3\np,400A01,400B02,33,600,735\np,400A01,400C03,33,345,392\np,400B02,400C03,33,255,343\n",
+        ),
+        (TRAFFIC, b"end\n", b"response,0\n"),
     ] {
-        let done = told(&rt, "response", encounter, b"end\n")?;
+        let done = told(&rt, "response", encounter, rest)?;
         assert_eq!(rt; done.status, Status::Done);
         assert_eq!(rt; done.sink.bytes(), text);
     }
@@ -62,6 +96,33 @@ fn tells_blocks(rt: HostRuntime) -> Result<(), Fail> {
     Ok(())
 }
 
+// Of two threats at once there is no block. Each of the two others has one threat, which forbids it the sense that it doesn't
+// have, from the next cycle on.
+#[test]
+fn tells_blocks_of_one_threat_alone(rt: HostRuntime) -> Result<(), Fail> {
+    let done = told(&rt, "reports", BETWEEN, b"end\n")?;
+    assert_eq!(rt; done.status, Status::Done);
+    assert_eq!(rt;
+        done.sink.bytes(),
+        b"blocks,4\nb,24,400A01,30E2000500300C\nb,24,400B02,30C2000500300C\nb,25,400A01,30E2010500300C\nb,25,400B02,30C2020500300C\n".as_slice()
+    );
+    Ok(())
+}
+
+// The advisory is that of cycle 26 alone, and its block is gone in cycle 45.
+#[test]
+fn tells_a_block_for_18_commits_more(rt: HostRuntime) -> Result<(), Fail> {
+    let done = told(&rt, "reports", UNSEEN, b"end\n")?;
+    assert_eq!(rt; done.status, Status::Done);
+    let text = done.sink.bytes();
+    assert!(rt;
+        text.starts_with(b"blocks,19\nb,26,400A01,30C20005002C08\nb,27,400A01,30C20025002C08\n")
+    );
+    assert!(rt; text.ends_with(b"\nb,44,400A01,30C20025002C08\n"));
+    assert_eq!(rt; lines_with(text, b"b,"), 19);
+    Ok(())
+}
+
 #[test]
 fn tells_equal_senses(rt: HostRuntime) -> Result<(), Fail> {
     for (encounter, rest, text) in [
@@ -76,11 +137,29 @@ fn tells_equal_senses(rt: HostRuntime) -> Result<(), Fail> {
             b"watch,3\nw,400A01,400B02,U,51,56,n,52\nw,400A01,400B02,D,62,68,o,64\nw,400A01,400B02,D,81,81,o,82\n",
         ),
         (APART, b"end\n", b"watch,0\n"),
+        // The one of higher address took the first message alone, six commits before its advisory starts in the last cycle.
+        (
+            LEVEL_LONGER,
+            b"miss,400B02,400A01,1,31\nfate,400A01,400B02,2\nfate,400A01,400B02,3\nfate,400A01,400B02,4\nfate,400A01,400B02,5\nfate,400A01,400B02,6\nfate,400A01,400B02,7\nfate,400A01,400B02,8\nend\n",
+            b"watch,1\nw,400A01,400B02,U,73,73,l,74\n",
+        ),
     ] {
         let done = told(&rt, "watch", encounter, rest)?;
         assert_eq!(rt; done.status, Status::Done);
         assert_eq!(rt; done.sink.bytes(), text);
     }
+    Ok(())
+}
+
+// The senses are equal to the end of the run, and no message comes any more.
+#[test]
+fn tells_that_no_message_follows(rt: HostRuntime) -> Result<(), Fail> {
+    let done = run(&rt, &["watch"], LATE_COMMIT_RECORDING, &[], &[])?;
+    assert_eq!(rt; done.status, Status::Done);
+    assert_eq!(rt;
+        done.sink.bytes(),
+        b"watch,1\nw,400A01,400B02,U,4,4,n,-\n".as_slice()
+    );
     Ok(())
 }
 
