@@ -10,6 +10,7 @@ use std::thread::Threads;
 mod reasons;
 mod resumed;
 mod swept;
+mod threaded;
 mod told;
 
 // Two aircraft with resolution advisories that fly towards each other, at different altitudes and at the same one, without
