@@ -7,11 +7,11 @@ use std::alloc::{AllocError, Global};
 use std::test::Fail;
 use std::thread::Threads;
 
-mod reasons;
 mod resumed;
 mod swept;
 mod threaded;
 mod told;
+mod why;
 
 // Two aircraft with resolution advisories that fly towards each other, at different altitudes and at the same one, without
 // the end of the text.
