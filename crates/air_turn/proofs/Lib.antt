@@ -9,3 +9,5 @@ pub mod Turning
 pub mod Seating
 pub mod Gathering
 pub mod Closed
+pub mod Counted
+pub mod Returned

@@ -2,6 +2,8 @@
 ghost use Rattle.std.specs.Prelude.{IfOk};
 ghost use Rattle.air_turn.specs.Seats.{AreAllSeats};
 
+mod calls;
+
 use crate::{Air, Seat};
 use acas_base::{Address, CraftSpec, Encounter, Gains, Kind};
 use air_journal::AirState;
