@@ -1,5 +1,5 @@
 // Pieces of a text, gathered in a fixed buffer before they are written.
-ghost use Rattle.std.specs.Prelude.{◌≡◌, ◌+◌, ◌≤◌, ◌++◌, [], length};
+ghost use Rattle.std.specs.Prelude.{◌≡◌, ◌+◌, ◌≤◌, ◌<◌, ◌++◌, [], length, IfOk};
 ghost use Rattle.acas_io.specs.Stream.{Puts};
 ghost use Rattle.acas_lines.specs.Gathering.{Adds};
 
@@ -9,8 +9,8 @@ use std::marker::Model;
 // How much is gathered at most before it is written.
 const BATCH_BYTES: usize = 8192;
 
-/// The bytes of a text that wait to be written, at most 8,192. So a text of n bytes takes about n/8192 writes of a sink
-/// that takes whole pieces. It takes no memory.
+/// The bytes of a text that wait to be written, at most 8,192. Only when they are that many, or are flushed, they are
+/// written. So a text of n bytes takes at most n/8192 + 1 writes of a sink that takes whole pieces. It takes no memory.
 ///
 /// In each call `Failed` comes only where the sink's count of faults rose; what was written then is a front of what waited
 /// and what was added.
@@ -78,16 +78,22 @@ impl Batch {
         written
     }
 
-    /// Adds a piece. Where it finds no room, what waits is written first; else the sink isn't called.
+    /// Adds a piece. Where it doesn't fit, as much of it as does is added, what waits is written, and the rest waits; else
+    /// the sink isn't called.
     pub fn put<K: Sink>(&mut self, sink: &mut K, piece: &[u8]) -> Result<(), Failed>
         requires { length piece.now ≤ 8192 }
         ensures adds { Adds (K.written sink.old) (K.written sink.new) (K.faults sink.old) (K.faults sink.new) self.old self.new piece.now result }
         ensures unwritten { length self.old + length piece.now ≤ 8192 → sink.new ≡ sink.old }
+        ensures full { 8192 < length self.old + length piece.now → IfOk result (λ _. length self.new + 8192 ≡ length self.old + length piece.now) }
     {
-        if piece.len() > self.room() {
-            self.flush(sink)?;
+        if piece.len() <= self.room() {
+            self.append(piece);
+            return Ok(());
         }
-        self.append(piece);
+        let (front, rest) = piece.split_at(self.room());
+        self.append(front);
+        self.flush(sink)?;
+        self.append(rest);
         Ok(())
     }
 }

@@ -69,7 +69,7 @@ fn writes_lines_in_order(rt: HostRuntime) -> Result<(), Fail> {
 #[test]
 fn gathers_lines_into_few_writes(rt: HostRuntime) -> Result<(), Fail> {
     let counts = [65_535; 2_000];
-    for (fails, answers, written) in [(3, true, 12_011), (2, false, 8_191), (1, false, 0)] {
+    for (fails, answers, written) in [(3, true, 12_011), (2, false, 8_192), (1, false, 0)] {
         let mut sink = sink(rt.alloc(), &[fails])?;
         let answer = write_text(&Counts(&counts), &mut sink);
         assert!(rt; answer.is_ok() == answers, "with a fault at {fails}");
