@@ -1,5 +1,5 @@
 -- The rule holds at the start.
-use Rattle.std.proofs.Common.{◌≡◌, ℕ, false, zero, suc, ◌<◌, ◌≤◌, List, [], ◌∷◌, length, Option, Some, refl, sym, subst, arith, le_refl, true≢false}
+use Rattle.std.proofs.Common.{◌≡◌, ℕ, false, zero, suc, ◌<◌, List, [], ◌∷◌, length, Option, Some, refl, sym, subst, arith, le_refl, true≢false}
 use mathlib.Core.Option.{some, some-injective, some-ne-none}
 use lib.ListN.{get_elem?}
 use Rattle.acas_base.specs.declared.entry.Entry.{Entry}

@@ -7,7 +7,7 @@ use lib.ListN.{get_elem?}
 use Rattle.acas_base.specs.Encounter.{Parts}
 use Rattle.acas_base.specs.declared.entry.Entry.{Entry}
 use Rattle.air_journal.specs.States.{State}
-use Rattle.air_rules.specs.Journal.{Begins, entries_of, more, owner_of, whole}
+use Rattle.air_rules.specs.Journal.{Begins, entries_of, more, whole}
 use Rattle.air_rules.proofs.Beginnings.{begins-on}
 use Rattle.air_rules.proofs.OwnEntries.{keeps-others}
 use Rattle.atomic_table.specs.Table.{Allows, keeps}

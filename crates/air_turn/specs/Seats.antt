@@ -1,11 +1,10 @@
 -- What contracts see of the shared journal and of its seats.
-use Rattle.std.specs.Prelude.{◌≡◌, ℕ, ◌+◌, ◌<◌, ◌≤◌, ◌⊎◌, List, [], ◌∷◌, length, map, max, slice_get, Option, None, Some}
+use Rattle.std.specs.Prelude.{◌≡◌, ℕ, ◌+◌, ◌<◌, ◌≤◌, ◌⊎◌, List, [], ◌∷◌, length, map, max, slice_get, Some}
 use Rattle.acas_base.specs.Encounter.{IsEncounter, Parts}
 use Rattle.acas_base.specs.declared.entry.Entry.{Entry}
 use Rattle.acas_base.specs.declared.view.Picture.{Picture}
 use Rattle.air_journal.specs.Airs.{air_of}
 use Rattle.air_journal.specs.Calls.{Commits, Sends, Takes}
-use Rattle.air_journal.specs.States.{State}
 use Rattle.air_journal.specs.declared.answers.Commit.{Commit}
 use Rattle.air_journal.specs.declared.answers.Sent.{Sent}
 use Rattle.air_journal.specs.declared.answers.Took.{Took}

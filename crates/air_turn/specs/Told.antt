@@ -1,5 +1,5 @@
 -- What each step tells its seat.
-use Rattle.std.specs.Prelude.{◌≡◌, ◌≢◌, ℕ, ◌+◌, ◌%◌, ◌≤◌, pos, List, [], ◌∷◌, ◌++◌, Option, Some, None, if◌then◌else◌, ltb}
+use Rattle.std.specs.Prelude.{◌≡◌, ◌≢◌, ℕ, ◌+◌, ◌%◌, ◌≤◌, pos, List, [], ◌∷◌, ◌++◌, Option, Some, if◌then◌else◌, ltb}
 use Rattle.acas_base.specs.Encounter.{Parts, encounter_of}
 use Rattle.acas_base.specs.declared.entry.Entry.{Entry}
 use Rattle.air_journal.specs.Airs.{air_of}

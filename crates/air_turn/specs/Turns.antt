@@ -1,5 +1,5 @@
 -- What a seat knows at the beginning and at the end of its turn, and when the seats are joined.
-use Rattle.std.specs.Prelude.{◌≡◌, ℕ, ◌+◌, List, [], ◌∷◌, map, Option, None}
+use Rattle.std.specs.Prelude.{◌≡◌, ℕ, ◌+◌, List, [], map, Option, None}
 use Rattle.acas_base.specs.Encounter.{IsEncounter, Parts}
 use Rattle.acas_base.specs.declared.entry.Entry.{Entry}
 use Rattle.air_journal.specs.States.{State}
@@ -14,7 +14,7 @@ use Rattle.atomic_table.specs.declared.shared.Seat.{Seat}
 use Rattle.air_turn.specs.declared.view.Claim.{Claim}
 use Rattle.air_turn.specs.declared.view.Knowledge.{Knowledge}
 use Rattle.air_turn.specs.declared.view.Stage.{Stage}
-use Rattle.air_turn.specs.declared.view.Stage.TheVariants.{Idle, Waits, Holds}
+use Rattle.air_turn.specs.declared.view.Stage.TheVariants.{Idle, Holds}
 use Rattle.air_turn.specs.Rule.{Grows, IsState, knowledge}
 use Rattle.air_turn.specs.Seats.{IsSeat, SeatState}
 use Rattle.air_turn.specs.Told.{Sees, Sitting, called, first, holding, resting}

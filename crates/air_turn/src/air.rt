@@ -3,6 +3,7 @@ ghost use Rattle.std.specs.Prelude.{◌≡◌};
 ghost use Rattle.air_turn.specs.Seats.{CommitsIn, IsNextPicture, Learns, SendsIn, TakesIn};
 ghost use Rattle.air_turn.specs.Turns.{commit_growth, send_growth, take_growth};
 
+use crate::bells::Bells;
 use crate::seat::Seat;
 use crate::steps::{Note, Settle};
 use crate::view::TurnTable;
@@ -16,6 +17,7 @@ use std::sync::Wait;
 #[derive(Drop)]
 pub struct Air {
     pub(crate) table: TurnTable,
+    pub(crate) bells: Bells,
 }
 
 impl Model for Air {

@@ -39,7 +39,7 @@ impl Air {
         ensures legal { IsLegal (air_of self.encounter) result.journal }
         ensures closes { Closes seats.items result.journal }
     {
-        let Air { table } = self;
+        let Air { table, bells: _ } = self;
         let place = gather(&table, seats);
         let mut closed = table.close_with(place);
         let slot = closed.take(0);

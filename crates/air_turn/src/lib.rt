@@ -7,6 +7,7 @@
 #![tactic(auto)]
 
 mod air;
+mod bells;
 mod closing;
 mod opening;
 mod seat;

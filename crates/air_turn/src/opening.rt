@@ -6,6 +6,7 @@ ghost use Rattle.air_turn.specs.Seats.{AreAllSeats, first_seats};
 ghost use Rattle.craft_view.specs.Kept.{IsActive};
 
 use crate::air::Air;
+use crate::bells::Bells;
 use crate::seat::Seat;
 use crate::steps::Cut;
 use crate::view::{TurnSeat, TurnTable};
@@ -37,6 +38,7 @@ impl Air {
         ensures seats { IfOk result (λ opened. opened.1.items ≡ first_seats opened.0.table state.encounter state.journal (active_of state.encounter)) }
         ensures all { IfOk result (λ opened. AreAllSeats opened.0 opened.1.items) }
     {
+        let bells = Bells::new(alloc)?;
         state.legal_law();
         let owns = actives(alloc, state.enc())?;
         let count = u64::from(state.count());
@@ -47,7 +49,7 @@ impl Air {
         let Ok((table, place)) = TurnTable::new(alloc, &words, slots, &about) else {
             return Err(AllocError);
         };
-        let air = Air { table };
+        let air = Air { table, bells };
         let seats = air.seat_all(alloc, place, &about, &owns)?;
         Ok((air, seats))
     }

@@ -1,5 +1,5 @@
 // One turn: a seat waits for it, has the state, and gives it on.
-ghost use Rattle.std.specs.Prelude.{◌≡◌, ◌%◌};
+ghost use Rattle.std.specs.Prelude.{◌≡◌};
 ghost use Rattle.air_turn.specs.Told.{first, resting};
 ghost use Rattle.air_turn.specs.Turns.{Ended, GoneOn, HasTurn, claim_after};
 
@@ -11,8 +11,8 @@ use std::marker::Brand;
 use std::sync::Wait;
 
 impl Air {
-    /// Draws a ticket, waits until it is served, and takes the state. Between two looks it parks on the word of the
-    /// ticket that is served.
+    /// Draws a ticket, waits until it is served, and takes the state. Between two looks it waits for the bell of its
+    /// ticket.
     pub(crate) fn enter<R: Wait>(&self, rt: &R, place: &mut TurnSeat) -> AirState
         requires table { place.old.table_id ≡ self.now.table }
         requires idle { place.old.me ≡ resting place.old.me.0.encounter (first place.old.me.0.claims) }
@@ -21,6 +21,7 @@ impl Air {
     {
         let ticket = self.table.shared.fetch_add::<Draw>(place, 0, 1);
         for _ in rt.forever() {
+            let rung = self.bells.look(ticket);
             let found = self.table.shared.load::<Look>(place, 1);
             if found == ticket {
                 let Some(state) = self.table.shared.exchange(place, 0, None) else {
@@ -28,7 +29,7 @@ impl Air {
                 };
                 return state;
             }
-            self.table.shared.park(rt, 1, (found % 4294967296) as u32);
+            self.bells.wait(rt, ticket, rung);
         }
         unreachable!()
     }
@@ -44,7 +45,7 @@ impl Air {
         self.table.shared.fetch_add::<Raise<N>>(place, 2, grew);
     }
 
-    /// Counts the call, puts the state back, gives the turn on and wakes who waits for it. The journal has grown by
+    /// Counts the call, puts the state back, gives the turn on and wakes the one that has it then. The journal has grown by
     /// so many entries, one or none.
     pub(crate) fn leave(&self, place: &mut TurnSeat, state: AirState, grew: u64)
         requires table { place.old.table_id ≡ self.now.table }
@@ -56,7 +57,7 @@ impl Air {
         let None = self.table.shared.exchange(place, 0, Some(state)) else {
             unreachable!()
         };
-        self.table.shared.fetch_add::<Give>(place, 1, 1);
-        self.table.shared.wake_all(1);
+        let served = self.table.shared.fetch_add::<Give>(place, 1, 1);
+        self.bells.ring(served.wrapping_add(1));
     }
 }

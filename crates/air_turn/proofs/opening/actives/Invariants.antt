@@ -1,4 +1,4 @@
-use Rattle.std.proofs.Common.{◌≡◌, ◌≤◌, ◌+◌, ◌++◌, length, vec_capacity, vec_len}
+use Rattle.std.proofs.Common.{◌≡◌, ◌≤◌, ◌++◌, length, vec_capacity}
 use Rattle.std.specs.Prelude.{All}
 use Rattle.craft_view.specs.Kept.{IsActive}
 use Rattle.air_turn.specs.Rule.{active_of}

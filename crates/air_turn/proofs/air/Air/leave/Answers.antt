@@ -4,8 +4,8 @@ use Rattle.air_turn.proofs.Along.{none_said, gives-along}
 use Rattle.air_turn.proofs.Turning.{put-back-is, turn-given}
 use Rattle.air_turn.proofs.air.Air.leave.Goals as goal
 
-pub fetch_add-requires : goal.fetch_add-requires
-fetch_add-requires c =
+pub fetch_add-served-requires : goal.fetch_add-served-requires
+fetch_add-served-requires c =
     let m = c.args.place.now.me in
     let t = c.args.state in
     let n = calls_of m.0.stage + 1 in
@@ -20,4 +20,4 @@ returns-clause-idle c =
     let n = calls_of m.0.stage + 1 in
     let ended = c.raise.ensures.ended in
     let back = put-back-is m.0.encounter (claim_after m t) _ c.exchange.new.seat.me t ended.ticket n ended.new_is c.requires.gone_on.encounter c.exchange.ensures.3 in
-    turn-given none_said _ c.fetch_add.new.seat.me c.fetch_add.result _ _ _ _ _ _ back c.fetch_add.ensures.2
+    turn-given none_said _ c.fetch_add-served.new.seat.me c.fetch_add-served.result _ _ _ _ _ _ back c.fetch_add-served.ensures.2

@@ -1,4 +1,4 @@
-use Rattle.std.proofs.Common.{rules, ap, ◌∙◌, ◌<◌, ◌+◌, drop, length}
+use Rattle.std.proofs.Common.{rules, ap, ◌<◌, ◌+◌, drop, length}
 use Rattle.air_turn.specs.Rule.{fresh}
 use Rattle.air_turn.specs.Told.{Sitting}
 use Rattle.air_turn.proofs.Along.{cuts-along}
