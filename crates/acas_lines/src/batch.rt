@@ -78,6 +78,22 @@ impl Batch {
         written
     }
 
+    // Adds as much of a piece as there is room for, writes what waits, and adds the rest. Where it stands in `put`, that call
+    // isn't inlined any more, and a serial run of sixteen aircraft takes 3 per cent more instructions.
+    #[inline(never)]
+    fn put_over<K: Sink>(&mut self, sink: &mut K, piece: &[u8]) -> Result<(), Failed>
+        requires most { length piece.now ≤ 8192 }
+        requires over { 8192 < length self.old + length piece.now }
+        ensures adds { Adds (K.written sink.old) (K.written sink.new) (K.faults sink.old) (K.faults sink.new) self.old self.new piece.now result }
+        ensures full { IfOk result (λ _. length self.new + 8192 ≡ length self.old + length piece.now) }
+    {
+        let (front, rest) = piece.split_at(self.room());
+        self.append(front);
+        self.flush(sink)?;
+        self.append(rest);
+        Ok(())
+    }
+
     /// Adds a piece. Where it doesn't fit, as much of it as does is added, what waits is written, and the rest waits; else
     /// the sink isn't called.
     pub fn put<K: Sink>(&mut self, sink: &mut K, piece: &[u8]) -> Result<(), Failed>
@@ -86,14 +102,10 @@ impl Batch {
         ensures unwritten { length self.old + length piece.now ≤ 8192 → sink.new ≡ sink.old }
         ensures full { 8192 < length self.old + length piece.now → IfOk result (λ _. length self.new + 8192 ≡ length self.old + length piece.now) }
     {
-        if piece.len() <= self.room() {
-            self.append(piece);
-            return Ok(());
+        if piece.len() > self.room() {
+            return self.put_over(sink, piece);
         }
-        let (front, rest) = piece.split_at(self.room());
-        self.append(front);
-        self.flush(sink)?;
-        self.append(rest);
+        self.append(piece);
         Ok(())
     }
 }
