@@ -1,5 +1,6 @@
 pub mod Sums
 pub mod Actives
+pub mod Serving
 pub mod Turns
 pub mod Raising
 pub mod Passing

@@ -12,13 +12,14 @@ use Rattle.air_turn.specs.Rule.{ClaimsFit, Fits, HoldsThroughout, IsState, activ
 use Rattle.air_turn.specs.Totals.{total, one}
 use Rattle.air_turn.proofs.Actives.{some-active}
 use Rattle.air_turn.proofs.Passing.{old-none}
+use Rattle.air_turn.proofs.Serving.{first-words, served-first}
 use Rattle.air_turn.proofs.Sums.{total-zero}
 
 fresh-total : (f : Claim → ℕ) (g : ℕ → ℕ) (journal : List Entry) → ((x : ℕ) → f (claim x 0 journal 0) ≡ g x) → (xs : List ℕ) → total f (fresh journal xs) ≡ total g xs
 fresh-total f g journal h [] = refl
 fresh-total f g journal h (x ∷ xs) = let here = h x in let rest = fresh-total f g journal h xs in omega arith
 
-pub opens : (t : State) → IsState t.encounter t.journal → length t.journal < 18446744073709551616 → HoldsThroughout t.encounter (opening (0 ∷ 0 ∷ length t.journal ∷ []) (Some t ∷ []) (at_start t))
+pub opens : (t : State) → IsState t.encounter t.journal → length t.journal < 18446744073709551616 → HoldsThroughout t.encounter (opening (first-words (length t.journal)) (Some t ∷ []) (at_start t))
 opens t state short =
     let e = t.encounter in
     let journal = t.journal in
@@ -33,8 +34,8 @@ opens t state short =
       wide = refl;
       deep = refl;
       ticket_word = refl;
-      serving_word = refl;
       length_word = omega arith;
+      served = served-first (length journal);
       state = state;
       owned = λ h. let x = fresh-total (λ c. h c.own) h journal (λ x. refl) (active_of e) in omega arith;
       made_all = let x = fresh-total (λ c. c.made) (λ x. 0) journal (λ x. refl) (active_of e) in let y = total-zero (active_of e) in omega arith;
@@ -57,7 +58,7 @@ opens t state short =
         record { encounter = λ _. refl; stage = tt; claims = all-fit (active_of t.encounter); notes = tt; old = old-none t.journal 0 (λ _. length t.journal) (fresh t.journal (active_of t.encounter)) }
     at-first (suc j) v is = absurd (some-ne-none v (sym is))
 
-pub opens-as : (t t' : State) (n : ℕ) (slots : List (Option State)) → IsState t.encounter t.journal → n ≡ length t.journal → n < 18446744073709551616 → t' ≡ t → slots ≡ Some t ∷ [] → HoldsThroughout t'.encounter (opening (0 ∷ 0 ∷ n ∷ []) slots (at_start t'))
+pub opens-as : (t t' : State) (n : ℕ) (slots : List (Option State)) → IsState t.encounter t.journal → n ≡ length t.journal → n < 18446744073709551616 → t' ≡ t → slots ≡ Some t ∷ [] → HoldsThroughout t'.encounter (opening (first-words n) slots (at_start t'))
 opens-as t t' n slots state len short same is =
-    let Q : State × ℕ × List (Option State) → Type 0 = λ x. HoldsThroughout x.0.encounter (opening (0 ∷ 0 ∷ x.1 ∷ []) x.2 (at_start x.0)) in
+    let Q : State × ℕ × List (Option State) → Type 0 = λ x. HoldsThroughout x.0.encounter (opening (first-words x.1) x.2 (at_start x.0)) in
     subst Q (λ i. (sym same i, sym len i, sym is i)) (opens t state (omega arith))

@@ -12,6 +12,7 @@ use Rattle.air_rules.proofs.Beginnings.{begins-nested, stays-between}
 use Rattle.air_rules.proofs.Legal.{legal-begins}
 use Rattle.atomic_table.specs.Table.{keeps, Allows, Splits, Joins}
 use Rattle.atomic_table.proofs.Lists.{set_else, at_snoc, at_longer}
+use Rattle.air_turn.specs.declared.view.TheConstants.{SERVING}
 use Rattle.air_turn.specs.declared.view.Claim.{Claim}
 use Rattle.air_turn.specs.declared.view.Knowledge.{Knowledge}
 use Rattle.air_turn.specs.declared.view.Seen.{Seen}
@@ -47,8 +48,8 @@ regroup e s r views owned made_all queue out latest each gone = record {
   wide = r.wide;
   deep = r.deep;
   ticket_word = r.ticket_word;
-  serving_word = r.serving_word;
   length_word = r.length_word;
+  served = r.served;
   state = r.state;
   owned = λ h. owned h ∙ r.owned h;
   made_all = made_all ∙ r.made_all;
@@ -194,7 +195,7 @@ tells e id other c b s r at apart there =
     (join-gone s.views r.holder id other v w both spent at there (λ x. x) (λ x. x))
 
 pub settles : (e : Parts) (slots id : ℕ) (c : Claim) (b : Seen) (st : TurnStep)
-    → Allows (HoldsThroughout e) slots id (knowledge e Idle (learned c b ∷ []) (c.seen ∷ b ∷ []), []) 1 (λ n. n) (settled st (knowledge e Idle (learned c b ∷ []) (c.seen ∷ b ∷ []), []))
+    → Allows (HoldsThroughout e) slots id (knowledge e Idle (learned c b ∷ []) (c.seen ∷ b ∷ []), []) SERVING (λ n. n) (settled st (knowledge e Idle (learned c b ∷ []) (c.seen ∷ b ∷ []), []))
 settles e slots id c b st s r deep at small =
     let v = knowledge e Idle (learned c b ∷ []) (c.seen ∷ b ∷ []) in
     let w = knowledge e Idle (learned c b ∷ []) [] in
@@ -207,7 +208,7 @@ settles e slots id c b st s r deep at small =
       w,
       keeps,
       tt,
-      subst (λ ws. HoldsThroughout e record { words = ws; homes = s.homes; views = set s.views id w }) (sym (set-get_or s.words 1 0))
+      subst (λ ws. HoldsThroughout e record { words = ws; homes = s.homes; views = set s.views id w }) (sym (set-get_or s.words SERVING 0))
           (regroup e s r (set s.views id w)
           (λ h. let x = total-set (weigh h) s.views id v w at in omega arith)
           (let x = total-set made s.views id v w at in omega arith)

@@ -12,6 +12,7 @@ use Rattle.air_rules.proofs.Beginnings.{begins-on}
 use Rattle.air_rules.proofs.OwnEntries.{keeps-others}
 use Rattle.atomic_table.specs.Table.{Allows, keeps}
 use Rattle.atomic_table.proofs.Lists.{set_here}
+use Rattle.air_turn.specs.declared.view.TheConstants.{LENGTH}
 use Rattle.air_turn.specs.declared.view.Claim.{Claim}
 use Rattle.air_turn.specs.declared.view.Knowledge.{Knowledge}
 use Rattle.air_turn.specs.declared.view.Seen.{Seen}
@@ -22,6 +23,7 @@ use Rattle.air_turn.specs.Told.{TurnStep, called, holding, raised}
 use Rattle.air_turn.specs.Totals.{total, one}
 use Rattle.air_turn.proofs.Actives.{once-active}
 use Rattle.air_turn.proofs.Sums.{member-le, pair-le, total-set}
+use Rattle.air_turn.proofs.Serving.{served-kept}
 use Rattle.air_turn.proofs.Turns.{TurnState, each-set, inside-list, off}
 
 -- the length that the journal had after n calls, where a call more has made it `len`
@@ -105,7 +107,7 @@ more-mod : (w n k : ℕ) → w ≡ n % 18446744073709551616 → (w + k) % 184467
 more-mod w n k e = omega arith
 
 pub raises : (e : Parts) (slots id : ℕ) (c : Claim) (k n : ℕ) (journal now : List Entry) (grew : ℕ) (hand : Option State) (st : TurnStep) → IsState e now → Grows c.own journal now grew
-    → Allows (HoldsThroughout e) slots id (holding e c k journal n hand) 2 (λ x. (x + grew) % 18446744073709551616) (raised now st (holding e c k journal n hand))
+    → Allows (HoldsThroughout e) slots id (holding e c k journal n hand) LENGTH (λ x. (x + grew) % 18446744073709551616) (raised now st (holding e c k journal n hand))
 raises e slots id c k n journal now grew hand st state grows s r deep at small =
     let v = knowledge e (Holds k journal n) (c ∷ []) [] in
     let w = knowledge e (Holds k now (n + 1)) (called c now (n + 1) ∷ []) [] in
@@ -118,7 +120,7 @@ raises e slots id c k n journal now grew hand st state grows s r deep at small =
     let g : Grows c.own r.journal now grew = subst (λ l. Grows c.own l now grew) same grows in
     let len = longer c.own r.journal now grew g in
     let reach : ℕ → ℕ = later r.reach r.calls (length now) in
-    let x : ℕ = (get_or s.words 2 0 + grew) % 18446744073709551616 in
+    let x : ℕ = (get_or s.words LENGTH 0 + grew) % 18446744073709551616 in
     let some_words = r.wide in (
       w,
       keeps,
@@ -131,11 +133,11 @@ raises e slots id c k n journal now grew hand st state grows s r deep at small =
         away = true;
         holder = id;
         reach = reach;
-        wide = length-set s.words 2 x ∙ r.wide;
+        wide = length-set s.words LENGTH x ∙ r.wide;
         deep = r.deep;
-        ticket_word = get_or-set_other s.words 2 0 x 0 (λ z. omega arith) ∙ r.ticket_word;
-        serving_word = get_or-set_other s.words 2 1 x 0 (λ z. omega arith) ∙ r.serving_word;
-        length_word = get_or-set_same s.words 2 x 0 (omega arith) ∙ (more-mod _ _ grew r.length_word ∙ ap (λ z. z % 18446744073709551616) (sym len));
+        ticket_word = get_or-set_other s.words LENGTH 0 x 0 (λ z. omega arith) ∙ r.ticket_word;
+        length_word = get_or-set_same s.words LENGTH x 0 (omega arith) ∙ (more-mod _ _ grew r.length_word ∙ ap (λ z. z % 18446744073709551616) (sym len));
+        served = served-kept s.words LENGTH x r.serving (omega arith) r.served;
         state = state;
         owned = λ h. let t = total-set (weigh h) s.views id v w at in let o = r.owned h in omega arith;
         made_all = let t = total-set made s.views id v w at in let o = r.made_all in omega arith;

@@ -27,9 +27,9 @@ use Rattle.air_turn.specs.declared.view.Knowledge.{Knowledge}
 use Rattle.air_turn.specs.declared.view.Seen.{Seen}
 use Rattle.air_turn.specs.declared.view.Stage.TheVariants.{Idle, Waits, Holds}
 use Rattle.air_turn.specs.Rule.{Grows, IsState, adds, knowledge, state_of, stays}
-use Rattle.air_turn.specs.Seats.{Called, IsNextPicture, Learns, SeatState}
+use Rattle.air_turn.specs.Seats.{Called, IsNextPicture, IsSeat, Learns, SeatState}
 use Rattle.air_turn.specs.Told.{Knows, Sees, Sitting, TurnStep, called, first, gave, holding, raised, holding, learned, looked, newer, resting, settled, staged, told, waiting}
-use Rattle.air_turn.specs.Turns.{GoneOn, HasTurn, calls_of, claim_after, commit_growth, journal_of, seat_of, seat_of_claim, send_growth, take_growth}
+use Rattle.air_turn.specs.Turns.{GoneOn, HasTicket, HasTurn, Rests, calls_of, claim_after, commit_growth, journal_of, seat_of, seat_of_claim, send_growth, take_growth, ticket_of}
 
 pub drawn-is : (m m' : Sitting) (k : ℕ) (e : Parts) (c : Claim) → m ≡ resting e c → m' ≡ (staged m.0 (Waits k), m.1) → m' ≡ waiting e c k
 drawn-is m m' k e c is to = to ∙ ap (λ (x : Sitting). (staged x.0 (Waits k), x.1)) is
@@ -56,9 +56,9 @@ turn-seen st m0 m1 m1' m2 k r found rests drew to still hit look =
 pub in-hand : (m2 : Sitting) (e : Parts) (c : Claim) (k n : ℕ) (journal : List Entry) (x : Option State) → m2 ≡ holding e c k journal n x → m2.1 ≡ (0, x) ∷ rest m2.1
 in-hand m2 e c k n journal x is = ap (λ (y : Sitting). y.1) is ∙ sym (ap (λ (y : Sitting). (0, x) ∷ rest y.1) is)
 
-pub turn-taken : (m0 m2 m3 : Sitting) (k n : ℕ) (journal : List Entry) (x : Option State) (t : State) → m2 ≡ holding m0.0.encounter (first m0.0.claims) k journal n (Some (state_of m0.0.encounter journal)) → Sees m0.0.encounter (first m0.0.claims) journal n
-    → m2.1 ≡ (0, x) ∷ rest m2.1 → m3 ≡ (m2.0, (0, None) ∷ rest m2.1) → x ≡ Some t → HasTurn m0 m3 t
-turn-taken m0 m2 m3 k n journal x t m2_is sees out left is =
+pub turn-taken : (m0 m2 m3 : Sitting) (k n : ℕ) (journal : List Entry) (x : Option State) (t : State) (drawn : ℕ) → drawn ≡ k % 18446744073709551616 → m2 ≡ holding m0.0.encounter (first m0.0.claims) k journal n (Some (state_of m0.0.encounter journal)) → Sees m0.0.encounter (first m0.0.claims) journal n
+    → m2.1 ≡ (0, x) ∷ rest m2.1 → m3 ≡ (m2.0, (0, None) ∷ rest m2.1) → x ≡ Some t → HasTurn m0 m3 drawn t
+turn-taken m0 m2 m3 k n journal x t drawn drawn_is m2_is sees out left is =
     let e = m0.0.encounter in
     let c = first m0.0.claims in
     let same : Some t ≡ Some (state_of e journal) = sym is ∙ (ap carried_of (sym out) ∙ ap (λ (y : Sitting). carried_of y.1) m2_is) in
@@ -68,6 +68,7 @@ turn-taken m0 m2 m3 k n journal x t m2_is sees out left is =
     record {
       ticket = k;
       calls = n;
+      drawn_is = drawn_is;
       new_is = m3_is ∙ ap (λ l. holding e c k l n None) journal_is;
       encounter = ap (λ (y : State). y.encounter) t_is;
       sees = subst (λ l. Sees e c l n) journal_is sees;
@@ -109,30 +110,33 @@ module _ (air : Air) (old new : List Entry) (own : ℕ) where
   grows-take (took.Done position good) h = added (entries.Take own h.send h.copy good) refl h.took.new_is
 
 -- The state has gone on from the journal of the turn.
-pub gone-on : (m0 m1 : Sitting) (old new : State) (own grew : ℕ) → HasTurn m0 m1 old → new.encounter ≡ old.encounter → IsLegal (air_of new.encounter) new.journal → own ≡ (first m0.0.claims).own → Grows own old.journal new.journal grew → GoneOn m1 new grew
-gone-on m0 m1 old new own grew turn same legal mine grows =
+pub gone-on : (m0 m1 : Sitting) (drawn : ℕ) (old new : State) (own grew : ℕ) → HasTurn m0 m1 drawn old → new.encounter ≡ old.encounter → IsLegal (air_of new.encounter) new.journal → own ≡ (first m0.0.claims).own → Grows own old.journal new.journal grew → GoneOn m1 new grew
+gone-on m0 m1 drawn old new own grew turn same legal mine grows =
     let Q : Sitting → Type 0 = λ y. GoneOn y new grew in
     let is : new.encounter ≡ m0.0.encounter = same ∙ turn.encounter in
     let state : IsState m0.0.encounter new.journal = record { valid = turn.sees.state.valid; inside = turn.sees.state.inside; legal = subst (λ e. IsLegal (air_of e) new.journal) is legal } in
     subst Q (sym turn.new_is) record {
-      ticket = turn.ticket;
       turn = refl;
       encounter = is;
       stays_a_state = subst (λ e. IsState e new.journal) (sym is) state;
       grows = subst (λ z. Grows z old.journal new.journal grew) mine grows;
     }
 
+-- The ticket of the turn is the seat's.
+pub turn-ticket : (m0 m1 : Sitting) (drawn : ℕ) (state : State) → HasTurn m0 m1 drawn state → HasTicket m1 drawn
+turn-ticket m0 m1 drawn state turn = turn.drawn_is ∙ ap (λ (y : Sitting). ticket_of y.0.stage % 18446744073709551616) (sym turn.new_is)
+
 -- What a call of a seat did, from the turn that it had.
-module _ (Does : Parts → ℕ → List Entry → List Entry → Type 0) (p q : Seat (Option State) Knowledge) (m1 : Sitting) (old new : State) where
+module _ (Does : Parts → ℕ → List Entry → List Entry → Type 0) (p q : Seat (Option State) Knowledge) (m1 : Sitting) (drawn : ℕ) (old new : State) where
   abbrev after : ℕ → SeatState
   after n = seat_of_claim p.table_id p.me.0.encounter (called (first p.me.0.claims) new.journal n)
 
-  seat-after : q.table_id ≡ p.table_id → (turn : HasTurn p.me m1 old) → q.me ≡ resting m1.0.encounter (claim_after m1 new) → seat_of q ≡ after (turn.calls + 1)
+  seat-after : q.table_id ≡ p.table_id → (turn : HasTurn p.me m1 drawn old) → q.me ≡ resting m1.0.encounter (claim_after m1 new) → seat_of q ≡ after (turn.calls + 1)
   seat-after table turn idle =
       let me : q.me ≡ resting p.me.0.encounter (called (first p.me.0.claims) new.journal (turn.calls + 1)) = idle ∙ ap (λ (y : Sitting). resting y.0.encounter (claim_after y new)) turn.new_is in
       λ i. seat_of_claim (table i) (me i).0.encounter (first (me i).0.claims)
 
-  pub called-by : (s : SeatState) (own : ℕ) → seat_of p ≡ s → q.table_id ≡ p.table_id → HasTurn p.me m1 old → q.me ≡ resting m1.0.encounter (claim_after m1 new) → own ≡ s.own → Does old.encounter own old.journal new.journal → Called s (Does s.encounter s.own) (seat_of q)
+  pub called-by : (s : SeatState) (own : ℕ) → seat_of p ≡ s → q.table_id ≡ p.table_id → HasTurn p.me m1 drawn old → q.me ≡ resting m1.0.encounter (claim_after m1 new) → own ≡ s.own → Does old.encounter own old.journal new.journal → Called s (Does s.encounter s.own) (seat_of q)
   called-by s own is table turn idle mine does =
       let e = p.me.0.encounter in
       let c = first p.me.0.claims in
@@ -148,10 +152,21 @@ module _ (Does : Parts → ℕ → List Entry → List Entry → Type 0) (p q : 
       let Q : SeatState → Type 0 = λ z. own ≡ z.own → Called z (Does z.encounter z.own) (seat_of q) in
       subst Q is (λ own_is. subst (λ t. Called (seat_of p) (Does e c.own) t) (sym (seat-after table turn idle)) (done own_is)) mine
 
+-- The seat rests again after its turn.
+pub rests-after : (p q : Seat (Option State) Knowledge) (m1 : Sitting) (drawn : ℕ) (old new : State) (own : ℕ) → Rests own p → HasTurn p.me m1 drawn old → new.encounter ≡ old.encounter → IsLegal (air_of new.encounter) new.journal → q.me ≡ resting m1.0.encounter (claim_after m1 new) → Rests own q
+rests-after p q m1 drawn old new own rests turn same legal idle =
+    let me : q.me ≡ resting p.me.0.encounter (called (first p.me.0.claims) new.journal (turn.calls + 1)) = idle ∙ ap (λ (y : Sitting). resting y.0.encounter (claim_after y new)) turn.new_is in
+    let Q : Sitting → Type 0 = λ y. IsSeat (seat_of_claim q.table_id y.0.encounter (first y.0.claims)) in
+    record {
+      idle = me ∙ sym (ap (λ (y : Sitting). resting y.0.encounter (first y.0.claims)) me);
+      own_is = rests.own_is ∙ sym (ap (λ (y : Sitting). (first y.0.claims).own) me);
+      seat = subst Q (sym me) record { valid = rests.seat.valid; inside = rests.seat.inside; active = rests.seat.active; legal = subst (λ e. IsLegal (air_of e) new.journal) (same ∙ turn.encounter) legal };
+    }
+
 -- The next picture by what a seat has seen is the next one in its turn.
-pub next-picture : (s : SeatState) (p : Seat (Option State) Knowledge) (m1 : Sitting) (state : State) (own : ℕ) (picture : Picture) → seat_of p ≡ s → HasTurn p.me m1 state → own ≡ s.own → IsNextPicture s picture
+pub next-picture : (s : SeatState) (p : Seat (Option State) Knowledge) (m1 : Sitting) (drawn : ℕ) (state : State) (own : ℕ) (picture : Picture) → seat_of p ≡ s → HasTurn p.me m1 drawn state → own ≡ s.own → IsNextPicture s picture
     → commits state.journal own < state.encounter.cycles → picture ≡ picture_of state.encounter own (commits state.journal own + 1)
-next-picture s p m1 state own picture is turn mine next =
+next-picture s p m1 drawn state own picture is turn mine next =
     let c = first p.me.0.claims in
     let own_is : c.own ≡ own = ap (λ (z : SeatState). z.own) is ∙ sym mine in
     let here : IsNextPicture (seat_of p) picture = subst (λ z. IsNextPicture z picture) (sym is) next in

@@ -9,15 +9,18 @@ use Rattle.acas_base.specs.Encounter.{Parts}
 use Rattle.acas_base.specs.declared.entry.Entry.{Entry}
 use Rattle.air_journal.specs.States.{State}
 use Rattle.atomic_table.specs.Table.{State as TableState, Act, keeps, takes, gives, stepped, Allows, Valid, carried_after}
-use Rattle.atomic_table.proofs.Lists.{at_set, set_here, set_else, set_again, one_turn}
+use Rattle.atomic_table.proofs.Lists.{at_set, set_here, set_else, set_again}
+use Rattle.air_turn.specs.declared.view.TheConstants.{LENGTH, TICKETS}
 use Rattle.air_turn.specs.declared.view.Claim.{Claim}
 use Rattle.air_turn.specs.declared.view.Knowledge.{Knowledge}
 use Rattle.air_turn.specs.declared.view.Stage.{Stage}
 use Rattle.air_turn.specs.declared.view.Stage.TheVariants.{Idle, Waits, Holds}
-use Rattle.air_turn.specs.Rule.{Fits, HoldsThroughout, IsHolding, StageFits, has, knowledge, made, state_of, tops, waits, weigh}
+use Rattle.air_turn.specs.Rule.{Fits, HoldsThroughout, IsHolding, IsServed, StageFits, has, knowledge, made, serving_word, state_of, tops, waits, weigh}
 use Rattle.air_turn.specs.Told.{Sitting, TurnStep, drew, gave, holding, looked, resting, waiting}
 use Rattle.air_turn.specs.Totals.{total, one}
+use Rattle.air_turn.specs.Turns.{ticket_of}
 use Rattle.air_turn.proofs.Actives.{few-active}
+use Rattle.air_turn.proofs.Serving.{served-kept, served-next, served-only}
 use Rattle.air_turn.proofs.Sums.{member-le, pair-le, total-le, total-set}
 
 abbrev pub TurnState : Type 0
@@ -46,11 +49,10 @@ gone-set views holder me v w at free (u, there, holds) = dite (ℕ_discrete hold
     (λ e. absurd (free (subst (λ (x : Knowledge). IsHolding x.stage) (some-injective u v (sym there ∙ (ap (get_elem? views) e ∙ at))) holds)))
     (λ ne. (u, set_else views me holder w ne ∙ there, holds))
 
--- two lemmas on the words
-next-mod : (w n : ℕ) → w ≡ n % 18446744073709551616 → (w + 1) % 18446744073709551616 ≡ (n + 1) % 18446744073709551616
+pub next-mod : (w n : ℕ) → w ≡ n % 18446744073709551616 → (w + 1) % 18446744073709551616 ≡ (n + 1) % 18446744073709551616
 next-mod w n e = omega arith
 
-pub draws : (e : Parts) (slots id : ℕ) (c : Claim) (st : TurnStep) → Allows (HoldsThroughout e) slots id (resting e c) 0 (λ n. (n + 1) % 18446744073709551616) (drew st (resting e c))
+pub draws : (e : Parts) (slots id : ℕ) (c : Claim) (st : TurnStep) → Allows (HoldsThroughout e) slots id (resting e c) TICKETS (λ n. (n + 1) % 18446744073709551616) (drew st (resting e c))
 draws e slots id c st s r deep at small =
     let v = knowledge e Idle (c ∷ []) [] in
     let w = knowledge e (Waits r.drawn) (c ∷ []) [] in
@@ -71,8 +73,8 @@ draws e slots id c st s r deep at small =
         wide = length-set s.words 0 n ∙ r.wide;
         deep = r.deep;
         ticket_word = get_or-set_same s.words 0 n 0 (omega arith) ∙ next-mod _ _ r.ticket_word;
-        serving_word = get_or-set_other s.words 0 1 n 0 (λ z. omega arith) ∙ r.serving_word;
-        length_word = get_or-set_other s.words 0 2 n 0 (λ z. omega arith) ∙ r.length_word;
+        length_word = get_or-set_other s.words 0 LENGTH n 0 (λ z. omega arith) ∙ r.length_word;
+        served = served-kept s.words 0 n r.serving (omega arith) r.served;
         state = r.state;
         owned = λ h. let t = total-set (weigh h) s.views id v w at in let o = r.owned h in omega arith;
         made_all = let t = total-set made s.views id v w at in let o = r.made_all in omega arith;
@@ -152,13 +154,8 @@ same-stepped s id i cs v at k = record { words = set-get_or s.words i 0 k; homes
 abbrev Goes : Parts → TurnState → ℕ → Sitting → ℕ → ℕ → (ℕ → Sitting → Type 0) → Type 0
 Goes e s id me i n told = (w : Knowledge) × (a : Act (Option State)) × Valid s.homes me.1 a × HoldsThroughout e (stepped s i n id me.1 w a) × told (get_or s.words i 0) (w, carried_after me.1 a)
 
-abbrev ticket_of : Stage → ℕ
-ticket_of Idle = 0
-ticket_of (Waits k) = k
-ticket_of (Holds k g n) = k
-
-takes-turn : (e : Parts) (id : ℕ) (c : Claim) (k : ℕ) (st : TurnStep) (s : TurnState) (r : HoldsThroughout e s) → get_elem? s.views id ≡ some (knowledge e (Waits k) (c ∷ []) []) → get_or s.words 1 0 ≡ k % 18446744073709551616
-    → Goes e s id (waiting e c k) 1 (get_or s.words 1 0) (looked st (waiting e c k))
+takes-turn : (e : Parts) (id : ℕ) (c : Claim) (k : ℕ) (st : TurnStep) (s : TurnState) (r : HoldsThroughout e s) → get_elem? s.views id ≡ some (knowledge e (Waits k) (c ∷ []) []) → get_or s.words (serving_word k) 0 ≡ k % 18446744073709551616
+    → Goes e s id (waiting e c k) (serving_word k) (get_or s.words (serving_word k) 0) (looked st (waiting e c k))
 takes-turn e id c k st s r at served =
     let v = knowledge e (Waits k) (c ∷ []) [] in
     let w = knowledge e (Holds k r.journal r.calls) (c ∷ []) [] in
@@ -167,7 +164,8 @@ takes-turn e id c k st s r at served =
     let fits = mine.claims.0 in
     let out = ticket-out e s r id k v at (has-own k) in
     let few = few-out e s r in
-    let is : r.serving ≡ k = one_turn r.serving k 18446744073709551616 out.0 (omega arith) (sym r.serving_word ∙ served) in
+    let i = serving_word k in
+    let is : r.serving ≡ k = served-only s.words r.serving k r.served out.0 (omega arith) served in
     let home = at-home e s r id v at (λ x. x) (subst (λ t. one t k ≡ 1) (sym is) (has-own k)) in
     let here = r.home home in (
       w,
@@ -181,11 +179,11 @@ takes-turn e id c k st s r at served =
         away = true;
         holder = id;
         reach = r.reach;
-        wide = length-set s.words 1 (get_or s.words 1 0) ∙ r.wide;
+        wide = length-set s.words i (get_or s.words i 0) ∙ r.wide;
         deep = length-set s.homes 0 none ∙ r.deep;
-        ticket_word = ap (λ ws. get_or ws 0 0) (set-get_or s.words 1 0) ∙ r.ticket_word;
-        serving_word = ap (λ ws. get_or ws 1 0) (set-get_or s.words 1 0) ∙ r.serving_word;
-        length_word = ap (λ ws. get_or ws 2 0) (set-get_or s.words 1 0) ∙ r.length_word;
+        ticket_word = ap (λ ws. get_or ws 0 0) (set-get_or s.words i 0) ∙ r.ticket_word;
+        length_word = ap (λ ws. get_or ws LENGTH 0) (set-get_or s.words i 0) ∙ r.length_word;
+        served = subst (λ ws. IsServed ws r.serving) (sym (set-get_or s.words i 0)) r.served;
         state = r.state;
         owned = λ h. let t = total-set (weigh h) s.views id v w at in let o = r.owned h in omega arith;
         made_all = let t = total-set made s.views id v w at in let o = r.made_all in omega arith;
@@ -205,17 +203,17 @@ takes-turn e id c k st s r at served =
       ),
     )
 
-pub looks : (e : Parts) (slots id : ℕ) (c : Claim) (k : ℕ) (st : TurnStep) → Allows (HoldsThroughout e) slots id (waiting e c k) 1 (λ n. n) (looked st (waiting e c k))
-looks e slots id c k st s r deep at small = dite (ℕ_discrete (get_or s.words 1 0) (k % 18446744073709551616)) (takes-turn e id c k st s r at) (λ not. (
+pub looks : (e : Parts) (slots id : ℕ) (c : Claim) (k : ℕ) (st : TurnStep) → Allows (HoldsThroughout e) slots id (waiting e c k) (serving_word k) (λ n. n) (looked st (waiting e c k))
+looks e slots id c k st s r deep at small = dite (ℕ_discrete (get_or s.words (serving_word k) 0) (k % 18446744073709551616)) (takes-turn e id c k st s r at) (λ not. (
   knowledge e (Waits k) (c ∷ []) [],
   keeps,
   tt,
-  subst (HoldsThroughout e) (sym (same-stepped s id 1 [] (knowledge e (Waits k) (c ∷ []) []) at)) r,
+  subst (HoldsThroughout e) (sym (same-stepped s id (serving_word k) [] (knowledge e (Waits k) (c ∷ []) []) at)) r,
   λ k' is. ((λ hit. absurd (not (hit ∙ ap (λ g. ticket_of g % 18446744073709551616) (sym is)))), λ _. refl),
 ))
 
 pub gives-on : (e : Parts) (slots id : ℕ) (c : Claim) (k n : ℕ) (journal : List Entry) (st : TurnStep)
-    → Allows (HoldsThroughout e) slots id (holding e c k journal n (Some (state_of e journal))) 1 (λ x. (x + 1) % 18446744073709551616) (gave st (holding e c k journal n (Some (state_of e journal))))
+    → Allows (HoldsThroughout e) slots id (holding e c k journal n (Some (state_of e journal))) (serving_word (k + 1)) (λ x. (k + 1) % 18446744073709551616) (gave st (holding e c k journal n (Some (state_of e journal))))
 gives-on e slots id c k n journal st s r deep at small =
     let v = knowledge e (Holds k journal n) (c ∷ []) [] in
     let w = knowledge e Idle (c ∷ []) [] in
@@ -227,7 +225,8 @@ gives-on e slots id c k n journal st s r deep at small =
     let same : journal ≡ r.journal = mine.stage.4 in
     let calls : n ≡ r.calls = mine.stage.5 in
     let out = ticket-out e s r id k v at (has-own k) in
-    let x : ℕ = (get_or s.words 1 0 + 1) % 18446744073709551616 in
+    let i = serving_word (k + 1) in
+    let x : ℕ = (k + 1) % 18446744073709551616 in
     let some_words = r.wide in
     let some_homes = r.deep in (
       w,
@@ -241,11 +240,11 @@ gives-on e slots id c k n journal st s r deep at small =
         away = false;
         holder = id;
         reach = r.reach;
-        wide = length-set s.words 1 x ∙ r.wide;
+        wide = length-set s.words i x ∙ r.wide;
         deep = length-set s.homes 0 (some y) ∙ r.deep;
-        ticket_word = get_or-set_other s.words 1 0 x 0 (λ z. omega arith) ∙ r.ticket_word;
-        serving_word = get_or-set_same s.words 1 x 0 (omega arith) ∙ next-mod _ _ r.serving_word;
-        length_word = get_or-set_other s.words 1 2 x 0 (λ z. omega arith) ∙ r.length_word;
+        ticket_word = get_or-set_other s.words i 0 x 0 (λ z. omega arith) ∙ r.ticket_word;
+        length_word = get_or-set_other s.words i LENGTH x 0 (λ z. omega arith) ∙ r.length_word;
+        served = subst (λ t. IsServed (set s.words (serving_word (t + 1)) ((t + 1) % 18446744073709551616)) (r.serving + 1)) (sym served) (served-next s.words r.serving r.wide r.served);
         state = r.state;
         owned = λ h. let t = total-set (weigh h) s.views id v w at in let o = r.owned h in omega arith;
         made_all = let t = total-set made s.views id v w at in let o = r.made_all in omega arith;

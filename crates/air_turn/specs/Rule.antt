@@ -1,11 +1,12 @@
 -- The rule of the table: what holds between any two atomic steps.
--- Word 0 is the number of tickets drawn and word 1 the ticket served, both modulo 2 ^ 64; word 2 is the length of the
--- journal. The one slot has the state.
-use Rattle.std.specs.Prelude.{◌≡◌, ℕ, ◌+◌, ◌%◌, ◌≤◌, Bool, true, false, List, [], ◌∷◌, filter, length, slice_index, Option, Some}
+-- Word 0 is the number of tickets drawn, modulo 2 ^ 64, and word 1 the length of the journal. Then come the serving words:
+-- each ticket that can be out has one, on which it stands once it is served. The one slot has the state.
+use Rattle.std.specs.Prelude.{◌≡◌, ◌≢◌, ℕ, ◌+◌, ◌%◌, ◌<◌, ◌≤◌, Bool, true, false, List, [], ◌∷◌, filter, length, slice_index, Option, Some}
 use Rattle.std.specs.List.{range_with_len}
 use mathlib.Core.Option.{some}
 use lib.ListN.{get_elem?}
 use Rattle.acas_base.specs.Encounter.{IsEncounter, Parts}
+use Rattle.acas_base.specs.declared.TheConstants.{CRAFTS}
 use Rattle.acas_base.specs.declared.entry.Entry.{Entry}
 use Rattle.air_journal.specs.Airs.{air_of}
 use Rattle.air_journal.specs.States.{State}
@@ -14,6 +15,7 @@ use Rattle.air_rules.specs.Journal.{Begins, entries_of, owner_of}
 use Rattle.air_rules.specs.Rules.{IsLegal}
 use Rattle.atomic_table.specs.Table.{State as TableState}
 use Rattle.flight.specs.Inside.{IsInside}
+use Rattle.air_turn.specs.declared.view.TheConstants.{LENGTH, SERVING, TICKETS, WORDS}
 use Rattle.air_turn.specs.declared.view.Claim.{Claim}
 use Rattle.air_turn.specs.declared.view.Knowledge.{Knowledge}
 use Rattle.air_turn.specs.declared.view.Seen.{Seen}
@@ -124,6 +126,16 @@ module _ (journal : List Entry) (calls : ℕ) (reach : ℕ → ℕ) where
     pub notes : NotesFit v.notes
     pub old : OldFits v.claims v.notes
 
+-- The serving word of a ticket. No two tickets that are out have the same one, since there are no more than aircraft, and they
+-- follow each other.
+abbrev pub serving_word : ℕ → ℕ
+serving_word ticket = SERVING + ticket % CRAFTS
+
+-- This ticket is served: it stands on its serving word, and none of the next ones does.
+pub record IsServed (words : List ℕ) (ticket : ℕ) : Type 0 where
+  pub own : slice_index words (serving_word ticket) ≡ ticket % 18446744073709551616
+  pub next : (later : ℕ) → ticket < later → later < ticket + CRAFTS → slice_index words (serving_word later) ≢ later % 18446744073709551616
+
 abbrev pub IsHolding : Stage → Type 0
 IsHolding (Holds k journal n) = Unit {0}
 IsHolding _ = ⊥
@@ -138,11 +150,11 @@ pub record HoldsThroughout (e : Parts) (s : TableState (Option State) Knowledge)
   pub away : Bool
   pub holder : ℕ
   pub reach : ℕ → ℕ
-  pub wide : length s.words ≡ 3
+  pub wide : length s.words ≡ WORDS
   pub deep : length s.homes ≡ 1
-  pub ticket_word : slice_index s.words 0 ≡ drawn % 18446744073709551616
-  pub serving_word : slice_index s.words 1 ≡ serving % 18446744073709551616
-  pub length_word : slice_index s.words 2 ≡ length journal % 18446744073709551616
+  pub ticket_word : slice_index s.words TICKETS ≡ drawn % 18446744073709551616
+  pub length_word : slice_index s.words LENGTH ≡ length journal % 18446744073709551616
+  pub served : IsServed s.words serving
   pub state : IsState e journal
   -- Each active aircraft has one claim.
   pub owned : (h : ℕ → ℕ) → total (weigh h) s.views ≡ total h (active_of e)

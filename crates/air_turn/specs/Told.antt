@@ -53,7 +53,7 @@ first (c ∷ cs) = c
 abbrev pub drew : TurnStep → Sitting → ℕ → Sitting → Type 0
 drew st m r m' = (k : ℕ) × (k % 18446744073709551616 ≡ r) × (m' ≡ (staged m.0 (Waits k), m.1))
 
--- A look at the ticket that is served: where it is the seat's own, the seat has the turn and the state.
+-- A look at the seat's serving word: where its ticket stands there, the seat has the turn and the state.
 abbrev pub looked : TurnStep → Sitting → ℕ → Sitting → Type 0
 looked st m r m' = (k : ℕ) → m.0.stage ≡ Waits k
     → (r ≡ k % 18446744073709551616 → (journal : List Entry) × (n : ℕ) × (m' ≡ (staged m.0 (Holds k journal n), (0, Some (state_of m.0.encounter journal)) ∷ m.1)) × Sees m.0.encounter (first m.0.claims) journal n)

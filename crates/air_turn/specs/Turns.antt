@@ -1,5 +1,5 @@
 -- What a seat knows at the beginning and at the end of its turn, and when the seats are joined.
-use Rattle.std.specs.Prelude.{◌≡◌, ℕ, ◌+◌, List, [], map, Option, None}
+use Rattle.std.specs.Prelude.{◌≡◌, ℕ, ◌+◌, ◌%◌, List, [], map, Option, None}
 use Rattle.acas_base.specs.Encounter.{IsEncounter, Parts}
 use Rattle.acas_base.specs.declared.entry.Entry.{Entry}
 use Rattle.air_journal.specs.States.{State}
@@ -11,10 +11,11 @@ use Rattle.air_journal.specs.declared.answers.Took.{Took}
 use Rattle.air_journal.specs.declared.answers.Took.TheVariants as took
 use Rattle.atomic_table.specs.Seated.{TableId}
 use Rattle.atomic_table.specs.declared.shared.Seat.{Seat}
+use Rattle.air_turn.specs.declared.view.TheConstants.{WORDS}
 use Rattle.air_turn.specs.declared.view.Claim.{Claim}
 use Rattle.air_turn.specs.declared.view.Knowledge.{Knowledge}
 use Rattle.air_turn.specs.declared.view.Stage.{Stage}
-use Rattle.air_turn.specs.declared.view.Stage.TheVariants.{Idle, Holds}
+use Rattle.air_turn.specs.declared.view.Stage.TheVariants.{Idle, Waits, Holds}
 use Rattle.air_turn.specs.Rule.{Grows, IsState, knowledge}
 use Rattle.air_turn.specs.Seats.{IsSeat, SeatState}
 use Rattle.air_turn.specs.Told.{Sees, Sitting, called, first, holding, resting}
@@ -25,9 +26,9 @@ seat_of_claim table e c = record { table = table; own = c.own; encounter = e; fr
 abbrev pub seat_of : Seat (Option State) Knowledge → SeatState
 seat_of p = seat_of_claim p.table_id p.me.0.encounter (first p.me.0.claims)
 
--- The table has three words and one slot, and the encounter is one.
+-- The table has its words and one slot, and the encounter is one.
 pub record IsOpen (table : TableId) (e : Parts) : Type 0 where
-  pub words : table.words ≡ 3
+  pub words : table.words ≡ WORDS
   pub slots : table.slots ≡ 1
   pub valid : IsEncounter e
 
@@ -37,6 +38,11 @@ pub record Rests (own : ℕ) (p : Seat (Option State) Knowledge) : Type 0 where
   pub own_is : own ≡ (first p.me.0.claims).own
   pub seat : IsSeat (seat_of p)
 
+abbrev pub ticket_of : Stage → ℕ
+ticket_of Idle = 0
+ticket_of (Waits k) = k
+ticket_of (Holds k journal n) = k
+
 abbrev pub journal_of : Stage → List Entry
 journal_of (Holds k journal n) = journal
 journal_of _ = []
@@ -45,18 +51,22 @@ abbrev pub calls_of : Stage → ℕ
 calls_of (Holds k journal n) = n
 calls_of _ = 0
 
+-- The ticket that the seat has, as the table has it.
+abbrev pub HasTicket : Sitting → ℕ → Type 0
+HasTicket m ticket = ticket ≡ ticket_of m.0.stage % 18446744073709551616
+
 -- The seat has the turn, and the state is in its hands.
-pub record HasTurn (old new : Sitting) (state : State) : Type 0 where
+pub record HasTurn (old new : Sitting) (drawn : ℕ) (state : State) : Type 0 where
   pub ticket : ℕ
   pub calls : ℕ
+  pub drawn_is : drawn ≡ ticket % 18446744073709551616
   pub new_is : new ≡ holding old.0.encounter (first old.0.claims) ticket state.journal calls None
   pub encounter : state.encounter ≡ old.0.encounter
   pub sees : Sees old.0.encounter (first old.0.claims) state.journal calls
 
 -- The seat has the turn, with the state in its hands, which has gone on from the journal of the turn.
 pub record GoneOn (m : Sitting) (state : State) (grew : ℕ) : Type 0 where
-  pub ticket : ℕ
-  pub turn : m ≡ holding m.0.encounter (first m.0.claims) ticket (journal_of m.0.stage) (calls_of m.0.stage) None
+  pub turn : m ≡ holding m.0.encounter (first m.0.claims) (ticket_of m.0.stage) (journal_of m.0.stage) (calls_of m.0.stage) None
   pub encounter : state.encounter ≡ m.0.encounter
   pub stays_a_state : IsState state.encounter state.journal
   pub grows : Grows (first m.0.claims).own (journal_of m.0.stage) state.journal grew
@@ -67,8 +77,7 @@ claim_after m state = called (first m.0.claims) state.journal (calls_of m.0.stag
 
 -- The call has ended, and the seat still has the turn.
 pub record Ended (old : Sitting) (state : State) (new : Sitting) : Type 0 where
-  pub ticket : ℕ
-  pub new_is : new ≡ holding old.0.encounter (claim_after old state) ticket state.journal (calls_of old.0.stage + 1) None
+  pub new_is : new ≡ holding old.0.encounter (claim_after old state) (ticket_of old.0.stage) state.journal (calls_of old.0.stage + 1) None
 
 -- By how much a call has made the journal longer.
 abbrev pub commit_growth : Commit → ℕ

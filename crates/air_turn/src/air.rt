@@ -3,10 +3,9 @@ ghost use Rattle.std.specs.Prelude.{◌≡◌};
 ghost use Rattle.air_turn.specs.Seats.{CommitsIn, IsNextPicture, Learns, SendsIn, TakesIn};
 ghost use Rattle.air_turn.specs.Turns.{commit_growth, send_growth, take_growth};
 
-use crate::bells::Bells;
 use crate::seat::Seat;
 use crate::steps::{Note, Settle};
-use crate::view::TurnTable;
+use crate::view::{SERVING, TurnTable};
 use acas_base::Picture;
 use air_journal::{Commit, Sent, Took};
 use std::marker::Model;
@@ -17,7 +16,6 @@ use std::sync::Wait;
 #[derive(Drop)]
 pub struct Air {
     pub(crate) table: TurnTable,
-    pub(crate) bells: Bells,
 }
 
 impl Model for Air {
@@ -68,9 +66,9 @@ impl Air {
         ensures { CommitsIn seat.old result seat.new }
     {
         let own = seat.own();
-        let mut state = self.enter(rt, &mut seat.place);
-        let answer = state.commit(own, pic);
-        self.leave(&mut seat.place, state, commit_grew(&answer));
+        let mut turn = self.enter(rt, &mut seat.place);
+        let answer = turn.state.commit(own, pic);
+        self.leave(&mut seat.place, turn, commit_grew(&answer));
         answer
     }
 
@@ -81,9 +79,9 @@ impl Air {
         ensures { SendsIn seat.old result seat.new }
     {
         let own = seat.own();
-        let mut state = self.enter(rt, &mut seat.place);
-        let answer = state.send(own);
-        self.leave(&mut seat.place, state, send_grew(&answer));
+        let mut turn = self.enter(rt, &mut seat.place);
+        let answer = turn.state.send(own);
+        self.leave(&mut seat.place, turn, send_grew(&answer));
         answer
     }
 
@@ -94,9 +92,9 @@ impl Air {
         ensures { TakesIn seat.old result seat.new }
     {
         let own = seat.own();
-        let mut state = self.enter(rt, &mut seat.place);
-        let answer = state.take(own);
-        self.leave(&mut seat.place, state, take_grew(&answer));
+        let mut turn = self.enter(rt, &mut seat.place);
+        let answer = turn.state.take(own);
+        self.leave(&mut seat.place, turn, take_grew(&answer));
         answer
     }
 
@@ -109,6 +107,6 @@ impl Air {
     {
         let note = self.table.shared.split_seat::<Note>(&mut other.place);
         self.table.shared.join_seat::<Note>(&mut seat.place, note);
-        self.table.shared.load::<Settle>(&mut seat.place, 1);
+        self.table.shared.load::<Settle>(&mut seat.place, SERVING);
     }
 }

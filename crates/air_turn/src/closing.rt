@@ -4,6 +4,7 @@ ghost use Rattle.air_journal.specs.Airs.{air_of};
 ghost use Rattle.air_rules.specs.Rules.{IsLegal};
 ghost use Rattle.air_turn.specs.Seats.{AreAllSeats, AreSeatsOf, Closes};
 ghost use Rattle.air_turn.specs.Turns.{Gathers};
+ghost use Rattle.air_turn.specs.declared.view.TheConstants.{WORDS};
 
 use crate::air::Air;
 use crate::seat::Seat;
@@ -15,7 +16,7 @@ use air_journal::AirState;
 fn gather(table: &TurnTable, mut seats: Vec<Seat>) -> TurnSeat
     requires some { 0 < vec_len seats }
     requires of { AreSeatsOf (record { table = table.now.shared.table_id; encounter = table.now.shared.key.value.encounter }) seats.items }
-    requires words { table.now.shared.table_id.words ≡ 3 }
+    requires words { table.now.shared.table_id.words ≡ WORDS }
     ensures table { result.table_id ≡ table.now.shared.table_id }
     ensures gathers { Gathers table.now.shared.table_id result.me seats.items }
 {
@@ -39,7 +40,7 @@ impl Air {
         ensures legal { IsLegal (air_of self.encounter) result.journal }
         ensures closes { Closes seats.items result.journal }
     {
-        let Air { table, bells: _ } = self;
+        let Air { table } = self;
         let place = gather(&table, seats);
         let mut closed = table.close_with(place);
         let slot = closed.take(0);

@@ -7,7 +7,6 @@
 #![tactic(auto)]
 
 mod air;
-mod bells;
 mod closing;
 mod opening;
 mod seat;

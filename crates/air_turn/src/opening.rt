@@ -6,10 +6,9 @@ ghost use Rattle.air_turn.specs.Seats.{AreAllSeats, first_seats};
 ghost use Rattle.craft_view.specs.Kept.{IsActive};
 
 use crate::air::Air;
-use crate::bells::Bells;
 use crate::seat::Seat;
 use crate::steps::Cut;
-use crate::view::{TurnSeat, TurnTable};
+use crate::view::{LENGTH, TurnSeat, TurnTable, WORDS};
 use acas_base::Encounter;
 use air_journal::AirState;
 use craft_view::is_active;
@@ -38,18 +37,18 @@ impl Air {
         ensures seats { IfOk result (λ opened. opened.1.items ≡ first_seats opened.0.table state.encounter state.journal (active_of state.encounter)) }
         ensures all { IfOk result (λ opened. AreAllSeats opened.0 opened.1.items) }
     {
-        let bells = Bells::new(alloc)?;
         state.legal_law();
         let owns = actives(alloc, state.enc())?;
         let count = u64::from(state.count());
         let about = Snapshot::of(&state);
         let mut slots = Vec::with_capacity(alloc, 1)?;
         slots.push_reserved(Some(state));
-        let words = [0, 0, count];
+        let mut words = [0; WORDS];
+        words[LENGTH] = count;
         let Ok((table, place)) = TurnTable::new(alloc, &words, slots, &about) else {
             return Err(AllocError);
         };
-        let air = Air { table, bells };
+        let air = Air { table };
         let seats = air.seat_all(alloc, place, &about, &owns)?;
         Ok((air, seats))
     }

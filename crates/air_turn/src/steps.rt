@@ -13,7 +13,7 @@ impl Play<Option<AirState>, Knowledge> for Draw {
     ghost then = { drew };
 }
 
-/// A look at the ticket that is served.
+/// A look at the serving word of the seat's ticket.
 pub(crate) struct Look;
 
 impl Play<Option<AirState>, Knowledge> for Look {

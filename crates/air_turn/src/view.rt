@@ -1,10 +1,22 @@
-// What a seat at the table knows. No value of it is made: the table keeps it for the contracts alone.
-use acas_base::{Encounter, Entry};
+// The words of the table, and what a seat at it knows. No value of it is made: the table keeps it for the contracts alone.
+use acas_base::{CRAFTS, Encounter, Entry};
 use air_journal::AirState;
 use atomic_table::{Table, TableRule};
 use std::alloc::Global;
 use std::collections::LinkedList;
 use std::snapshot::Snapshot;
+
+/// The word with the number of tickets drawn.
+pub const TICKETS: usize = 0;
+
+/// The word with the length of the journal.
+pub const LENGTH: usize = 1;
+
+/// The first of the serving words: there is one for each ticket that can be out.
+pub const SERVING: usize = 2;
+
+/// The number of words.
+pub const WORDS: usize = SERVING + CRAFTS;
 
 /// The journal as it was last seen, and the place of the latest call known then.
 pub struct Seen {

@@ -5,8 +5,8 @@ use Rattle.air_turn.proofs.Opened.{opens-as}
 use Rattle.air_turn.proofs.Seating.{first-all}
 use Rattle.air_turn.proofs.air.Air.open.Goals as goal
 
-pub new-requires-2 : goal.new-requires-2
-new-requires-2 c = opens-as c.args.state _ _ _ (record { valid = c.legal_law.ensures.valid; inside = c.legal_law.ensures.inside; legal = c.legal_law.ensures.legal }) (search rules) (search rules) c.of-about.ensures (search rules)
+pub new-requires : goal.new-requires
+new-requires c = opens-as c.args.state _ _ _ (record { valid = c.legal_law.ensures.valid; inside = c.legal_law.ensures.inside; legal = c.legal_law.ensures.legal }) (search rules) (search rules) c.of-about.ensures (search rules)
 
 pub returns-clause-all : goal.returns-clause-all
 returns-clause-all c =

@@ -2,16 +2,22 @@ use Rattle.std.proofs.Common.{sym, ap, ◌∙◌}
 use Rattle.air_journal.specs.Airs.{air_of}
 use Rattle.air_journal.specs.Calls.{Takes}
 use Rattle.air_turn.specs.Seats.{SeatState}
-use Rattle.air_turn.proofs.Turning.{called-by, gone-on, grows-take}
+use Rattle.air_turn.proofs.Turning.{called-by, gone-on, grows-take, rests-after, turn-ticket}
 use Rattle.air_turn.proofs.air.Air.take.Goals as goal
+
+pub leave-requires-clause-ticket : goal.leave-requires-clause-ticket
+leave-requires-clause-ticket g c = turn-ticket _ _ _ _ c.enter-turn.ensures.turn
 
 pub leave-requires-clause-gone_on : goal.leave-requires-clause-gone_on
 leave-requires-clause-gone_on g c =
     let mine = c.own-own.ensures ∙ sym (ap (λ (s : SeatState). s.own) c.seat.view_is) in
     let grows = grows-take _ _ _ _ _ c.take-answer.ensures.takes in
-    rw c.take_grew.ensures (gone-on c.seat.inside.place.me _ c.enter-state.result c.take-answer.new.self _ _ c.enter-state.ensures.turn c.take-answer.ensures.encounter c.take-answer.ensures.legal mine grows)
+    rw c.take_grew.ensures (gone-on c.seat.inside.place.me _ _ c.enter-turn.result.state c.take-answer.new.self _ _ c.enter-turn.ensures.turn c.take-answer.ensures.encounter c.take-answer.ensures.legal mine grows)
 
 pub returns : goal.returns
 returns g c =
-    called-by (λ e own before after. Takes (air_of e) before own after c.take-answer.result) c.seat.inside.place c.leave.new.place _ c.enter-state.result c.take-answer.new.self c.args.seat.now c.own-own.result c.seat.view_is
-    (c.leave.ensures.place.0 ∙ c.enter-state.ensures.place.0) c.enter-state.ensures.turn c.leave.ensures.idle c.own-own.ensures c.take-answer.ensures.takes
+    called-by (λ e own before after. Takes (air_of e) before own after c.take-answer.result) c.seat.inside.place c.leave.new.place _ _ c.enter-turn.result.state c.take-answer.new.self c.args.seat.now c.own-own.result c.seat.view_is
+    (c.leave.ensures.place.0 ∙ c.enter-turn.ensures.place.0) c.enter-turn.ensures.turn c.leave.ensures.idle c.own-own.ensures c.take-answer.ensures.takes
+
+pub invariant_of-seat : goal.invariant_of-seat
+invariant_of-seat g c = rests-after c.seat.inside.place _ _ _ c.enter-turn.result.state c.take-answer.new.self _ c.seat.invariant c.enter-turn.ensures.turn c.take-answer.ensures.encounter c.take-answer.ensures.legal c.leave.ensures.idle
