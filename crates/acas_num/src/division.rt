@@ -19,26 +19,3 @@ pub fn seconds_law()
     ensures least { (a b : ℕ) → 0 < b → IsNeed a b (need a b) }
     ensures by_product { (a b seconds : ℕ) → 0 < b → (need a b ≤ seconds) ↔ (a ≤ seconds * b) }
 {}
-
-#[cfg(test)]
-mod tests {
-    use super::*;
-
-    #[test]
-    fn rounds_down(rt: HostRuntime) {
-        let rows = [
-            (7, 2, 3),
-            (-7, 2, -4),
-            (8, 2, 4),
-            (-8, 2, -4),
-            (0, 60, 0),
-            (-1, 60, -1),
-            (i64::MIN, 1, i64::MIN),
-            (i64::MAX, i64::MAX, 1),
-            (i64::MIN, i64::MAX, -2),
-        ];
-        for (a, b, quotient) in rows {
-            assert_eq!(rt; floor_div(a, b), quotient, "{a} / {b}");
-        }
-    }
-}

@@ -4,6 +4,8 @@
 mod division;
 mod ends;
 mod limits;
+#[cfg(test)]
+mod tests;
 mod track;
 mod whole_root;
 
