@@ -1,7 +1,11 @@
 -- Lines of a text.
-use Rattle.std.specs.Prelude.{ℕ, List}
-use Rattle.std.specs.List.{flat_map}
+use Rattle.std.specs.Prelude.{ℕ, List, [], ◌∷◌, ◌++◌}
+use Rattle.std.specs.List.{flat_map, join_with_byte}
 
 -- The text of lines, one after the other.
 abbrev pub joined : List (List ℕ) → List ℕ
 joined lines = flat_map (λ line. line) lines
+
+-- The line of some fields, each but the first after a comma, with its line feed.
+abbrev pub line_of : List (List ℕ) → List ℕ
+line_of fields = join_with_byte 44 fields ++ 10 ∷ []

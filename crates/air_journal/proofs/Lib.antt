@@ -18,3 +18,4 @@ pub mod Worlds
 pub mod Alike
 pub mod WellFormed
 pub mod Usually
+pub mod Addresses

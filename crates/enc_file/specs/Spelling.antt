@@ -1,7 +1,7 @@
 -- The records of an encounter's canonical text, each as its fields.
-use Rattle.std.specs.Prelude.{ℕ, ℤ, pos, List, [], ◌∷◌, ◌++◌, take, codes, Option, Some, None}
+use Rattle.std.specs.Prelude.{ℕ, ℤ, pos, List, [], ◌∷◌, take, codes, Option, Some, None}
 use Rattle.std.specs.Fmt.{signed_decimal}
-use Rattle.std.specs.List.{flat_map, join_with_byte}
+use Rattle.std.specs.List.{flat_map}
 use Rattle.acas_base.specs.Encounter.{address_in}
 use Rattle.acas_base.specs.declared.craft.CraftSpec.{CraftSpec}
 use Rattle.acas_base.specs.declared.craft.Gains.{Gains}
@@ -13,6 +13,7 @@ use Rattle.acas_base.specs.declared.link.CopyPlan.{CopyPlan}
 use Rattle.acas_base.specs.declared.link.Fate.{Fate}
 use Rattle.acas_base.specs.declared.link.LinkPlan.{LinkPlan}
 use Rattle.acas_text.specs.Hex.{hex}
+pub use Rattle.acas_lines.specs.Lines.{line_of}
 
 -- A number that is at least 0.
 abbrev pub number : ℕ → List ℕ
@@ -82,7 +83,3 @@ fate_record crafts fate = codes "fate" ∷ address_at crafts fate.sender ∷ add
 
 abbrev pub end_record : List (List ℕ)
 end_record = codes "end" ∷ []
-
--- A record on a line of its own, with its line feed.
-abbrev pub line_of : List (List ℕ) → List ℕ
-line_of fields = join_with_byte 44 fields ++ 10 ∷ []

@@ -1,19 +1,16 @@
 -- The lines of the intervals.
-use Rattle.std.proofs.Common.{◌≡◌, ℕ, zero, suc, ◌+◌, ◌*◌, ◌<◌, ◌≤◌, ◌^◌, Bool, true, false, cond, List, [], ◌∷◌, ◌++◌, length, length-append, get_or, Bor, Option, Some, None, option_map, reverse, refl, sym, ap, ◌∙◌, subst, subst₂, arith, ◌-◌, add-one, append_assoc}
+use Rattle.std.proofs.Common.{◌≡◌, ℕ, zero, suc, ◌+◌, ◌*◌, ◌<◌, ◌≤◌, ◌^◌, Bool, true, false, cond, List, [], ◌∷◌, ◌++◌, length, length-append, Bor, Option, Some, None, option_map, reverse, refl, sym, ap, ◌∙◌, subst, subst₂, arith, ◌-◌}
 use Rattle.std.specs.List.{flat_map, range_with_len}
-use Rattle.std.specs.Option.{option_map_or}
 use Rattle.std.specs.Prelude.{MatchOption, option_and_then, option_to_list, slice_get}
 use Rattle.std.proofs.lemmas.Bool.{cond-false}
-use Rattle.std.proofs.lemmas.List.{append-nil}
-use Rattle.std.proofs.lemmas.Option.{slice_get_read}
 use Rattle.acas_base.specs.Encounter.{IsEncounter, Parts}
 use Rattle.acas_base.specs.declared.advisory.Cells.{Cells}
 use Rattle.acas_base.specs.declared.advisory.Sense.{Sense}
-use Rattle.acas_base.specs.declared.craft.CraftSpec.{CraftSpec}
 use Rattle.acas_base.specs.declared.entry.Entry.{Entry}
 use Rattle.acas_base.specs.declared.entry.Entry.TheVariants.{Send, Take}
+use Rattle.acas_lines.proofs.Ranges.{length-flat}
 use Rattle.air_journal.proofs.Bounds.{few-crafts, fits, most-few}
-use Rattle.air_journal.specs.Airs.{address_of, air_of}
+use Rattle.air_journal.specs.Airs.{air_of}
 use Rattle.air_journal.specs.EntryRefs.{entry_of}
 use Rattle.air_journal.specs.declared.entry_ref.EntryRef.{EntryRef}
 use Rattle.air_journal.specs.declared.entry_ref.EntryRef.TheVariants as refs
@@ -25,24 +22,9 @@ use Rattle.journal_reader.specs.Reading.{Reading, next_entry, read_of}
 use Rattle.pair_watch.specs.Watching.{begun_lines, begun_sense, equal_sense, interval_lines, is_at, is_pair_commit, is_watched, line_at, line_for, lines_at, lines_of_low, row_began}
 use Rattle.pair_watch.proofs.Steps.{at-within, row-stays, row-within}
 
-pub flat-more : {X : Type 0} (f : ℕ → List X) (first n : ℕ) → flat_map f (range_with_len first (n + 1)) ≡ flat_map f (range_with_len first n) ++ f (first + n)
-flat-more f first n = ap (λ (k : ℕ). flat_map f (range_with_len first k)) (add-one n) ∙ by_suc f first n
-  where
-    by_suc : {X : Type 0} (f : ℕ → List X) (first n : ℕ) → flat_map f (range_with_len first (suc n)) ≡ flat_map f (range_with_len first n) ++ f (first + n)
-    by_suc f first zero = append-nil (f first) ∙ ap f (omega arith)
-    by_suc f first (suc n) =
-        let next : (first + 1) + n ≡ first + suc n = omega arith in
-        ap (λ xs. f first ++ xs) (by_suc f (first + 1) n ∙ ap (λ k. flat_map f (range_with_len (first + 1) n) ++ f k) next) ∙ sym (append_assoc (f first) (flat_map f (range_with_len (first + 1) n)) (f (first + suc n)))
-
 flat-none : {X : Type 0} (f : ℕ → List X) (first n : ℕ) → ((k : ℕ) → f k ≡ []) → flat_map f (range_with_len first n) ≡ []
 flat-none f first zero h = refl
 flat-none f first (suc n) h = ap (λ xs. xs ++ flat_map f (range_with_len (first + 1) n)) (h first) ∙ flat-none f (first + 1) n h
-
--- The address of an aircraft that was read from the list.
-pub address-is : (e : Parts) (crafts : List CraftSpec) (own : ℕ) (craft : CraftSpec) → crafts ≡ e.crafts → own < length crafts → craft ≡ get_or crafts own craft → craft.address ≡ address_of e own
-address-is e crafts own craft same within is =
-    let at : slice_get e.crafts own ≡ Some craft = subst (λ xs. slice_get xs own ≡ Some craft) same (slice_get_read crafts (length crafts) own craft refl within is) in
-    ap (λ (o : Option CraftSpec). option_map_or (λ (c : CraftSpec). c.address) o 0) (sym at)
 
 -- A beginning of a journal is the one of its length.
 pub prefix-is : (K J : List Entry) → Begins K J → K ≡ read_of J (length K)
@@ -115,13 +97,6 @@ reads-on old new entry found is next journal b reads =
     }
 
 -- ---- how many lines there are
-
-length-flat : {X : Type 0} (f : ℕ → List X) (most first n : ℕ) → ((k : ℕ) → length (f k) ≤ most) → length (flat_map f (range_with_len first n)) ≤ n * most
-length-flat f most first zero h = omega arith
-length-flat f most first (suc n) h =
-    let one = h first in
-    let rest = length-flat f most (first + 1) n h in
-    omega (arith, length-append (f first) (flat_map f (range_with_len (first + 1) n)))
 
 one-at-most : {X : Type 0} (o : Option X) → length (option_to_list o) ≤ 1
 one-at-most None = omega arith

@@ -1,6 +1,6 @@
 -- Numbers in a row that pass a test.
-use Rattle.std.proofs.Common.{◌≡◌, ℕ, zero, suc, ◌+◌, Bool, true, false, cond, List, [], ◌∷◌, ◌++◌, filter, refl, sym, ap, ◌∙◌, subst, arith, add-one, append_assoc}
-use Rattle.std.specs.List.{flat_map, range_with_len}
+use Rattle.std.proofs.Common.{◌≡◌, ℕ, zero, suc, ◌+◌, Bool, true, false, cond, List, [], ◌∷◌, ◌++◌, filter, refl, sym, ap, ◌∙◌, subst, arith, add-one}
+use Rattle.std.specs.List.{range_with_len}
 use Rattle.std.proofs.lemmas.List.{append-nil}
 use Rattle.acas_base.specs.Messages.{has_advisory}
 use Rattle.acas_base.specs.declared.advisory.Cells.{Cells}
@@ -53,13 +53,3 @@ threats-among cells zero = tt
 threats-among cells (suc n) =
     subst (λ (k : ℕ). IsAmong k (as_threats (threats k cells))) (add-one n)
     (subst (IsAmong (n + 1)) (sym (threats-more cells n)) (among-more n (as_threats (threats n cells)) (has_advisory (cell_at cells n)) (threats-among cells n)))
-
--- What a function gives for the next number.
-pub flat-more : {X : Type 0} (f : ℕ → List X) (first n : ℕ) → flat_map f (range_with_len first (n + 1)) ≡ flat_map f (range_with_len first n) ++ f (first + n)
-flat-more f first n = ap (λ (k : ℕ). flat_map f (range_with_len first k)) (add-one n) ∙ by_suc f first n
-  where
-    by_suc : {X : Type 0} (f : ℕ → List X) (first n : ℕ) → flat_map f (range_with_len first (suc n)) ≡ flat_map f (range_with_len first n) ++ f (first + n)
-    by_suc f first zero = append-nil (f first) ∙ ap f (omega arith)
-    by_suc f first (suc n) =
-        let next : (first + 1) + n ≡ first + suc n = omega arith in
-        ap (λ xs. f first ++ xs) (by_suc f (first + 1) n ∙ ap (λ k. flat_map f (range_with_len (first + 1) n) ++ f k) next) ∙ sym (append_assoc (f first) (flat_map f (range_with_len (first + 1) n)) (f (first + suc n)))

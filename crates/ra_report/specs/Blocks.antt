@@ -1,7 +1,7 @@
 -- The RA report blocks of a journal, which stands with its newest entry first.
-use Rattle.std.specs.Prelude.{ℕ, zero, suc, ◌&&◌, ◌||◌, ◌==◌, Bool, true, false, if◌then◌else◌, List, [], ◌∷◌, ◌++◌, Option, Some, None, codes, filter, length, option_and_then, option_map, option_to_list}
+use Rattle.std.specs.Prelude.{ℕ, zero, suc, ◌&&◌, ◌||◌, ◌==◌, Bool, true, false, if◌then◌else◌, List, [], ◌∷◌, Option, Some, None, codes, filter, length, option_and_then, option_map, option_to_list}
 use Rattle.std.specs.Fmt.{decimal}
-use Rattle.std.specs.List.{flat_map, join_with_byte, list_any, range_with_len}
+use Rattle.std.specs.List.{flat_map, list_any, range_with_len}
 use Rattle.acas_base.specs.Encounter.{Parts}
 use Rattle.acas_base.specs.Messages.{has_advisory}
 use Rattle.acas_base.specs.Senses.{is_same_sense, other_sense}
@@ -17,7 +17,7 @@ use Rattle.acas_base.specs.declared.advisory.Vrc.{Vrc}
 use Rattle.acas_base.specs.declared.advisory.Vrc.TheVariants.{Nil, NotBelow, NotAbove}
 use Rattle.acas_base.specs.declared.entry.Entry.{Entry}
 use Rattle.acas_base.specs.declared.entry.Entry.TheVariants.{Commit, Send, Take}
-use Rattle.acas_lines.specs.Lines.{joined}
+use Rattle.acas_lines.specs.Lines.{joined, line_of}
 use Rattle.acas_text.specs.Hex.{hex}
 use Rattle.air_journal.specs.Airs.{address_of, air_of}
 use Rattle.air_rules.specs.Air.{is_ra}
@@ -162,9 +162,6 @@ block_in e (Send own target number word ∷ earlier) craft of_cycle = block_in e
 block_in e (Take own send copy good ∷ earlier) craft of_cycle = block_in e earlier craft of_cycle
 
 -- ---- the text
-
-abbrev pub line_of : List (List ℕ) → List ℕ
-line_of fields = join_with_byte 44 fields ++ 10 ∷ []
 
 abbrev pub block_line : ℕ → ℕ → RaBlock → List ℕ
 block_line cycle address block = line_of (codes "b" ∷ decimal cycle ∷ hex 6 address ∷ hex 14 (word_of block) ∷ [])

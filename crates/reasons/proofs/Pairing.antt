@@ -1,19 +1,17 @@
 -- The line of a commit against another aircraft, from its parts.
-use Rattle.std.proofs.Common.{◌≡◌, ◌≢◌, ◌+◌, ◌-◌, ◌<◌, ◌≤◌, ◌∙◌, ℕ, zero, suc, List, [], ◌∷◌, ◌++◌, length, get_or, Option, Some, add-one, append_assoc, arith, eq-eqb, inl, inr, length-append, ne_eqb, refl, sym, ap}
-use Rattle.std.specs.Prelude.{Bool, codes, if◌then◌else◌, slice_get}
+use Rattle.std.proofs.Common.{◌≡◌, ◌≢◌, ◌+◌, ◌-◌, ◌<◌, ◌≤◌, ◌∙◌, ℕ, zero, suc, List, [], ◌∷◌, ◌++◌, length, Option, add-one, arith, eq-eqb, inl, inr, length-append, ne_eqb, refl, sym, ap}
+use Rattle.std.specs.Prelude.{Bool, codes, if◌then◌else◌}
 use Rattle.std.specs.Fmt.{decimal}
 use Rattle.std.specs.List.{flat_map, join_with_byte, range_with_len}
 use Rattle.std.proofs.lemmas.Bool.{cases_eq}
 use Rattle.std.proofs.lemmas.List.{append-nil}
 use Rattle.std.proofs.lemmas.List.Concat.{flat_map-append}
-use Rattle.std.specs.Option.{option_map_or}
-use Rattle.std.proofs.lemmas.Option.{slice_get_read}
 use Rattle.acas_base.specs.Encounter.{Parts}
 use Rattle.acas_base.specs.declared.advisory.Cell.{Cell}
 use Rattle.acas_base.specs.declared.advisory.Cells.{Cells}
 use Rattle.acas_base.specs.declared.advisory.Vrc.{Vrc}
-use Rattle.acas_base.specs.declared.craft.CraftSpec.{CraftSpec}
 use Rattle.acas_base.specs.declared.entry.Entry.{Entry}
+use Rattle.acas_lines.proofs.Ranges.{flat-more}
 use Rattle.air_journal.specs.Airs.{address_of, air_of}
 use Rattle.air_rules.specs.Journal.{cell_at, last_cell}
 use Rattle.air_rules.specs.Takes.{complement_from}
@@ -26,13 +24,6 @@ use Rattle.reasons.specs.Seen.{seen_of}
 use Rattle.reasons.specs.declared.rules.Rule.{Rule}
 use Rattle.reasons.specs.declared.seen.Seen.{Seen}
 use Rattle.reasons.specs.declared.told.Told.{Told}
-
--- The address of an aircraft that was read from the list.
-pub address-is : (e : Parts) (crafts : List CraftSpec) (own at : ℕ) (craft : CraftSpec) → crafts ≡ e.crafts → at ≡ own → own < length e.crafts → craft ≡ get_or crafts at craft → craft.address ≡ address_of e own
-address-is e crafts own at craft same here within is =
-    let read : craft ≡ get_or e.crafts own craft = is ∙ (λ i. get_or (same i) (here i) craft) in
-    let there : slice_get e.crafts own ≡ Some craft = slice_get_read e.crafts (length e.crafts) own craft refl within read in
-    ap (λ (o : Option CraftSpec). option_map_or (λ (c : CraftSpec). c.address) o 0) (sym there)
 
 pub front-is : (e : Parts) (journal : List Entry) (own cycle other : ℕ) (cells : Cells) (seen : Seen) (position a b : ℕ)
     → seen ≡ seen_of (sight_of e own cycle) other → position ≡ length journal → a ≡ address_of e own → b ≡ address_of e other
@@ -52,15 +43,8 @@ back-is e journal own cycle other cells seen told before cell rule complement s 
 
 -- ---- the lines of a commit
 
--- What a function gives for the next number of a range.
-flat-suc : {X : Type 0} (f : ℕ → List X) (first n : ℕ) → flat_map f (range_with_len first (suc n)) ≡ flat_map f (range_with_len first n) ++ f (first + n)
-flat-suc f first zero = append-nil (f first) ∙ ap f (omega arith)
-flat-suc f first (suc n) =
-    let next : (first + 1) + n ≡ first + suc n = omega arith in
-    ap (λ xs. f first ++ xs) (flat-suc f (first + 1) n ∙ ap (λ k. flat_map f (range_with_len (first + 1) n) ++ f k) next) ∙ sym (append_assoc (f first) (flat_map f (range_with_len (first + 1) n)) (f (first + suc n)))
-
 from-zero : {X : Type 0} (f : ℕ → List X) (n : ℕ) → flat_map f (range_with_len 0 (suc n)) ≡ flat_map f (range_with_len 0 n) ++ f n
-from-zero f n = let here : 0 + n ≡ n = omega arith in flat-suc f 0 n ∙ ap (λ k. flat_map f (range_with_len 0 n) ++ f k) here
+from-zero f n = let here : 0 + n ≡ n = omega arith in ap (λ k. flat_map f (range_with_len 0 k)) (sym (add-one n)) ∙ flat-more f 0 n ∙ ap (λ k. flat_map f (range_with_len 0 n) ++ f k) here
 
 more-parts : (f : ℕ → List Row) (n : ℕ) → flat_map row_parts (flat_map f (range_with_len 0 (n + 1))) ≡ flat_map row_parts (flat_map f (range_with_len 0 n)) ++ flat_map row_parts (f n)
 more-parts f n =

@@ -1,13 +1,8 @@
--- Lines of fields, and the texts of single fields.
+-- The texts of single fields.
 use Rattle.std.specs.Prelude.{ℕ, ◌/◌, ◌%◌, Bool, if◌then◌else◌, ℤ, pos, ◌*ℤ◌, int_lt, unsigned_abs, List, [], ◌∷◌, ◌++◌, Option, codes}
 use Rattle.std.specs.Fmt.{decimal}
 use Rattle.std.specs.Int.{int_div_euclid}
-use Rattle.std.specs.List.{join_with_byte}
 use Rattle.std.specs.Option.{option_map_or}
-
--- A line of the text: its fields with a comma between each two, and a line feed.
-abbrev pub line_of_fields : List (List ℕ) → List ℕ
-line_of_fields fields = join_with_byte 44 fields ++ codes "\n"
 
 -- What there is of a line goes on with a field, or with several ones.
 abbrev pub with_field : List ℕ → List ℕ → List ℕ

@@ -3,8 +3,9 @@ use Rattle.std.specs.Prelude.{ℕ, List, [], ◌∷◌, ◌++◌, Option, codes}
 use Rattle.std.specs.List.{join_with_byte}
 use Rattle.acas_base.specs.declared.advisory.Cell.{Cell}
 use Rattle.acas_base.specs.declared.view.View.{View}
+use Rattle.acas_lines.specs.Lines.{line_of}
 use Rattle.reasons.specs.Columns.{chosen_fields, decided_fields, named_fields, own_fields, projected_fields, reply_fields, tested_fields, told_fields, tracked_fields}
-use Rattle.reasons.specs.Fields.{line_of_fields, with_fields}
+use Rattle.reasons.specs.Fields.{with_fields}
 use Rattle.reasons.specs.declared.rules.Rule.{Rule}
 use Rattle.reasons.specs.declared.seen.Seen.{Seen}
 use Rattle.reasons.specs.declared.told.Told.{Told}
@@ -16,7 +17,7 @@ pub record Row : Type 0 where
   pub back : List (List ℕ)
 
 abbrev pub row_line : Row → List ℕ
-row_line row = line_of_fields (row.first ∷ (row.front ++ row.back))
+row_line row = line_of (row.first ∷ (row.front ++ row.back))
 
 -- A line is put as two parts, the second of which begins with a comma and ends the line.
 abbrev pub row_parts : Row → List (List ℕ)

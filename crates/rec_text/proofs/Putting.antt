@@ -1,8 +1,7 @@
 -- What was put, line by line.
-use Rattle.std.proofs.Common.{◌≡◌, ℕ, zero, suc, ◌+◌, ◌-◌, ◌*◌, ◌<◌, ◌≤◌, ◌^◌, List, [], ◌∷◌, ◌++◌, length, map, take, reverse, get_or, Some, sym, ap, ◌∙◌, subst, arith, add-one, min, append_assoc, length-append}
+use Rattle.std.proofs.Common.{◌≡◌, ℕ, ◌+◌, ◌-◌, List, [], ◌∷◌, ◌++◌, map, take, reverse, get_or, Some, sym, ap, ◌∙◌, subst, add-one}
 use Rattle.std.specs.Prelude.{All, slice_get}
-use Rattle.std.specs.List.{flat_map, range_with_len}
-use Rattle.std.proofs.lemmas.List.{append-nil, map-append, reverse-append}
+use Rattle.std.proofs.lemmas.List.{map-append, reverse-append}
 use Rattle.std.proofs.lemmas.List.Elements.{All-get_or, All-head, All-nil, All-push, All-tail}
 use Rattle.std.proofs.lemmas.Option.{get_or_from_slice_get, slice_get_within}
 use Rattle.std.proofs.Math.Seq.{take-suc}
@@ -25,21 +24,3 @@ all-back P (entry ∷ journal) all =
 pub in-order : (P : Entry → Type 0) (journal : List Entry) (at : ℕ) (entry : Entry) → All P journal → slice_get (reverse journal) at ≡ Some entry → P entry
 in-order P journal at entry all is =
     subst P (get_or_from_slice_get (reverse journal) at entry entry is) (All-get_or P (reverse journal) at entry (slice_get_within (reverse journal) at entry is) (all-back P journal all))
-
--- What a function gives for the next number of a range.
-pub flat-more : {X : Type 0} (f : ℕ → List X) (first n : ℕ) → flat_map f (range_with_len first (n + 1)) ≡ flat_map f (range_with_len first n) ++ f (first + n)
-flat-more f first n = ap (λ (k : ℕ). flat_map f (range_with_len first k)) (add-one n) ∙ by_suc f first n
-  where
-    by_suc : {X : Type 0} (f : ℕ → List X) (first n : ℕ) → flat_map f (range_with_len first (suc n)) ≡ flat_map f (range_with_len first n) ++ f (first + n)
-    by_suc f first zero = append-nil (f first) ∙ ap f (omega arith)
-    by_suc f first (suc n) =
-        let next : (first + 1) + n ≡ first + suc n = omega arith in
-        ap (λ xs. f first ++ xs) (by_suc f (first + 1) n ∙ ap (λ k. flat_map f (range_with_len (first + 1) n) ++ f k) next) ∙ sym (append_assoc (f first) (flat_map f (range_with_len (first + 1) n)) (f (first + suc n)))
-
--- As many lines as numbers times the most for each.
-pub length-flat : {X : Type 0} (f : ℕ → List X) (most first n : ℕ) → ((k : ℕ) → length (f k) ≤ most) → length (flat_map f (range_with_len first n)) ≤ n * most
-length-flat f most first zero h = omega arith
-length-flat f most first (suc n) h =
-    let one = h first in
-    let rest = length-flat f most (first + 1) n h in
-    omega (arith, length-append (f first) (flat_map f (range_with_len (first + 1) n)))

@@ -1,13 +1,11 @@
 -- The report, commit by commit.
-use Rattle.std.proofs.Common.{◌≡◌, ℕ, ◌-◌, ◌*◌, ◌<◌, ◌≤◌, ◌^◌, List, length, get_or, subst, Option, Some, None, sym, refl, ap, ◌∙◌, arith, inl}
-use Rattle.std.specs.Prelude.{option_to_list, slice_get}
-use Rattle.std.specs.Option.{option_map_or}
+use Rattle.std.proofs.Common.{◌≡◌, ℕ, ◌-◌, ◌*◌, ◌≤◌, List, length, Option, Some, None, refl, ap, ◌∙◌, arith, inl}
+use Rattle.std.specs.Prelude.{option_to_list}
 use Rattle.std.proofs.Math.Nat.{mul-le-mul}
-use Rattle.std.proofs.lemmas.Option.{slice_get_read}
 use Rattle.acas_base.specs.Encounter.{IsEncounter, Parts}
 use Rattle.acas_base.specs.declared.advisory.Cells.{Cells}
-use Rattle.acas_base.specs.declared.craft.CraftSpec.{CraftSpec}
 use Rattle.acas_base.specs.declared.entry.Entry.{Entry}
+use Rattle.acas_lines.proofs.Ranges.{length-flat}
 use Rattle.advisory_report.specs.Composite.{clear, shown}
 use Rattle.advisory_report.specs.declared.composite.Composite.{Composite}
 use Rattle.air_journal.proofs.Adding.{no-cells}
@@ -15,18 +13,11 @@ use Rattle.air_journal.proofs.Bounds.{few-crafts}
 use Rattle.air_journal.specs.Airs.{address_of, air_of}
 use Rattle.air_journal.specs.Cells.{commit_cells}
 use Rattle.air_rules.specs.Rules.{IsLegal}
-use Rattle.rec_text.proofs.Putting.{length-flat}
 use Rattle.rec_text.specs.Report.{commit_report, report_in, report_lines, report_of, shown_in}
 
 -- Before its first commit an aircraft shows nothing.
 pub shown-first : (e : Parts) (journal : List Entry) → IsLegal (air_of e) journal → (own : ℕ) → shown_in journal 0 own ≡ clear
 shown-first e journal legal own = ap shown (no-cells (air_of e) journal legal own 0 (inl refl))
-
--- The address of an aircraft that was read from the list.
-pub address-is : (e : Parts) (crafts : List CraftSpec) (own : ℕ) (craft : CraftSpec) → crafts ≡ e.crafts → own < length crafts → craft ≡ get_or crafts own craft → craft.address ≡ address_of e own
-address-is e crafts own craft same within is =
-    let at : slice_get e.crafts own ≡ Some craft = subst (λ xs. slice_get xs own ≡ Some craft) same (slice_get_read crafts (length crafts) own craft refl within is) in
-    ap (λ (o : Option CraftSpec). option_map_or (λ (c : CraftSpec). c.address) o 0) (sym at)
 
 -- The line for an aircraft's commit of a cycle, from what was read of it.
 pub report-is : (e : Parts) (journal : List Entry) (cycle own address : ℕ) (before : Composite) (cells : Option Cells) →

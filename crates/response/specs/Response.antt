@@ -1,15 +1,15 @@
 -- The text of the modelled response: for each pair of aircraft of which one resolves against the other, how near they come as
 -- planned and as flown (this project's profile).
-use Rattle.std.specs.Prelude.{ℕ, ◌+◌, ◌-◌, ◌/◌, Bool, true, false, ◌||◌, if◌then◌else◌, nat_le, ◌-ℤ◌, unsigned_abs, List, [], ◌∷◌, ◌++◌, codes, find, length, Option, Some, None}
+use Rattle.std.specs.Prelude.{ℕ, ◌+◌, ◌-◌, ◌/◌, Bool, true, false, ◌||◌, if◌then◌else◌, nat_le, ◌-ℤ◌, unsigned_abs, List, [], ◌∷◌, codes, find, length, Option, Some, None}
 use Rattle.std.specs.Fmt.{decimal}
-use Rattle.std.specs.List.{flat_map, join_with_byte, list_all, list_any, range_with_len}
+use Rattle.std.specs.List.{flat_map, list_all, list_any, range_with_len}
 use Rattle.std.specs.Option.{option_map_or}
 use Rattle.acas_base.specs.Encounter.{Parts}
 use Rattle.acas_base.specs.declared.advisory.Cell.{Cell}
 use Rattle.acas_base.specs.declared.advisory.Cell.TheVariants.{Clear, Traffic, Ra}
 use Rattle.acas_base.specs.declared.advisory.Cells.{Cells}
 use Rattle.acas_base.specs.declared.entry.Entry.{Entry}
-use Rattle.acas_lines.specs.Lines.{joined}
+use Rattle.acas_lines.specs.Lines.{joined, line_of}
 use Rattle.acas_text.specs.Hex.{hex}
 use Rattle.air_journal.specs.Airs.{address_of}
 use Rattle.air_journal.specs.Cells.{commit_cells}
@@ -59,10 +59,6 @@ abbrev pub flown_apart : Parts → List Entry → ℕ → ℕ → ℕ → ℕ
 flown_apart e journal a b cycle = unsigned_abs (flown e journal a cycle -ℤ flown e journal b cycle) / 2048
 
 -- ---- the text
-
--- The fields of a line, each but the first after a comma, and the line feed.
-abbrev pub line_of : List (List ℕ) → List ℕ
-line_of fields = join_with_byte 44 fields ++ 10 ∷ []
 
 -- The addresses of both, the cycle in which they are nearest as planned, and how far apart they are then.
 abbrev pub approach_line : ℕ → ℕ → ℕ → ℕ → ℕ → List ℕ

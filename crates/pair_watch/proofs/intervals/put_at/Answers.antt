@@ -1,7 +1,7 @@
 use Rattle.std.proofs.Common.{◌≡◌, ◌+◌, ◌++◌, sym, ap, ◌∙◌, subst, arith}
 use Rattle.std.specs.List.{flat_map, range_with_len}
 use Rattle.pair_watch.specs.Watching.{lines_of_low}
-use Rattle.pair_watch.proofs.Putting.{flat-more}
+use Rattle.acas_lines.proofs.Ranges.{flat-more}
 use Rattle.pair_watch.proofs.intervals.put_at.Goals as goal
 
 pub loop-low-preserved : goal.loop-low-preserved

@@ -2,7 +2,7 @@ use Rattle.std.proofs.Common.{◌≡◌, ℕ, ◌+◌, ◌++◌, List, sym, ap, 
 use Rattle.std.specs.List.{flat_map, range_with_len}
 use Rattle.std.specs.Prelude.{option_to_list}
 use Rattle.pair_watch.specs.Watching.{line_at}
-use Rattle.pair_watch.proofs.Putting.{flat-more}
+use Rattle.acas_lines.proofs.Ranges.{flat-more}
 use Rattle.pair_watch.proofs.intervals.put_low.Goals as goal
 
 pub loop-high-preserved : goal.loop-high-preserved

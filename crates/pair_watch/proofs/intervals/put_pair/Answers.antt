@@ -11,7 +11,8 @@ use Rattle.air_rules.specs.Journal.{Begins}
 use Rattle.journal_reader.specs.Reading.{read_of}
 use Rattle.pair_watch.specs.Watching.{begun_sense, cause_of, equal_sense, interval_line, is_watched, last_of, line_at, line_for, next_send, row_began}
 use Rattle.pair_watch.specs.declared.pair.Cause.{Cause}
-use Rattle.pair_watch.proofs.Putting.{address-is, prefix-is}
+use Rattle.air_journal.proofs.Addresses.{address-is}
+use Rattle.pair_watch.proofs.Putting.{prefix-is}
 use Rattle.pair_watch.proofs.Steps.{begun}
 use Rattle.pair_watch.proofs.intervals.put_pair.Goals as goal
 

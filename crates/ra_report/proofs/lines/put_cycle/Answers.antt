@@ -8,8 +8,8 @@ use Rattle.air_journal.specs.Airs.{address_of}
 use Rattle.air_journal.specs.States.{State}
 use Rattle.ra_report.specs.Blocks.{block_line, lines_of}
 use Rattle.ra_report.specs.declared.block.RaBlock.{RaBlock}
-use Rattle.ra_report.proofs.Putting.{address-is}
-use Rattle.ra_report.proofs.Ranges.{flat-more}
+use Rattle.acas_lines.proofs.Ranges.{flat-more}
+use Rattle.air_journal.proofs.Addresses.{address-is}
 use Rattle.ra_report.proofs.lines.put_cycle.Goals as goal
 use Rattle.ra_report.proofs.lines.put_cycle.Goals.{in-Some, in_default}
 

@@ -8,8 +8,9 @@ use Rattle.acas_base.specs.declared.TheConstants.{CRAFTS}
 use Rattle.acas_base.specs.declared.craft.CraftSpec.{CraftSpec}
 use Rattle.advisory_report.specs.Composite.{clear, shown}
 use Rattle.air_journal.proofs.Bounds.{few-crafts}
-use Rattle.rec_text.proofs.Putting.{flat-more}
-use Rattle.rec_text.proofs.Reporting.{address-is, report-is}
+use Rattle.acas_lines.proofs.Ranges.{flat-more}
+use Rattle.air_journal.proofs.Addresses.{address-is}
+use Rattle.rec_text.proofs.Reporting.{report-is}
 use Rattle.rec_text.specs.Report.{report_of, shown_in}
 use Rattle.rec_text.proofs.report.put_cycle.Goals as goal
 

@@ -4,7 +4,7 @@ use Rattle.std.proofs.lemmas.List.{get_or-replicate}
 use Rattle.acas_base.specs.Encounter.{Parts}
 use Rattle.advisory_report.specs.Composite.{clear}
 use Rattle.air_journal.proofs.Bounds.{few-crafts}
-use Rattle.rec_text.proofs.Putting.{flat-more}
+use Rattle.acas_lines.proofs.Ranges.{flat-more}
 use Rattle.rec_text.proofs.Reporting.{shown-first}
 use Rattle.rec_text.specs.Report.{report_in, report_lines, shown_in}
 use Rattle.rec_text.proofs.report.put_report.Goals as goal

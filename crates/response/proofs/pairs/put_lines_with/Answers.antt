@@ -1,6 +1,6 @@
 use Rattle.std.proofs.Common.{◌≡◌, ◌+◌, ◌-◌, ◌++◌, ap, sym, ◌∙◌, subst, arith}
 use Rattle.std.specs.List.{flat_map, range_with_len}
-use Rattle.response.proofs.Putting.{flat-more}
+use Rattle.acas_lines.proofs.Ranges.{flat-more}
 use Rattle.response.specs.Response.{pair_lines}
 use Rattle.response.proofs.pairs.put_lines_with.Goals as goal
 

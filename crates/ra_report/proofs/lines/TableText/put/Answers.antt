@@ -3,7 +3,7 @@ use Rattle.std.specs.List.{flat_map, range_with_len}
 use Rattle.acas_base.specs.Encounter.{Parts}
 use Rattle.air_journal.specs.States.{State}
 use Rattle.ra_report.specs.Blocks.{block_lines, lines_in}
-use Rattle.ra_report.proofs.Ranges.{flat-more}
+use Rattle.acas_lines.proofs.Ranges.{flat-more}
 use Rattle.ra_report.proofs.lines.TableText.put.Goals as goal
 
 pub loop-cycle-preserved : goal.loop-cycle-preserved
