@@ -14,9 +14,7 @@ use air_journal::{AirState, Commit, EntryRef, Sent, TookThis};
 use craft_view::is_active;
 use resume::Crew;
 
-// Commits an aircraft's cycle, where that is allowed. Few entries are commits, and the locals of this are to cost nothing for
-// the others.
-#[inline(never)]
+// Commits an aircraft's cycle, where that is allowed.
 fn commit_like(
     state: &mut AirState,
     crew: &mut Crew,

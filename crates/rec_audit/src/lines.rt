@@ -66,7 +66,6 @@ impl<'a> TextLines<'a> {
     }
 
     /// The next line, with its line feed where it has one.
-    #[inline]
     pub fn next(&mut self) -> Option<&'a [u8]>
         ensures { MatchOption result ((self.old.left ≡ []) × (self.new ≡ self.old)) (λ line. Took self.old self.new (line.now ∷ [])) }
     {
