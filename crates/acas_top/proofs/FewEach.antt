@@ -1,6 +1,6 @@
 -- What is counted of an encounter fits, also in sums over many.
-use Rattle.std.proofs.Common.{◌≡◌, ℕ, ◌+◌, ◌*◌, ◌<◌, ◌≤◌, ◌^◌, List, [], ◌∷◌, length, get_or, ap, arith}
-use Rattle.std.specs.List.{All, AllZip, count_by, sum_by}
+use Rattle.std.proofs.Common.{ℕ, ◌*◌, ◌≤◌, List, [], ◌∷◌, length, ap, arith}
+use Rattle.std.specs.List.{All, AllZip}
 use Rattle.std.proofs.Math.Nat.{mul-le-mul}
 use Rattle.std.proofs.lemmas.List.Elements.{All-cons, All-nil}
 use Rattle.std.proofs.lemmas.List.Sums.{count_by-le-length, sum_by-le}
@@ -8,15 +8,13 @@ use Rattle.std.proofs.lemmas.Slice.Zip.{AllZip-long}
 use Rattle.acas_base.specs.Encounter.{IsEncounter, Parts}
 use Rattle.acas_base.specs.Ranges.{IsCycle}
 use Rattle.acas_base.specs.declared.TheConstants.{CRAFTS}
-use Rattle.acas_base.specs.declared.entry.Entry.{Entry}
-use Rattle.acas_top.specs.Counted.{AreSerial, counts_of}
+use Rattle.acas_top.specs.Counted.{AreSerial}
 use Rattle.acas_top.specs.Sweeping.{HasCounted, Sizes}
 use Rattle.air_journal.proofs.Bounds.{most-few}
 use Rattle.air_journal.proofs.Soundness.{sound-of}
 use Rattle.air_journal.specs.Airs.{air_of}
 use Rattle.air_rules.proofs.InOrder.{in-order-legal}
 use Rattle.air_rules.proofs.Longest.{bounded}
-use Rattle.air_rules.specs.Serial.{IsSerial}
 use Rattle.enc_gen.proofs.Parts.{made-valid}
 use Rattle.enc_gen.specs.Generated.{generated}
 use Rattle.rec_text.proofs.Reporting.{few-lines}

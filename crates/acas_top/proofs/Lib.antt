@@ -2,5 +2,6 @@ pub mod Endings
 pub mod OneStatus
 pub mod FewEach
 pub mod FiveWords
+pub mod OneWord
 pub mod Tools
 pub mod Seated

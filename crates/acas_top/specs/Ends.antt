@@ -1,13 +1,14 @@
 -- How a call ends, whatever its command is.
-use Rattle.std.specs.Prelude.{◌≡◌, ℕ, ◌<◌, ◌≤◌, List, [], length, Option, None, Some, IfSome, IsSomeAnd}
+use Rattle.std.specs.Prelude.{◌≡◌, ◌↔◌, ◌⊎◌, ℕ, ◌<◌, ◌≤◌, List, [], length, Option, None, Some, IfSome, IsSomeAnd}
 use Rattle.std.specs.Option.{ForSome}
 use Rattle.acas_base.specs.Encounter.{Parts}
 use Rattle.acas_base.specs.declared.entry.Entry.{Entry}
-use Rattle.acas_io.specs.Stream.{TookAll}
+use Rattle.acas_io.specs.Faults.{Rose}
+use Rattle.acas_io.specs.Stream.{Grew, GrewByPrefix, TookAll}
 use Rattle.acas_top.specs.Answers.{Answers, IsRun}
 use Rattle.acas_top.specs.Words.{IsCommand, limit_of, words_of}
 use Rattle.acas_top.specs.declared.status.Status.{Status}
-use Rattle.acas_top.specs.declared.status.Status.TheVariants.{Done, Refused, Wrong}
+use Rattle.acas_top.specs.declared.status.Status.TheVariants.{Done, OutOfMemory, ReadFault, Refused, TooLong, Usage, WriteFault, Wrong}
 use Rattle.acas_top.specs.declared.words.Command.{Command}
 use Rattle.acas_top.specs.declared.words.Command.TheVariants.{Run, Serial}
 use Rattle.acas_top.specs.declared.words.Threaded.TheVariants.{Play}
@@ -47,6 +48,33 @@ pub record Answered (words : List (List ℕ)) (status : Status) (old new : Optio
   pub text : List ℕ
   pub answers : Answers command bytes status text
   pub put : IsPut text
+
+-- Why nothing could be read: a read failed and was counted, there were more bytes than the limit, or memory was wanting.
+abbrev pub IsUnread : Status → Option ℕ → Option (List ℕ) → ℕ → ℕ → Type 0
+IsUnread ReadFault limit left faults now = Rose faults now
+IsUnread TooLong limit left faults now = IsTooLong limit left
+IsUnread OutOfMemory limit left faults now = Unit {0}
+IsUnread status limit left faults now = ⊥
+
+-- The text of an answer was put out and the status is the answer's own, or a front of it was, and a write failed and was counted.
+abbrev pub WasPut : Status → Status → List ℕ → Option (List ℕ) → Option (List ℕ) → ℕ → ℕ → Type 0
+WasPut WriteFault own text old new faults now = GrewByPrefix old new text × Rose faults now
+WasPut status own text old new faults now = (status ≡ own) × IsAnswer status × Grew old new text
+
+-- How a call ended on some words, its source and its sink, of which `left`, `reads`, `written` and `writes` tell what is left, how
+-- many reads failed, what was written, and how many writes failed. The first argument says that the words are no command of the call.
+pub record Ended {S K : Type 0} (IsNone : Type 0) (words : List (List ℕ)) (status : Status) (left : S → Option (List ℕ)) (reads : S → ℕ) (source source_new : S) (written : K → Option (List ℕ)) (writes : K → ℕ) (sink sink_new : K) : Type 0 where
+  pub usage : (status ≡ Usage) ↔ IsNone
+  pub untouched : status ≡ Usage → (source_new ≡ source) × (sink_new ≡ sink)
+  -- The status and what was written are the answer to the command on the bytes that were read, to their end.
+  pub answered : IsAnswer status → Answered words status (left source) (left source_new) (Grew (written sink) (written sink_new))
+  -- A fault has its cause, and what it leaves in the sink is a front of an answer's text.
+  pub read_fault : status ≡ ReadFault → Rose (reads source) (reads source_new) × (sink_new ≡ sink)
+  pub write_fault : status ≡ WriteFault → Rose (writes sink) (writes sink_new) × ((own : Status) × Answered words own (left source) (left source_new) (GrewByPrefix (written sink) (written sink_new)))
+  pub too_long : status ≡ TooLong → (sink_new ≡ sink) × ((command : Command) × (words ≡ words_of command) × IsTooLong (limit_of command) (left source))
+  pub memory : status ≡ OutOfMemory → sink_new ≡ sink
+  -- Where the source has no more bytes than the limit and no fault is counted, a command is answered, unless memory is wanting.
+  pub complete : (IsNone → ⊥) → IsWithin words (left source) → (Rose (reads source) (reads source_new) → ⊥) → (Rose (writes sink) (writes sink_new) → ⊥) → IsAnswer status ⊎ (status ≡ OutOfMemory)
 
 -- The bytes that were read say this encounter, and the recording of its serial journal was put out.
 pub record PlaysSerial (old new : Option (List ℕ)) (IsPut : List ℕ → Type 0) : Type 0 where

@@ -1,17 +1,15 @@
 // The top call, with the words that run threads.
-ghost use Rattle.std.specs.Prelude.{◌≡◌, ◌↔◌, ◌⊎◌, map};
+ghost use Rattle.std.specs.Prelude.{◌≡◌, map};
 ghost use Rattle.std.specs.String.{string_bytes};
-ghost use Rattle.acas_io.specs.Faults.{Rose};
-ghost use Rattle.acas_io.specs.Stream.{Grew, GrewByPrefix};
-ghost use Rattle.acas_top.specs.Ends.{Answered, IsAnswer, IsTooLong, IsWithin, PlaysInThreads, PlaysSerial};
-ghost use Rattle.acas_top.specs.Words.{AreNoCommand, limit_of, words_of};
+ghost use Rattle.acas_io.specs.Stream.{Grew};
+ghost use Rattle.acas_top.specs.Ends.{Ended, PlaysInThreads, PlaysSerial};
+ghost use Rattle.acas_top.specs.Words.{AreNoCommand, words_of};
 
 use crate::threaded::answer_in_threads;
-use crate::top::{acas_plain, read_input};
+use crate::top::{acas_plain, put_answer, read_input};
 use crate::words::parse_threaded;
 use crate::{Command, Status, Threaded};
-use acas_io::{InError, Sink, Source};
-use acas_lines::write_text;
+use acas_io::{Sink, Source};
 use craft_worker::Pause;
 use std::alloc::Global;
 use std::sync::Wait;
@@ -29,26 +27,7 @@ pub fn acas<R: Threads + Wait + Sync, S: Source, K: Sink, P: Pause + Sync>(
     sink: &mut K,
     pause: &P,
 ) -> Status
-    ensures usage { (result ≡ Status.Usage) ↔ AreNoCommand (map string_bytes words.now) }
-    ensures untouched { result ≡ Status.Usage → (source.new ≡ source.old) × (sink.new ≡ sink.old) }
-
-    // The status and what was written are the answer to the command on the bytes that were read, to their end.
-    ensures answered { IsAnswer result
-        → Answered (map string_bytes words.now) result (S.left source.old) (S.left source.new) (Grew (K.written sink.old) (K.written sink.new)) }
-
-    // A fault has its cause, and what it leaves in the sink is a front of an answer's text.
-    ensures read_fault { result ≡ Status.ReadFault → Rose (S.faults source.old) (S.faults source.new) × (sink.new ≡ sink.old) }
-    ensures write_fault { result ≡ Status.WriteFault → Rose (K.faults sink.old) (K.faults sink.new)
-        × ((status : Status) × Answered (map string_bytes words.now) status (S.left source.old) (S.left source.new) (GrewByPrefix (K.written sink.old) (K.written sink.new))) }
-    ensures too_long { result ≡ Status.TooLong → (sink.new ≡ sink.old)
-        × ((command : Command) × (map string_bytes words.now ≡ words_of command) × IsTooLong (limit_of command) (S.left source.old)) }
-    ensures memory { result ≡ Status.OutOfMemory → sink.new ≡ sink.old }
-
-    // Where the source has no more bytes than the limit and no fault is counted, a command is answered, unless memory is
-    // wanting.
-    ensures complete { (AreNoCommand (map string_bytes words.now) → ⊥) → IsWithin (map string_bytes words.now) (S.left source.old)
-        → (Rose (S.faults source.old) (S.faults source.new) → ⊥) → (Rose (K.faults sink.old) (K.faults sink.new) → ⊥)
-        → IsAnswer result ⊎ (result ≡ Status.OutOfMemory) }
+    ensures ended { Ended (AreNoCommand (map string_bytes words.now)) (map string_bytes words.now) result S.left S.faults source.old source.new K.written K.faults sink.old sink.new }
 
     // The bytes that `serial` read, to their end, say an encounter; those that were written are the recording of its
     // serial journal. It is legal and complete; no aircraft commits an advisory in the sense that the message in force from
@@ -67,15 +46,10 @@ pub fn acas<R: Threads + Wait + Sync, S: Source, K: Sink, P: Pause + Sync>(
     };
     let bytes = match read_input(alloc, Command::Run(run), source) {
         Ok(bytes) => bytes,
-        Err(InError::ReadFault) => return Status::ReadFault,
-        Err(InError::TooLong) => return Status::TooLong,
-        Err(InError::OutOfMemory) => return Status::OutOfMemory,
+        Err(status) => return status,
     };
-    let Ok(found) = answer_in_threads(rt, alloc, run, bytes.as_slice(), pause) else {
+    let Ok(answer) = answer_in_threads(rt, alloc, run, bytes.as_slice(), pause) else {
         return Status::OutOfMemory;
     };
-    match write_text(&found, sink) {
-        Ok(()) => found.status(),
-        Err(_) => Status::WriteFault,
-    }
+    put_answer(&answer, sink)
 }

@@ -111,7 +111,6 @@ fn answer_gen(alloc: Global, number: u32, crafts: u8, cycles: u16) -> Result<Ans
 }
 
 // The answer to the word of a tool.
-#[tactic(auto, using(crate::proofs::Tools::told))]
 fn answer_tool(alloc: Global, tool: Tool, bytes: &[u8]) -> Result<Answer, AllocError>
     requires { length bytes.now ≤ 67108864 }
     ensures { IfOk result (λ answer. Answers (Command.Tell tool) bytes.now (answer_status answer) (answer_text answer)) }

@@ -4,6 +4,7 @@ mod faulty_recordings;
 use crate::{Status, acas_plain};
 use acas_io::{MemSink, MemSource};
 use std::alloc::{AllocError, Global};
+use std::process::Abort;
 use std::test::Fail;
 use std::thread::Threads;
 
@@ -50,24 +51,64 @@ struct Outcome {
     sink: MemSink,
 }
 
-// Runs the words on a source and a sink in memory, which fail at these reads and writes.
+// Runs the words of a line on a source and a sink in memory, which fail at these reads and writes.
 fn run<R: Threads + Sync + Alloc<A = Global>>(
     rt: &R,
-    texts: &[&str],
+    line: &str,
     input: &[u8],
     failing_reads: &[u64],
     failing_writes: &[u64],
 ) -> Result<Outcome, AllocError> {
     let alloc = rt.alloc();
     let mut words = Vec::new(alloc);
-    for text in texts {
-        words.push(String::from_str(alloc, *text)?)?;
+    for word in line.split_whitespace() {
+        words.push(String::from_str(alloc, word)?)?;
     }
     let mut source = MemSource::new(input.to_vec(alloc)?, 64, failing_reads.to_vec(alloc)?);
     let room = Vec::with_capacity(alloc, 2_000_000)?;
     let mut sink = MemSink::new(room, 16, failing_writes.to_vec(alloc)?);
     let status = acas_plain(rt, alloc, words.as_slice(), &mut source, &mut sink);
     Ok(Outcome { status, sink })
+}
+
+// A run ends with this status, and writes this text.
+fn answers<R: Threads + Sync + Alloc<A = Global> + Abort>(
+    rt: &R,
+    line: &str,
+    input: &[u8],
+    status: Status,
+    text: &[u8],
+) -> Result<(), AllocError> {
+    let done = run(rt, line, input, &[], &[])?;
+    assert_eq!(*rt; done.status, status);
+    assert_eq!(*rt; done.sink.bytes(), text);
+    Ok(())
+}
+
+// The first reads of a run fail in turn, and then each write: nothing was written, or a front of the text.
+fn tells_each_fault<R: Threads + Sync + Alloc<A = Global> + Abort>(
+    rt: &R,
+    line: &str,
+    input: &[u8],
+    reads: u64,
+) -> Result<(), AllocError> {
+    for read in 0..reads {
+        let unread = run(rt, line, input, &[read + 1], &[])?;
+        assert_eq!(*rt; unread.status, Status::ReadFault);
+        assert!(*rt; unread.sink.bytes().is_empty());
+    }
+    let whole = run(rt, line, input, &[], &[])?;
+    let text = whole.sink.bytes();
+    for write in 0..text.len() as u64 / 16 {
+        let unwritten = run(rt, line, input, &[], &[write + 1])?;
+        assert_eq!(*rt; unwritten.status, Status::WriteFault);
+        assert!(*rt; text.starts_with(unwritten.sink.bytes()));
+        assert_eq!(*rt;
+            unwritten.sink.bytes().len() as u64,
+            write.saturating_mul(16)
+        );
+    }
+    Ok(())
 }
 
 // Plays a text of two parts.
@@ -78,7 +119,7 @@ fn play<R: Threads + Sync + Alloc<A = Global>>(
 ) -> Result<Outcome, AllocError> {
     let mut input = open.to_vec(rt.alloc())?;
     input.extend_from_slice(rest)?;
-    run(rt, &["serial"], input.as_slice(), &[], &[])
+    run(rt, "serial", input.as_slice(), &[], &[])
 }
 
 // How many lines of a text begin so.
@@ -350,37 +391,53 @@ fn refuses_by_record_and_code(rt: HostRuntime) -> Result<(), Fail> {
     Ok(())
 }
 
-// Each read fails in turn, and then each write: nothing was written, or a front of the text.
+// What each word reads first fails in turn, and each write of its text.
 #[test]
 fn tells_faults(rt: HostRuntime) -> Result<(), Fail> {
     let alloc = rt.alloc();
-    let mut input = APART.to_vec(alloc)?;
-    input.extend_from_slice(b"end\n")?;
-    let whole = run(&rt, &["serial"], input.as_slice(), &[], &[])?;
-    for read in 1..4u64 {
-        let unread = run(&rt, &["serial"], input.as_slice(), &[read], &[])?;
-        assert_eq!(rt; unread.status, Status::ReadFault);
-        assert_eq!(rt; unread.sink.bytes(), b"".as_slice());
+    let mut encounter = APART.to_vec(alloc)?;
+    encounter.extend_from_slice(b"end\n")?;
+    tells_each_fault(&rt, "serial", encounter.as_slice(), 3)?;
+    let recording = apart_recording(&rt)?;
+    for word in ["audit", "reports", "response", "watch", "why"] {
+        tells_each_fault(&rt, word, recording.as_slice(), 3)?;
     }
-    let writes = whole.sink.bytes().len() as u64 / 16;
-    for write in 0..writes {
-        let unwritten = run(&rt, &["serial"], input.as_slice(), &[], &[write + 1])?;
-        assert_eq!(rt; unwritten.status, Status::WriteFault);
-        assert!(rt; whole.sink.bytes().starts_with(unwritten.sink.bytes()));
-        assert!(rt; unwritten.sink.bytes().len() < whole.sink.bytes().len());
-    }
+    let beginning = lines_between(alloc, recording.as_slice(), 1, 50, 0, b"")?;
+    tells_each_fault(&rt, "resume", beginning.as_slice(), 3)?;
+    tells_each_fault(&rt, "gen 7 1 1", b"", 0)?;
+    tells_each_fault(&rt, "sweep 7 3 1 1", b"", 0)?;
     Ok(())
 }
 
+// Words that say no command, by their number, by a word, or by a number out of its range.
+const NO_COMMANDS: [&str; 18] = [
+    "",
+    "serial now",
+    "play",
+    "Gen 7 1 1",
+    "gen 7 17 1",
+    "gen 7 0 1",
+    "gen 7 1 601",
+    "gen 07 1 1",
+    "gen 4294967296 1 1",
+    "swept 7 1 1 1",
+    "sweep 7 0 1 1",
+    "sweep 7 4097 1 1",
+    "sweep 7 1 0 1",
+    "sweep 7 1 5 1",
+    "sweep 7 1 1 0",
+    "sweep 7 1 1 121",
+    "sweep 4294967296 1 1 1",
+    "sweep 7 01 1 1",
+];
+
 #[test]
 fn reads_nothing_without_a_command(rt: HostRuntime) -> Result<(), Fail> {
-    let two = run(&rt, &["serial", "now"], ONE_CYCLE, &[1], &[1])?;
-    assert_eq!(rt; two.status, Status::Usage);
-    assert_eq!(rt; two.sink.bytes(), b"".as_slice());
-    let none = run(&rt, &[], ONE_CYCLE, &[1], &[1])?;
-    assert_eq!(rt; none.status, Status::Usage);
-    let other = run(&rt, &["play"], ONE_CYCLE, &[1], &[1])?;
-    assert_eq!(rt; other.status, Status::Usage);
+    for line in NO_COMMANDS {
+        let none = run(&rt, line, ONE_CYCLE, &[1], &[1])?;
+        assert_eq!(rt; none.status, Status::Usage);
+        assert!(rt; none.sink.bytes().is_empty());
+    }
     Ok(())
 }
 
@@ -390,13 +447,15 @@ fn reads_texts_up_to_the_limit(rt: HostRuntime) -> Result<(), Fail> {
     let alloc = rt.alloc();
     let mut text = vec![in alloc; b'\n'; 16_777_216 - ONE_CYCLE.len()]?;
     text.extend_from_slice(ONE_CYCLE)?;
-    let done = run(&rt, &["serial"], text.as_slice(), &[], &[])?;
-    assert_eq!(rt; done.status, Status::Done);
-    assert_eq!(rt; done.sink.bytes(), ONE_CYCLE_RECORDING);
+    answers(
+        &rt,
+        "serial",
+        text.as_slice(),
+        Status::Done,
+        ONE_CYCLE_RECORDING,
+    )?;
     text.push(b'\n')?;
-    let too_long = run(&rt, &["serial"], text.as_slice(), &[], &[])?;
-    assert_eq!(rt; too_long.status, Status::TooLong);
-    assert_eq!(rt; too_long.sink.bytes(), b"".as_slice());
+    answers(&rt, "serial", text.as_slice(), Status::TooLong, b"")?;
     Ok(())
 }
 
@@ -416,7 +475,7 @@ fn plays_sixteen_aircraft(rt: HostRuntime) -> Result<(), Fail> {
         }
     }
     text.extend_from_slice(b"end\n")?;
-    let done = run(&rt, &["serial"], text.as_slice(), &[], &[])?;
+    let done = run(&rt, "serial", text.as_slice(), &[], &[])?;
     assert_eq!(rt; done.status, Status::Done);
     assert_eq!(rt; lines_with(done.sink.bytes(), b"c,"), 9600);
     Ok(())
@@ -478,14 +537,12 @@ fn judges_recordings(rt: HostRuntime) -> Result<(), Fail> {
     let recording = apart_recording(&rt)?;
     for (replaced, other, last, verdict) in JUDGED {
         let text = lines_between(alloc, recording.as_slice(), 1, last, replaced, other)?;
-        let judged = run(&rt, &["audit"], text.as_slice(), &[], &[])?;
         let status = if replaced == 0 && last == 102 {
             Status::Done
         } else {
             Status::Wrong
         };
-        assert_eq!(rt; judged.status, status);
-        assert_eq!(rt; judged.sink.bytes(), verdict);
+        answers(&rt, "audit", text.as_slice(), status, verdict)?;
     }
     Ok(())
 }
@@ -497,8 +554,13 @@ fn judges_a_journal_without_entries(rt: HostRuntime) -> Result<(), Fail> {
     let mut text = lines_between(alloc, recording.as_slice(), 1, 10, 10, b"journal,0")?;
     let rest = lines_between(alloc, recording.as_slice(), 97, 102, 0, b"")?;
     text.extend_from_slice(rest.as_slice())?;
-    let judged = run(&rt, &["audit"], text.as_slice(), &[], &[])?;
-    assert_eq!(rt; judged.sink.bytes(), b"wrong,11,5\n".as_slice());
+    answers(
+        &rt,
+        "audit",
+        text.as_slice(),
+        Status::Wrong,
+        b"wrong,11,5\n",
+    )?;
     Ok(())
 }
 
@@ -506,22 +568,8 @@ fn judges_a_journal_without_entries(rt: HostRuntime) -> Result<(), Fail> {
 
 #[test]
 fn makes_encounters(rt: HostRuntime) -> Result<(), Fail> {
-    let alloc = rt.alloc();
-    let made = run(&rt, &["gen", "7", "1", "1"], b"", &[1], &[])?;
-    assert_eq!(rt; made.status, Status::Done);
-    assert_eq!(rt; made.sink.bytes(), ONE_CYCLE);
-    for words in [
-        ["gen", "7", "17", "1"],
-        ["gen", "7", "0", "1"],
-        ["gen", "7", "1", "601"],
-        ["gen", "07", "1", "1"],
-        ["gen", "4294967296", "1", "1"],
-        ["Gen", "7", "1", "1"],
-    ] {
-        let other = run(&rt, &words, b"", &[1], &[1])?;
-        assert_eq!(rt; other.status, Status::Usage);
-    }
-    let most = run(&rt, &["gen", "4294967295", "16", "600"], b"", &[1], &[])?;
+    answers(&rt, "gen 7 1 1", b"", Status::Done, ONE_CYCLE)?;
+    let most = run(&rt, "gen 4294967295 16 600", b"", &[1], &[])?;
     assert_eq!(rt; most.status, Status::Done);
     Ok(())
 }

@@ -1,13 +1,13 @@
 // The top call for all words that wait for nobody: words and bytes in, bytes and a status out.
-ghost use Rattle.std.specs.Prelude.{◌≡◌, ◌↔◌, ◌⊎◌, ℕ, List, None, IfOk, IsErrOf, map};
+ghost use Rattle.std.specs.Prelude.{◌≡◌, ℕ, List, IfErr, IfOk, map};
 ghost use Rattle.std.specs.String.{string_bytes};
-ghost use Rattle.acas_io.specs.Faults.{Rose};
-ghost use Rattle.acas_io.specs.Stream.{Grew, GrewByPrefix};
+ghost use Rattle.acas_io.specs.Stream.{Grew};
 ghost use Rattle.acas_top.specs.Answers.{Answers};
-ghost use Rattle.acas_top.specs.Ends.{Answered, IsAnswer, IsTooLong, IsWithin, PlaysSerial, WasRead};
+ghost use Rattle.acas_top.specs.Ends.{Ended, IsUnread, PlaysSerial, WasPut, WasRead};
+ghost use Rattle.acas_top.specs.Given.{answer_status, answer_text};
 ghost use Rattle.acas_top.specs.Words.{AreNoPlainCommand, limit_of, words_of};
 
-use crate::answers::answer_to;
+use crate::answers::{Answer, answer_to};
 use crate::words::parse;
 use crate::{Command, Status};
 use acas_io::{InError, Sink, Source, read_all};
@@ -16,20 +16,33 @@ use rec_audit::verdict_law;
 use std::alloc::Global;
 use std::thread::Threads;
 
-/// What a command reads.
+/// What a command reads, or the status of its end where that can't be read.
 pub(crate) fn read_input<S: Source>(
     alloc: Global,
     command: Command,
     source: &mut S,
-) -> Result<Vec<u8>, InError>
+) -> Result<Vec<u8>, Status>
     ensures read { IfOk result (λ bytes. WasRead (limit_of command) (S.left source.old) (S.left source.new) bytes.items) }
-    ensures fault { IsErrOf result InError.ReadFault → Rose (S.faults source.old) (S.faults source.new) }
-    ensures long { IsErrOf result InError.TooLong → IsTooLong (limit_of command) (S.left source.old) }
-    ensures nothing { limit_of command ≡ None → source.new ≡ source.old }
+    ensures unread { IfErr result (λ status. IsUnread status (limit_of command) (S.left source.old) (S.faults source.old) (S.faults source.new)) }
 {
-    match command.limit() {
-        Some(limit) => read_all(alloc, source, limit),
-        None => Ok(Vec::new(alloc)),
+    let Some(limit) = command.limit() else {
+        return Ok(Vec::new(alloc));
+    };
+    match read_all(alloc, source, limit) {
+        Ok(bytes) => Ok(bytes),
+        Err(InError::ReadFault) => Err(Status::ReadFault),
+        Err(InError::TooLong) => Err(Status::TooLong),
+        Err(InError::OutOfMemory) => Err(Status::OutOfMemory),
+    }
+}
+
+/// Puts an answer out, and gives the status of its end.
+pub(crate) fn put_answer<K: Sink>(answer: &Answer, sink: &mut K) -> Status
+    ensures { WasPut result (answer_status answer.now) (answer_text answer.now) (K.written sink.old) (K.written sink.new) (K.faults sink.old) (K.faults sink.new) }
+{
+    match write_text(answer, sink) {
+        Ok(()) => answer.status(),
+        Err(_) => Status::WriteFault,
     }
 }
 
@@ -50,26 +63,7 @@ pub fn acas_plain<R: Threads + Sync, S: Source, K: Sink>(
     source: &mut S,
     sink: &mut K,
 ) -> Status
-    ensures usage { (result ≡ Status.Usage) ↔ AreNoPlainCommand (map string_bytes words.now) }
-    ensures untouched { result ≡ Status.Usage → (source.new ≡ source.old) × (sink.new ≡ sink.old) }
-
-    // The status and what was written are the answer to the command on the bytes that were read, to their end.
-    ensures answered { IsAnswer result
-        → Answered (map string_bytes words.now) result (S.left source.old) (S.left source.new) (Grew (K.written sink.old) (K.written sink.new)) }
-
-    // A fault has its cause, and what it leaves in the sink is a front of an answer's text.
-    ensures read_fault { result ≡ Status.ReadFault → Rose (S.faults source.old) (S.faults source.new) × (sink.new ≡ sink.old) }
-    ensures write_fault { result ≡ Status.WriteFault → Rose (K.faults sink.old) (K.faults sink.new)
-        × ((status : Status) × Answered (map string_bytes words.now) status (S.left source.old) (S.left source.new) (GrewByPrefix (K.written sink.old) (K.written sink.new))) }
-    ensures too_long { result ≡ Status.TooLong → (sink.new ≡ sink.old)
-        × ((command : Command) × (map string_bytes words.now ≡ words_of command) × IsTooLong (limit_of command) (S.left source.old)) }
-    ensures memory { result ≡ Status.OutOfMemory → sink.new ≡ sink.old }
-
-    // Where the source has no more bytes than the limit and no fault is counted, a command is answered, unless memory is
-    // wanting.
-    ensures complete { (AreNoPlainCommand (map string_bytes words.now) → ⊥) → IsWithin (map string_bytes words.now) (S.left source.old)
-        → (Rose (S.faults source.old) (S.faults source.new) → ⊥) → (Rose (K.faults sink.old) (K.faults sink.new) → ⊥)
-        → IsAnswer result ⊎ (result ≡ Status.OutOfMemory) }
+    ensures ended { Ended (AreNoPlainCommand (map string_bytes words.now)) (map string_bytes words.now) result S.left S.faults source.old source.new K.written K.faults sink.old sink.new }
 
     // The bytes that `serial` read, to their end, say an encounter; those that were written are the recording of its
     // serial journal. It is legal and complete; no aircraft commits an advisory in the sense that the message in force from
@@ -83,17 +77,12 @@ pub fn acas_plain<R: Threads + Sync, S: Source, K: Sink>(
     };
     let bytes = match read_input(alloc, command, source) {
         Ok(bytes) => bytes,
-        Err(InError::ReadFault) => return Status::ReadFault,
-        Err(InError::TooLong) => return Status::TooLong,
-        Err(InError::OutOfMemory) => return Status::OutOfMemory,
+        Err(status) => return status,
     };
-    let Ok(found) = answer_to(rt, alloc, command, bytes.as_slice()) else {
+    let Ok(answer) = answer_to(rt, alloc, command, bytes.as_slice()) else {
         return Status::OutOfMemory;
     };
-    match write_text(&found, sink) {
-        Ok(()) => found.status(),
-        Err(_) => Status::WriteFault,
-    }
+    put_answer(&answer, sink)
 }
 
 /// At most one status answers a command on the bytes that it read.

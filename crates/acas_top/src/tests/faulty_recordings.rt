@@ -33,7 +33,7 @@ fn is_wrong<R: Threads + Sync + Alloc<A = Global>>(
     text: &[u8],
     verdict: &[u8],
 ) -> Result<bool, AllocError> {
-    let judged = run(rt, &["audit"], text, &[], &[])?;
+    let judged = run(rt, "audit", text, &[], &[])?;
     Ok(judged.status == Status::Wrong && judged.sink.bytes() == verdict)
 }
 

@@ -1,5 +1,5 @@
 // Recordings that were cut.
-use super::{HELD_LONG, LEVEL, Outcome, apart_recording, lines_between, play, run};
+use super::{HELD_LONG, LEVEL, Outcome, answers, apart_recording, lines_between, play, run};
 use crate::Status;
 use std::alloc::{AllocError, Global};
 use std::test::Fail;
@@ -30,7 +30,7 @@ fn resume<R: Threads + Sync + Alloc<A = Global>>(
     rt: &R,
     text: &[u8],
 ) -> Result<Outcome, AllocError> {
-    run(rt, &["resume"], text, &[], &[])
+    run(rt, "resume", text, &[], &[])
 }
 
 // What is wrong with a recording whose `journal` is this line, with so many entries, cut behind so many whole lines or within
@@ -124,23 +124,20 @@ fn goes_on_from_another_order(rt: HostRuntime) -> Result<(), Fail> {
 #[test]
 fn refuses_a_whole_recording_and_an_unfinished_line(rt: HostRuntime) -> Result<(), Fail> {
     let recording = apart_recording(&rt)?;
-    let whole = resume(&rt, recording.as_slice())?;
-    assert_eq!(rt; whole.sink.bytes(), b"wrong,97,6\n".as_slice());
+    answers(
+        &rt,
+        "resume",
+        recording.as_slice(),
+        Status::Wrong,
+        b"wrong,97,6\n",
+    )?;
     let text = cut(&rt, recording.as_slice(), 60, 7)?;
-    let unfinished = resume(&rt, text.as_slice())?;
-    assert_eq!(rt; unfinished.sink.bytes(), b"wrong,61,2\n".as_slice());
-    Ok(())
-}
-
-#[test]
-fn tells_faults_of_resume(rt: HostRuntime) -> Result<(), Fail> {
-    let recording = apart_recording(&rt)?;
-    let text = cut(&rt, recording.as_slice(), 50, 0)?;
-    let unread = run(&rt, &["resume"], text.as_slice(), &[2], &[])?;
-    assert_eq!(rt; unread.status, Status::ReadFault);
-    assert_eq!(rt; unread.sink.bytes(), b"".as_slice());
-    let unwritten = run(&rt, &["resume"], text.as_slice(), &[], &[3])?;
-    assert_eq!(rt; unwritten.status, Status::WriteFault);
-    assert!(rt; recording.starts_with(unwritten.sink.bytes()));
+    answers(
+        &rt,
+        "resume",
+        text.as_slice(),
+        Status::Wrong,
+        b"wrong,61,2\n",
+    )?;
     Ok(())
 }

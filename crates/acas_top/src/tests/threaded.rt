@@ -4,6 +4,7 @@ use crate::{Status, acas};
 use acas_io::{MemSink, MemSource};
 use craft_worker::Pause;
 use std::alloc::{AllocError, Global};
+use std::process::Abort;
 use std::sync::Wait;
 use std::sync::atomic::{AtomicU64, Ordering};
 use std::test::Fail;
@@ -20,7 +21,8 @@ impl Pause for NoPause {
 fn run_threads<R: Threads + Wait + Sync + Alloc<A = Global>, P: Pause + Sync>(
     rt: &R,
     word: &str,
-    encounter: (&[u8], &[u8]),
+    open: &[u8],
+    rest: &[u8],
     failing_reads: &[u64],
     failing_writes: &[u64],
     pause: &P,
@@ -28,8 +30,8 @@ fn run_threads<R: Threads + Wait + Sync + Alloc<A = Global>, P: Pause + Sync>(
     let alloc = rt.alloc();
     let mut words = Vec::new(alloc);
     words.push(String::from_str(alloc, word)?)?;
-    let mut input = encounter.0.to_vec(alloc)?;
-    input.extend_from_slice(encounter.1)?;
+    let mut input = open.to_vec(alloc)?;
+    input.extend_from_slice(rest)?;
     let mut source = MemSource::new(input, 64, failing_reads.to_vec(alloc)?);
     let room = Vec::with_capacity(alloc, 100_000)?;
     let mut sink = MemSink::new(room, 16, failing_writes.to_vec(alloc)?);
@@ -37,62 +39,74 @@ fn run_threads<R: Threads + Wait + Sync + Alloc<A = Global>, P: Pause + Sync>(
     Ok(Outcome { status, sink })
 }
 
-// Which rows of the encounters that `serial` plays, and how many lines their reports have.
-const REPORTED: [(usize, u64); 8] = [
-    (0, 4),
-    (2, 5),
-    (3, 5),
-    (4, 9),
-    (5, 5),
-    (9, 6),
-    (10, 3),
-    (12, 4),
-];
-
-// What `play` writes is judged legal, whatever the order is, and has all commits; what `sum` writes is always the same.
+// What `play` writes is judged legal, whatever the order is, and has all commits.
 #[test]
 fn plays_in_threads(rt: HostRuntime) -> Result<(), Fail> {
-    for (row, lines) in REPORTED {
-        let (open, rest, counts, _) = *PLAYED.get(row).ok_or("no such row")?;
-        let played = run_threads(&rt, "play", (open, rest), &[], &[], &NoPause)?;
-        assert_eq!(rt; played.status, Status::Done);
-        assert_eq!(rt; lines_with(played.sink.bytes(), b"c,"), counts[0]);
-        let judged = run(&rt, &["audit"], played.sink.bytes(), &[], &[])?;
+    for (open, rest, counts, _) in PLAYED {
+        let played = run_threads(&rt, "play", open, rest, &[], &[], &NoPause)?;
+        let text = played.sink.bytes();
+        assert_eq!(rt; lines_with(text, b"c,"), counts[0]);
+        let judged = run(&rt, "audit", text, &[], &[])?;
         assert_eq!(rt; judged.status, Status::Done);
-        let summed = run_threads(&rt, "sum", (open, rest), &[], &[], &NoPause)?;
-        assert_eq!(rt; summed.status, Status::Done);
-        let [commits, sends, takes] = counts;
-        let want = format!(in rt.alloc();
-            "play,{commits}\nserial,{commits},{sends},{takes},{lines}\n"
-        )?;
+    }
+    Ok(())
+}
+
+// The two lines of `sum` of an encounter whose serial journal has these counts.
+fn sums_of<R: Threads + Sync + Alloc<A = Global>>(
+    rt: &R,
+    open: &[u8],
+    rest: &[u8],
+    counts: [u64; 3],
+) -> Result<String, AllocError> {
+    let serial = play(rt, open, rest)?;
+    let lines = lines_with(serial.sink.bytes(), b"r,");
+    let [commits, sends, takes] = counts;
+    format!(in rt.alloc(); "play,{commits}\nserial,{commits},{sends},{takes},{lines}\n")
+}
+
+// What `sum` writes is always the same.
+#[test]
+fn sums_in_threads(rt: HostRuntime) -> Result<(), Fail> {
+    for (open, rest, counts, _) in PLAYED {
+        let want = sums_of(&rt, open, rest, counts)?;
+        let summed = run_threads(&rt, "sum", open, rest, &[], &[], &NoPause)?;
         assert_eq!(rt; summed.sink.bytes(), want.as_bytes());
     }
     Ok(())
 }
 
-// Each read and each write fails in turn. The recording begins with the encounter, whatever the order is.
+// Each read and each write of a word fails in turn. What it writes first is the same, whatever the order is.
+fn tells_each_fault<R: Threads + Wait + Sync + Alloc<A = Global> + Abort>(
+    rt: &R,
+    word: &str,
+    front: &[u8],
+    writes: u64,
+) -> Result<(), AllocError> {
+    for read in 1..4u64 {
+        let unread = run_threads(rt, word, LEVEL, b"end\n", &[read], &[], &NoPause)?;
+        assert_eq!(*rt; unread.status, Status::ReadFault);
+        assert!(*rt; unread.sink.bytes().is_empty());
+    }
+    for write in 0..writes {
+        let unwritten = run_threads(rt, word, LEVEL, b"end\n", &[], &[write + 1], &NoPause)?;
+        assert_eq!(*rt; unwritten.status, Status::WriteFault);
+        assert!(*rt; front.starts_with(unwritten.sink.bytes()));
+        assert_eq!(*rt;
+            unwritten.sink.bytes().len() as u64,
+            write.saturating_mul(16)
+        );
+    }
+    Ok(())
+}
+
 #[test]
 fn tells_faults_in_threads(rt: HostRuntime) -> Result<(), Fail> {
-    let level = (LEVEL, b"end\n".as_slice());
     let serial = play(&rt, LEVEL, b"end\n")?;
-    let sums = run_threads(&rt, "sum", level, &[], &[], &NoPause)?;
-    for (word, front, writes) in [
-        ("play", serial.sink.bytes(), 9u64),
-        ("sum", sums.sink.bytes(), 2),
-    ] {
-        for read in 1..4u64 {
-            let unread = run_threads(&rt, word, level, &[read], &[], &NoPause)?;
-            assert_eq!(rt; unread.status, Status::ReadFault);
-            assert_eq!(rt; unread.sink.bytes(), b"".as_slice());
-        }
-        for write in 0..writes {
-            let unwritten = run_threads(&rt, word, level, &[], &[write + 1], &NoPause)?;
-            assert_eq!(rt; unwritten.status, Status::WriteFault);
-            assert!(rt; front.starts_with(unwritten.sink.bytes()));
-            assert_eq!(rt; unwritten.sink.bytes().len() as u64 / 16, write);
-        }
-    }
-    let refused = run_threads(&rt, "play", (LEVEL, b""), &[], &[], &NoPause)?;
+    tells_each_fault(&rt, "play", serial.sink.bytes(), 9)?;
+    let sums = run_threads(&rt, "sum", LEVEL, b"end\n", &[], &[], &NoPause)?;
+    tells_each_fault(&rt, "sum", sums.sink.bytes(), 2)?;
+    let refused = run_threads(&rt, "play", LEVEL, b"", &[], &[], &NoPause)?;
     assert_eq!(rt; refused.status, Status::Refused);
     assert_eq!(rt; refused.sink.bytes(), b"refused,7,11\n".as_slice());
     Ok(())
@@ -137,7 +151,7 @@ fn meet(rt: HostRuntime) -> Result<(), Fail> {
         second: AtomicU64::new(0),
         gave_up: AtomicU64::new(0),
     };
-    let met = run_threads(&rt, "play", (LEVEL, b"end\n"), &[], &[], &meeting)?;
+    let met = run_threads(&rt, "play", LEVEL, b"end\n", &[], &[], &meeting)?;
     assert_eq!(rt; met.status, Status::Done);
     assert_eq!(rt; meeting.gave_up.load(Ordering::SeqCst), 0);
     assert_eq!(rt; entry_in(met.sink.bytes(), 0), b"c,1,1,-,-".as_slice());

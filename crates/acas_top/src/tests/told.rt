@@ -1,7 +1,7 @@
 // What the tools tell of recordings.
 use super::{
-    APART, HELD_LONG, JUDGED, LAPSING, LEVEL, Outcome, TRAFFIC, apart_recording, lines_between,
-    lines_with, play, run,
+    APART, HELD_LONG, JUDGED, LAPSING, LEVEL, Outcome, TRAFFIC, answers, apart_recording,
+    lines_between, lines_with, play, run,
 };
 use crate::Status;
 use std::alloc::{AllocError, Global};
@@ -41,71 +41,91 @@ fn told<R: Threads + Sync + Alloc<A = Global>>(
     rest: &[u8],
 ) -> Result<Outcome, AllocError> {
     let recording = play(rt, encounter, rest)?;
-    run(rt, &[tool], recording.sink.bytes(), &[], &[])
+    run(rt, tool, recording.sink.bytes(), &[], &[])
 }
 
+// What tools tell: the tool, the beginning of an encounter, its rest, and the text.
+type Told = (&'static str, &'static [u8], &'static [u8], &'static [u8]);
+
+const TELLING: [Told; 12] = [
+    (
+        "response",
+        APART_LONGER,
+        b"end\n",
+        b"response,1\np,400A01,400B02,36,300,484\n",
+    ),
+    // The sense changes within the delay of the first response.
+    (
+        "response",
+        LEVEL_LONGER,
+        b"end\n",
+        b"response,1\np,400A01,400B02,33,0,85\n",
+    ),
+    // Both hold their rates where their strength weakens: by cycle 36 the one has sunk by 84 ft, and the other one, which goes
+    // back to the climb that was planned, has risen by 96 ft.
+    (
+        "response",
+        APART_LONGER,
+        b"leg,400B02,30,-760,0,6000\nend\n",
+        b"response,1\np,400A01,400B02,36,900,480\n",
+    ),
+    // The one that is advised in both senses ends its climb.
+    (
+        "response",
+        CLIMBING_BETWEEN,
+        b"end\n",
+        b"response,3\np,400A01,400B02,33,600,735\np,400A01,400C03,33,345,392\np,400B02,400C03,33,255,343\n",
+    ),
+    ("response", TRAFFIC, b"end\n", b"response,0\n"),
+    (
+        "reports",
+        LEVEL,
+        b"end\n",
+        b"blocks,12\nb,26,400A01,30C20005002C08\nb,26,400B02,30C20005002804\nb,27,400A01,30C20105002C08\nb,27,400B02,30EE0105002804\nb,28,400A01,30C20205002C08\nb,28,400B02,30EE0105002804\nb,29,400A01,30C20205002C08\nb,29,400B02,30EE0105002804\nb,30,400A01,30C20205002C08\nb,30,400B02,30EE0105002804\nb,31,400A01,30C20205002C08\nb,31,400B02,30EE0105002804\n",
+    ),
+    (
+        "reports",
+        LAPSING,
+        b"miss,400B02,400A01,1,31\nend\n",
+        b"blocks,9\nb,26,400A01,30C20005002C08\nb,27,400A01,30C20025002C08\nb,28,400A01,30C20025002C08\nb,29,400A01,30C20025002C08\nb,30,400A01,30C20025002C08\nb,31,400A01,30C20025002C08\nb,32,400A01,30C20025002C08\nb,33,400A01,30C20025002C08\nb,33,400B02,30C20005002804\n",
+    ),
+    // Of two threats at once there is no block. Each of the two others has one threat, which forbids it the sense that it doesn't
+    // have, from the next cycle on.
+    (
+        "reports",
+        BETWEEN,
+        b"end\n",
+        b"blocks,4\nb,24,400A01,30E2000500300C\nb,24,400B02,30C2000500300C\nb,25,400A01,30E2010500300C\nb,25,400B02,30C2020500300C\n",
+    ),
+    (
+        "watch",
+        LEVEL,
+        b"end\n",
+        b"watch,1\nw,400A01,400B02,U,51,56,n,52\n",
+    ),
+    (
+        "watch",
+        LEVEL,
+        HELD_LONG,
+        b"watch,3\nw,400A01,400B02,U,51,56,n,52\nw,400A01,400B02,D,62,68,o,64\nw,400A01,400B02,D,81,81,o,82\n",
+    ),
+    ("watch", APART, b"end\n", b"watch,0\n"),
+    // The one of higher address took the first message alone, six commits before its advisory starts in the last cycle.
+    (
+        "watch",
+        LEVEL_LONGER,
+        b"miss,400B02,400A01,1,31\nfate,400A01,400B02,2\nfate,400A01,400B02,3\nfate,400A01,400B02,4\nfate,400A01,400B02,5\nfate,400A01,400B02,6\nfate,400A01,400B02,7\nfate,400A01,400B02,8\nend\n",
+        b"watch,1\nw,400A01,400B02,U,73,73,l,74\n",
+    ),
+];
+
 #[test]
-fn tells_how_near_aircraft_would_have_come(rt: HostRuntime) -> Result<(), Fail> {
-    for (encounter, rest, text) in [
-        (
-            APART_LONGER,
-            b"end\n".as_slice(),
-            b"response,1\np,400A01,400B02,36,300,484\n".as_slice(),
-        ),
-        // The sense changes within the delay of the first response.
-        (
-            LEVEL_LONGER,
-            b"end\n",
-            b"response,1\np,400A01,400B02,33,0,85\n",
-        ),
-        // Both hold their rates where their strength weakens: by cycle 36 the one has sunk by 84 ft, and the other one, which goes
-        // back to the climb that was planned, has risen by 96 ft.
-        (
-            APART_LONGER,
-            b"leg,400B02,30,-760,0,6000\nend\n",
-            b"response,1\np,400A01,400B02,36,900,480\n",
-        ),
-        // The one that is advised in both senses ends its climb.
-        (
-            CLIMBING_BETWEEN,
-            b"end\n",
-            b"response,3\np,400A01,400B02,33,600,735\np,400A01,400C03,33,345,392\np,400B02,400C03,33,255,343\n",
-        ),
-        (TRAFFIC, b"end\n", b"response,0\n"),
-    ] {
-        let done = told(&rt, "response", encounter, rest)?;
+fn tells_whole_texts(rt: HostRuntime) -> Result<(), Fail> {
+    for (tool, encounter, rest, text) in TELLING {
+        let done = told(&rt, tool, encounter, rest)?;
         assert_eq!(rt; done.status, Status::Done);
         assert_eq!(rt; done.sink.bytes(), text);
     }
-    Ok(())
-}
-
-#[test]
-fn tells_blocks(rt: HostRuntime) -> Result<(), Fail> {
-    let turned = told(&rt, "reports", LEVEL, b"end\n")?;
-    assert_eq!(rt; turned.status, Status::Done);
-    assert_eq!(rt;
-        turned.sink.bytes(),
-        b"blocks,12\nb,26,400A01,30C20005002C08\nb,26,400B02,30C20005002804\nb,27,400A01,30C20105002C08\nb,27,400B02,30EE0105002804\nb,28,400A01,30C20205002C08\nb,28,400B02,30EE0105002804\nb,29,400A01,30C20205002C08\nb,29,400B02,30EE0105002804\nb,30,400A01,30C20205002C08\nb,30,400B02,30EE0105002804\nb,31,400A01,30C20205002C08\nb,31,400B02,30EE0105002804\n".as_slice()
-    );
-    let lapsed = told(&rt, "reports", LAPSING, b"miss,400B02,400A01,1,31\nend\n")?;
-    assert_eq!(rt;
-        lapsed.sink.bytes(),
-        b"blocks,9\nb,26,400A01,30C20005002C08\nb,27,400A01,30C20025002C08\nb,28,400A01,30C20025002C08\nb,29,400A01,30C20025002C08\nb,30,400A01,30C20025002C08\nb,31,400A01,30C20025002C08\nb,32,400A01,30C20025002C08\nb,33,400A01,30C20025002C08\nb,33,400B02,30C20005002804\n".as_slice()
-    );
-    Ok(())
-}
-
-// Of two threats at once there is no block. Each of the two others has one threat, which forbids it the sense that it doesn't
-// have, from the next cycle on.
-#[test]
-fn tells_blocks_of_one_threat_alone(rt: HostRuntime) -> Result<(), Fail> {
-    let done = told(&rt, "reports", BETWEEN, b"end\n")?;
-    assert_eq!(rt; done.status, Status::Done);
-    assert_eq!(rt;
-        done.sink.bytes(),
-        b"blocks,4\nb,24,400A01,30E2000500300C\nb,24,400B02,30C2000500300C\nb,25,400A01,30E2010500300C\nb,25,400B02,30C2020500300C\n".as_slice()
-    );
     Ok(())
 }
 
@@ -123,43 +143,16 @@ fn tells_a_block_for_18_commits_more(rt: HostRuntime) -> Result<(), Fail> {
     Ok(())
 }
 
-#[test]
-fn tells_equal_senses(rt: HostRuntime) -> Result<(), Fail> {
-    for (encounter, rest, text) in [
-        (
-            LEVEL,
-            b"end\n".as_slice(),
-            b"watch,1\nw,400A01,400B02,U,51,56,n,52\n".as_slice(),
-        ),
-        (
-            LEVEL,
-            HELD_LONG,
-            b"watch,3\nw,400A01,400B02,U,51,56,n,52\nw,400A01,400B02,D,62,68,o,64\nw,400A01,400B02,D,81,81,o,82\n",
-        ),
-        (APART, b"end\n", b"watch,0\n"),
-        // The one of higher address took the first message alone, six commits before its advisory starts in the last cycle.
-        (
-            LEVEL_LONGER,
-            b"miss,400B02,400A01,1,31\nfate,400A01,400B02,2\nfate,400A01,400B02,3\nfate,400A01,400B02,4\nfate,400A01,400B02,5\nfate,400A01,400B02,6\nfate,400A01,400B02,7\nfate,400A01,400B02,8\nend\n",
-            b"watch,1\nw,400A01,400B02,U,73,73,l,74\n",
-        ),
-    ] {
-        let done = told(&rt, "watch", encounter, rest)?;
-        assert_eq!(rt; done.status, Status::Done);
-        assert_eq!(rt; done.sink.bytes(), text);
-    }
-    Ok(())
-}
-
 // The senses are equal to the end of the run, and no message comes any more.
 #[test]
 fn tells_that_no_message_follows(rt: HostRuntime) -> Result<(), Fail> {
-    let done = run(&rt, &["watch"], LATE_COMMIT_RECORDING, &[], &[])?;
-    assert_eq!(rt; done.status, Status::Done);
-    assert_eq!(rt;
-        done.sink.bytes(),
-        b"watch,1\nw,400A01,400B02,U,4,4,n,-\n".as_slice()
-    );
+    answers(
+        &rt,
+        "watch",
+        LATE_COMMIT_RECORDING,
+        Status::Done,
+        b"watch,1\nw,400A01,400B02,U,4,4,n,-\n",
+    )?;
     Ok(())
 }
 
@@ -187,24 +180,8 @@ fn tells_nothing_of_wrong_recordings(rt: HostRuntime) -> Result<(), Fail> {
         }
         let text = lines_between(alloc, recording.as_slice(), 1, last, replaced, other)?;
         for tool in TOOLS {
-            let wrong = run(&rt, &[tool], text.as_slice(), &[], &[])?;
-            assert_eq!(rt; wrong.status, Status::Wrong);
-            assert_eq!(rt; wrong.sink.bytes(), verdict);
+            answers(&rt, tool, text.as_slice(), Status::Wrong, verdict)?;
         }
-    }
-    Ok(())
-}
-
-#[test]
-fn tells_faults_of_tools(rt: HostRuntime) -> Result<(), Fail> {
-    let recording = apart_recording(&rt)?;
-    for tool in TOOLS {
-        let unread = run(&rt, &[tool], recording.as_slice(), &[2], &[])?;
-        assert_eq!(rt; unread.status, Status::ReadFault);
-        assert_eq!(rt; unread.sink.bytes(), b"".as_slice());
-        let unwritten = run(&rt, &[tool], recording.as_slice(), &[], &[1])?;
-        assert_eq!(rt; unwritten.status, Status::WriteFault);
-        assert_eq!(rt; unwritten.sink.bytes(), b"".as_slice());
     }
     Ok(())
 }

@@ -26,7 +26,7 @@ fn first_missing<R: Threads + Sync + Alloc<A = Global>>(
     for reason in reasons {
         let (open, rest, line) = *reason;
         let recording = play(rt, open, rest)?;
-        let told = run(rt, &["why"], recording.sink.bytes(), &[], &[])?;
+        let told = run(rt, "why", recording.sink.bytes(), &[], &[])?;
         if told.status != Status::Done || !has_line(told.sink.bytes(), line) {
             return Ok(Some(*reason));
         }

@@ -1,16 +1,28 @@
-use Rattle.std.proofs.Common.{Err, ap, sym, ◌∙◌}
-use Rattle.acas_top.proofs.Endings.{plays-serial, within-long}
+use Rattle.std.proofs.Common.{subst}
+use Rattle.acas_top.proofs.Endings.{plays-serial, put-done, put-ends, unread-ends}
 use Rattle.acas_top.specs.Answers.{Answers}
 use Rattle.acas_top.specs.Given.{answer_status, answer_text}
+use Rattle.acas_top.specs.declared.status.Status.{Status}
 use Rattle.acas_top.proofs.top.acas_plain.Goals as goal
 
-pub returns-in-Err-TooLong-clause-complete : goal.returns-in-Err-TooLong-clause-complete
-returns-in-Err-TooLong-clause-complete g c = λ _ within _ _.
-    absurd (within-long _ _ (c.in-Err-TooLong.ensures.long (ap Err c.in-Err-TooLong.field-0-is)) (within c.in-Some.command c.in-Some.ensures.some))
+pub returns-in-Err-clause-ended : goal.returns-in-Err-clause-ended
+returns-in-Err-clause-ended g c =
+    let said = c.in-Some.ensures.some in
+    unread-ends c.in-Some.command c.in-Err.status said (λ none. none c.in-Some.command c.in-Some.ensures.valid c.in-Some.ensures.plain said) c.in-Err.ensures.unread
 
-pub returns-in-Ok-write_text-clause-played : goal.returns-in-Ok-write_text-clause-played
-returns-in-Ok-write_text-clause-played g c = λ also done.
-    let found = c.in-Ok-answer_to.found in
-    let text = answer_text found in
-    let answers : Answers c.in-Some.command c.in-Ok.bytes.items (answer_status found) text = rw c.as_slice.ensures.value at c.in-Ok-answer_to.ensures in
-    plays-serial c.in-Some.command _ (answer_status found) _ _ c.in-Ok.bytes.items text _ c.in-Some.ensures.some also answers (sym c.status.ensures ∙ done) c.in-Ok.ensures.read c.in-Ok-write_text.ensures.0
+pub returns-clause-ended : goal.returns-clause-ended
+returns-clause-ended g c =
+    let command = c.in-Some.command in
+    let said = c.in-Some.ensures.some in
+    let answer = c.in-Ok-answer_to.answer in
+    let answers : Answers command c.in-Ok.bytes.items (answer_status answer) (answer_text answer) = rw c.as_slice.ensures.value at c.in-Ok-answer_to.ensures in
+    put-ends command c.in-Ok.bytes.items (answer_text answer) (answer_status answer) c.put_answer.result said c.in-Some.ensures.valid
+    (λ none. none command c.in-Some.ensures.valid c.in-Some.ensures.plain said) c.in-Ok.ensures.read answers c.put_answer.ensures
+
+pub returns-clause-played : goal.returns-clause-played
+returns-clause-played g c = λ also done.
+    let answer = c.in-Ok-answer_to.answer in
+    let answers : Answers c.in-Some.command c.in-Ok.bytes.items (answer_status answer) (answer_text answer) = rw c.as_slice.ensures.value at c.in-Ok-answer_to.ensures in
+    let put = put-done (answer_status answer) c.put_answer.result (answer_text answer) _ _ _ _ done c.put_answer.ensures in
+    let done_answers = subst (λ (status : Status). Answers c.in-Some.command c.in-Ok.bytes.items status (answer_text answer)) put.0 answers in
+    plays-serial c.in-Some.command _ _ _ c.in-Ok.bytes.items (answer_text answer) _ c.in-Some.ensures.some also done_answers c.in-Ok.ensures.read put.1

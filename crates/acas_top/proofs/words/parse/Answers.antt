@@ -1,4 +1,4 @@
-use Rattle.std.proofs.Common.{◌≡◌, ◌∙◌, [], ◌∷◌, subst, sym}
+use Rattle.std.proofs.Common.{subst, sym}
 use Rattle.std.specs.Prelude.{IfNone}
 use Rattle.std.specs.String.{string_bytes}
 use Rattle.acas_top.proofs.FiveWords.{map-five}
