@@ -35,6 +35,3 @@ pub const CRAFTS: usize = 16;
 
 // The text of an encounter promises sixteen.
 const _: () = prove!(CRAFTS == 16);
-
-#[cfg(test)]
-mod tests;

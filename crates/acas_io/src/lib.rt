@@ -22,6 +22,3 @@ pub use std_source::StdSource;
 pub use stream::{Failed, InError, Sink, Source};
 pub use sure::{SureSink, SureSource};
 pub use whole::{read_all, write_all};
-
-#[cfg(test)]
-mod tests;

@@ -11,6 +11,3 @@ pub use counting::count_lines;
 pub use cut::cut_law;
 pub use lines::{LineSink, Text};
 pub use writer::write_text;
-
-#[cfg(test)]
-mod tests;

@@ -4,8 +4,6 @@
 mod division;
 mod ends;
 mod limits;
-#[cfg(test)]
-mod tests;
 mod track;
 mod whole_root;
 

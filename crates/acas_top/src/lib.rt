@@ -21,6 +21,3 @@ pub use all::acas;
 pub use status::Status;
 pub use top::{acas_plain, one_status_law};
 pub use words::{Command, Threaded, Tool};
-
-#[cfg(test)]
-mod tests;

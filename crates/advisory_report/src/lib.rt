@@ -11,6 +11,3 @@ pub use aural::{Aural, aural_of};
 pub use cells::{CELL_BYTES, add_cell, strength_digit};
 pub use composite::{Composite, composite_of, shown};
 pub use report::line;
-
-#[cfg(test)]
-mod tests;

@@ -35,6 +35,3 @@ pub use kept::Waiting;
 pub use laws::{air_law, alike_law, entries_law, sound_law};
 pub use state::AirState;
 pub use state_laws::{priority_law, settled_law, worlds_law};
-
-#[cfg(test)]
-mod tests;

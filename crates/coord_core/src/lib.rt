@@ -8,6 +8,3 @@ mod ranks;
 pub use messages::next_message;
 pub use pair::{changes_sense, ends, next_cell};
 pub use ranks::rank_of;
-
-#[cfg(test)]
-mod tests;

@@ -17,6 +17,3 @@ pub use motion::{Estimate, Motion};
 pub use own::{OwnAircraft, is_active, own_of};
 pub use pair::no_picture;
 pub use separations::{FIRST_RESPONSE, LATER_RESPONSE, Response, asked_rate};
-
-#[cfg(test)]
-mod tests;

@@ -10,6 +10,3 @@ mod worker;
 pub use serial_run::serial;
 pub use threaded_run::{play, played_law};
 pub use worker::Pause;
-
-#[cfg(test)]
-mod tests;

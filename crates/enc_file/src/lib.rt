@@ -17,6 +17,3 @@ pub use canonical::{CanonicalText, write};
 pub use laws::{canonical_records_law, canonical_text_law, refusal_law};
 pub use reading::read;
 pub use refusal::{Code, ReadError, Refusal};
-
-#[cfg(test)]
-mod tests;

@@ -8,6 +8,3 @@ mod making;
 mod misses;
 
 pub use making::{made_law, make};
-
-#[cfg(test)]
-mod tests;

@@ -12,6 +12,3 @@ pub use flying::{inside, inside_law, position};
 pub use measuring::{Meas, measure, own_altitude, slant_range, slant_range_law};
 pub use place::Place;
 pub use places::Places;
-
-#[cfg(test)]
-mod tests;

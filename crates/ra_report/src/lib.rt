@@ -14,6 +14,3 @@ mod table;
 
 pub use block::{RaBlock, decode, encode};
 pub use lines::{Reports, write};
-
-#[cfg(test)]
-mod tests;

@@ -20,6 +20,3 @@ mod verdict;
 pub use judging::{judge, load, load_part};
 pub use laws::verdict_law;
 pub use verdict::{Loaded, Reason, Verdict};
-
-#[cfg(test)]
-mod tests;

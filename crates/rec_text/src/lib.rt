@@ -13,6 +13,3 @@ pub use entries::set_entry_line;
 pub use laws::{line_law, text_law};
 pub use recording::{Closing, Recording, write};
 pub use report::report_count;
-
-#[cfg(test)]
-mod tests;

@@ -7,6 +7,3 @@ mod words;
 pub use acas_base::ResMsg;
 pub use laws::{distance_law, once_law, read_law, spoilt_law};
 pub use words::{decode, encode, flip};
-
-#[cfg(test)]
-mod tests;

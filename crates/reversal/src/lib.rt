@@ -4,6 +4,3 @@
 mod geometric;
 
 pub use geometric::turns;
-
-#[cfg(test)]
-mod tests;

@@ -1,5 +1,5 @@
 // The sensitivity level of an altitude.
-ghost use Rattle.std.specs.Prelude.{◌≡◌, ◌≤◌, ℤ, ◌-ℤ◌};
+ghost use Rattle.std.specs.Prelude.{◌≡◌, ℤ, ◌-ℤ◌};
 ghost use Rattle.acas_base.specs.Ranges.{IsWithin};
 ghost use Rattle.sens_table.specs.Levels;
 ghost use Rattle.sens_table.specs.Levels.{level_at, IsLevel};
@@ -64,65 +64,4 @@ fn in_units(feet: u16) -> i64
     ensures { result ≡ Levels.feet feet }
 {
     i64::from(feet) * 1024
-}
-
-#[cfg(test)]
-mod tests {
-    use super::*;
-
-    const FOOT: i64 = 1024;
-
-    fn thresholds(tau: i64, dmod: i64, zthr: i64) -> Row
-        requires dmod { IsWithin 10000 dmod }
-        requires zthr { IsWithin 10000 zthr }
-    {
-        Row {
-            tau,
-            dmod: dmod * FOOT,
-            zthr: zthr * FOOT,
-        }
-    }
-
-    // The first and the last altitude of each band over ground at sea level, and over high and low ground.
-    #[test]
-    fn bands_begin_and_end(rt: HostRuntime) {
-        let rows = [
-            (-100_000, 0, 2, 0),
-            (999, 0, 2, 0),
-            (1_000, 0, 3, 300 * FOOT),
-            (2_349, 0, 3, 300 * FOOT),
-            (2_350, 0, 4, 300 * FOOT),
-            (4_999, 0, 4, 300 * FOOT),
-            (5_000, 0, 5, 350 * FOOT),
-            (9_999, 0, 5, 350 * FOOT),
-            (10_000, 0, 6, 400 * FOOT),
-            (19_999, 0, 6, 400 * FOOT),
-            (20_000, 0, 7, 600 * FOOT),
-            (41_999, 0, 7, 600 * FOOT),
-            (42_000, 0, 7, 700 * FOOT),
-            (100_000, 0, 7, 700 * FOOT),
-            (15_999, 15_000, 2, 0),
-            (16_000, 15_000, 3, 300 * FOOT),
-            (17_349, 15_000, 3, 300 * FOOT),
-            (17_350, 15_000, 6, 400 * FOOT),
-            (-1, -1_000, 2, 0),
-            (0, -1_000, 3, 300 * FOOT),
-            (1_350, -1_000, 4, 300 * FOOT),
-        ];
-        for (altitude, elevation, sl, alim) in rows {
-            let level = level_of(altitude, elevation);
-            assert_eq!(rt; level.sl, sl, "{altitude} over {elevation}");
-            assert_eq!(rt; level.alim, alim, "{altitude} over {elevation}");
-        }
-    }
-
-    #[test]
-    fn thresholds_change_at_42_000(rt: HostRuntime) {
-        let below = level_of(41_999, 0);
-        assert_eq!(rt; below.ta, thresholds(48, 7_898, 850));
-        assert_eq!(rt; below.ra, Some(thresholds(35, 6_683, 700)));
-        let above = level_of(42_000, 0);
-        assert_eq!(rt; above.ta, thresholds(48, 7_898, 1_200));
-        assert_eq!(rt; above.ra, Some(thresholds(35, 6_683, 800)));
-    }
 }

@@ -4,6 +4,3 @@
 mod choice;
 
 pub use choice::pick;
-
-#[cfg(test)]
-mod tests;

@@ -9,6 +9,3 @@ pub use acas_base::allowed;
 pub use laws::{least_law, next_law, strongest_law};
 pub use next::{next_strength, weakens};
 pub use weakest::least;
-
-#[cfg(test)]
-mod tests;

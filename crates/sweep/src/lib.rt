@@ -7,6 +7,3 @@ mod running;
 
 pub use counts::{Counts, total};
 pub use running::{Job, run};
-
-#[cfg(test)]
-mod tests;

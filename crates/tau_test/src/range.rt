@@ -1,5 +1,5 @@
 // The range test.
-ghost use Rattle.std.specs.Prelude.{◌≡◌, ◌↔◌, IsTrue, ◌<◌, ◌≤◌, ◌^◌, ◌*◌, ℤ, pos, unsigned_abs};
+ghost use Rattle.std.specs.Prelude.{◌↔◌, IsTrue, ◌<◌, ◌≤◌, ◌^◌, ◌*◌, ℤ, pos, unsigned_abs};
 ghost use Rattle.acas_base.specs.Ranges.{IsBetween};
 ghost use Rattle.acas_base.specs.declared.level.Row.{Row};
 ghost use Rattle.tau_test.specs.RangeTest.{modified_tau, is_range_hit, IsRangeHit};
@@ -49,30 +49,3 @@ fn is_soon(r: u64, rate: u64, dmod: u64, tau: u64) -> bool
 pub fn range_test_law()
     ensures { (r rdot : ℤ) (row : Row) → IsTrue (is_range_hit r rdot row) ↔ IsRangeHit r rdot row }
 {}
-
-#[cfg(test)]
-mod tests {
-    use super::*;
-
-    const FOOT: i64 = 1024;
-
-    // The thresholds of a resolution advisory at level 5.
-    const LEVEL_5: Row = Row {
-        tau: 25,
-        dmod: 3_341 * FOOT,
-        zthr: 600 * FOOT,
-    };
-
-    #[test]
-    fn tells_a_little_more_than_tau(rt: HostRuntime) {
-        let rows = [
-            (10_000 * FOOT, -400 * FOOT, true),
-            (10_000 * FOOT, -355 * FOOT, false),
-            (3_341 * FOOT, FOOT, true),
-            (3_342 * FOOT, FOOT, false),
-        ];
-        for (r, rdot, holds) in rows {
-            assert_eq!(rt; range_test(r, rdot, &LEVEL_5), holds, "{r} {rdot}");
-        }
-    }
-}

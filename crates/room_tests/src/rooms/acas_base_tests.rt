@@ -1,0 +1,104 @@
+use crate::rooms::encounters::{PLAIN, aircraft, fate, leg, miss};
+use acas_base::{CopyPlan, CraftSpec, Encounter, Fate, Gains, LinkPlan};
+use std::alloc::Global;
+use std::test::Fail;
+
+const GAINS: Gains = Gains {
+    alpha: 683,
+    beta: 256,
+};
+
+// Aircraft of rising addresses.
+fn crafts(alloc: Global, count: u32) -> Result<Vec<CraftSpec>, Fail> {
+    let mut crafts = Vec::new(alloc);
+    for own in 0..count.min(100) {
+        crafts.push(aircraft(0x40_0A01 + own, 0, 35_000)?)?;
+    }
+    Ok(crafts)
+}
+
+// An encounter of so many aircraft of format 1 with these fates.
+fn make(alloc: Global, count: u32, fates: &[Fate]) -> Result<Option<Encounter>, Fail> {
+    Ok(Encounter::make(
+        1,
+        31,
+        0,
+        GAINS,
+        GAINS,
+        crafts(alloc, count)?,
+        [leg(0, 1, 760, 0)].to_vec(alloc)?,
+        Vec::new(alloc),
+        Vec::new(alloc),
+        fates.to_vec(alloc)?,
+    ))
+}
+
+// An encounter may be sent to and shared with other threads.
+fn may_be_shared<T: Send + Sync>(_: &T) {}
+
+#[test]
+fn makes_what_is_in_range(rt: HostRuntime) -> Result<(), Fail> {
+    let alloc = rt.alloc();
+    let encounter = make(alloc, 2, &[])?.ok_or("refused")?;
+    may_be_shared(&encounter);
+    let copy = encounter.copy(alloc)?;
+    assert_eq!(rt; copy.cycles(), 31);
+    assert_eq!(rt; copy.crafts(), encounter.crafts());
+    assert_eq!(rt; copy.legs().len(), 1);
+    assert!(rt; make(alloc, 9, &[])?.is_none());
+    let four_bits = CopyPlan {
+        hold: 0,
+        mask: 0x0F,
+    };
+    let held = CopyPlan { hold: 3, mask: 0 };
+    for (fates, is_made) in [
+        ([fate(1, 1, held, PLAIN), fate(2, 0, PLAIN, PLAIN)], true),
+        ([fate(2, 1, held, PLAIN), fate(1, 0, PLAIN, PLAIN)], false),
+        ([fate(1, 0, held, PLAIN), fate(2, 0, PLAIN, PLAIN)], false),
+        (
+            [fate(1, 1, four_bits, PLAIN), fate(2, 0, PLAIN, PLAIN)],
+            false,
+        ),
+    ] {
+        assert_eq!(rt; make(alloc, 2, &fates)?.is_some(), is_made);
+    }
+    Ok(())
+}
+
+// An encounter of format 2, in which a link loses all messages but the second one, which is held back.
+fn with_link(alloc: Global, held: CopyPlan) -> Result<Encounter, Fail> {
+    let plan = LinkPlan {
+        sender: 0,
+        receiver: 1,
+        copies: 0,
+        first: PLAIN,
+        second: PLAIN,
+        third: PLAIN,
+    };
+    let made = Encounter::make(
+        2,
+        31,
+        0,
+        GAINS,
+        GAINS,
+        crafts(alloc, 16)?,
+        Vec::new(alloc),
+        [miss(0, 1, 1, 2)].to_vec(alloc)?,
+        [plan].to_vec(alloc)?,
+        [fate(2, 1, held, PLAIN)].to_vec(alloc)?,
+    );
+    Ok(made.ok_or("refused")?)
+}
+
+fn has_fates(enc: &Encounter, held: CopyPlan) -> bool {
+    enc.fate(0, 1, 1) == fate(1, 0, PLAIN, PLAIN)
+        && enc.fate(0, 1, 2) == fate(2, 1, held, PLAIN)
+        && enc.fate(1, 0, 1).copies == 1
+}
+
+#[test]
+fn tells_the_fate_of_a_message(rt: HostRuntime) -> Result<(), Fail> {
+    let held = CopyPlan { hold: 3, mask: 0 };
+    assert!(rt; has_fates(&with_link(rt.alloc(), held)?, held));
+    Ok(())
+}

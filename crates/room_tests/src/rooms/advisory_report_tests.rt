@@ -1,0 +1,235 @@
+use acas_base::{Address, CRAFTS, Cell, Cells, Intent, Sense, Strength};
+use advisory_report::{Aural, Composite, aural_of, composite_of, line};
+use std::test::Fail;
+
+const CLEAR: Composite = Composite {
+    traffic: false,
+    up: None,
+    down: None,
+    corrective: false,
+    crossing: false,
+};
+
+const TRAFFIC: Composite = Composite {
+    traffic: true,
+    ..CLEAR
+};
+
+// Advice to climb, which asks for another rate.
+fn up(strength: Strength) -> Composite {
+    Composite {
+        up: Some(strength),
+        corrective: true,
+        ..CLEAR
+    }
+}
+
+fn down(strength: Strength) -> Composite {
+    Composite {
+        down: Some(strength),
+        corrective: true,
+        ..CLEAR
+    }
+}
+
+// Advice that crosses.
+fn crossing(composite: Composite) -> Composite {
+    Composite {
+        crossing: true,
+        ..composite
+    }
+}
+
+// Advice that own rate meets.
+fn preventive(composite: Composite) -> Composite {
+    Composite {
+        corrective: false,
+        ..composite
+    }
+}
+
+fn both(up: Strength, down: Strength) -> Composite {
+    Composite {
+        up: Some(up),
+        down: Some(down),
+        corrective: true,
+        ..CLEAR
+    }
+}
+
+#[test]
+fn says_the_phrases(rt: HostRuntime) {
+    use Strength::{Increase, Level, Limit500, Limit1000, Limit2000, Positive};
+    for (before, after, said) in [
+        // the encounters that are worked out
+        (CLEAR, TRAFFIC, Aural::TrafficTraffic),
+        (TRAFFIC, down(Positive), Aural::DescendDescend),
+        (TRAFFIC, up(Positive), Aural::ClimbClimb),
+        (up(Positive), down(Positive), Aural::DescendNow),
+        (down(Positive), down(Increase), Aural::IncreaseDescent),
+        (down(Increase), up(Positive), Aural::ClimbNow),
+        (TRAFFIC, crossing(up(Positive)), Aural::ClimbCrossing),
+        (
+            crossing(up(Positive)),
+            crossing(up(Increase)),
+            Aural::IncreaseClimb,
+        ),
+        (
+            crossing(up(Positive)),
+            preventive(down(Level)),
+            Aural::Monitor,
+        ),
+        (TRAFFIC, both(Positive, Positive), Aural::LevelOff),
+        // the other lines of the table
+        (up(Positive), CLEAR, Aural::ClearOfConflict),
+        (both(Level, Positive), TRAFFIC, Aural::ClearOfConflict),
+        (TRAFFIC, CLEAR, Aural::Silent),
+        (TRAFFIC, TRAFFIC, Aural::Silent),
+        (up(Positive), preventive(up(Positive)), Aural::Silent),
+        (preventive(up(Positive)), up(Positive), Aural::ClimbClimb),
+        (both(Level, Positive), both(Level, Positive), Aural::Silent),
+        (both(Level, Positive), both(Level, Level), Aural::LevelOff),
+        (CLEAR, up(Limit2000), Aural::Monitor),
+        (CLEAR, down(Limit1000), Aural::Monitor),
+        (CLEAR, preventive(up(Limit500)), Aural::Monitor),
+        (TRAFFIC, up(Level), Aural::LevelOff),
+        (up(Positive), preventive(up(Level)), Aural::LevelOff),
+        (down(Increase), preventive(down(Level)), Aural::LevelOff),
+        (both(Level, Positive), down(Positive), Aural::DescendDescend),
+        (CLEAR, preventive(down(Positive)), Aural::Maintain),
+        (CLEAR, crossing(down(Positive)), Aural::DescendCrossing),
+    ] {
+        assert_eq!(rt; aural_of(&before, &after), said);
+    }
+}
+
+fn advisory(sense: Sense, strength: Strength) -> Cell {
+    Cell::Ra(Intent {
+        sense,
+        strength,
+        age: 1,
+        turned: false,
+        crossing: false,
+        corrective: true,
+    })
+}
+
+fn cells(first: Cell, second: Cell, third: Cell) -> Cells {
+    let mut list = [Cell::Clear; CRAFTS];
+    list[0] = first;
+    list[1] = second;
+    list[2] = third;
+    Cells { list }
+}
+
+#[test]
+fn tells_lines_of_cells(rt: HostRuntime) -> Result<(), Fail> {
+    let clear = Cell::Clear;
+    let seen = cells(clear, Cell::Traffic, clear);
+    let descend = cells(clear, advisory(Sense::Down, Strength::Positive), clear);
+    let between = cells(
+        advisory(Sense::Up, Strength::Positive),
+        advisory(Sense::Down, Strength::Positive),
+        clear,
+    );
+    for (cycle, address, before, after, want) in [
+        (
+            13,
+            0x40_0A01,
+            CLEAR,
+            seen,
+            "r,13,400A01,TRAFFIC,Traffic traffic\n",
+        ),
+        (
+            26,
+            0x40_0A01,
+            TRAFFIC,
+            descend,
+            "r,26,400A01,DOWN-DESCEND,Descend descend\n",
+        ),
+        (
+            24,
+            0x40_0C03,
+            TRAFFIC,
+            between,
+            "r,24,400C03,LEVEL-BOTH,Level off level off\n",
+        ),
+    ] {
+        let own = Address::new(address).ok_or("no address")?;
+        let told = line(cycle, own, &before, &composite_of(&after)).ok_or("no line")?;
+        assert_eq!(rt; told.bytes(), want.as_bytes());
+    }
+    Ok(())
+}
+
+#[test]
+fn tells_words(rt: HostRuntime) -> Result<(), Fail> {
+    use Strength::{Increase, Level, Limit500, Limit1000, Limit2000, Positive};
+    let own = Address::new(0x40_0B02).ok_or("no address")?;
+    for (before, after, want) in [
+        (TRAFFIC, CLEAR, "r,1,400B02,CLEAR,-\n"),
+        (
+            CLEAR,
+            up(Limit2000),
+            "r,1,400B02,UP-2000,Monitor vertical speed\n",
+        ),
+        (
+            CLEAR,
+            up(Limit1000),
+            "r,1,400B02,UP-1000,Monitor vertical speed\n",
+        ),
+        (
+            CLEAR,
+            up(Limit500),
+            "r,1,400B02,UP-500,Monitor vertical speed\n",
+        ),
+        (
+            CLEAR,
+            up(Level),
+            "r,1,400B02,UP-LEVEL,Level off level off\n",
+        ),
+        (CLEAR, up(Positive), "r,1,400B02,UP-CLIMB,Climb climb\n"),
+        (
+            CLEAR,
+            up(Increase),
+            "r,1,400B02,UP-INCREASE,Increase climb\n",
+        ),
+        (
+            CLEAR,
+            down(Limit2000),
+            "r,1,400B02,DOWN-2000,Monitor vertical speed\n",
+        ),
+        (
+            CLEAR,
+            down(Limit1000),
+            "r,1,400B02,DOWN-1000,Monitor vertical speed\n",
+        ),
+        (
+            CLEAR,
+            down(Limit500),
+            "r,1,400B02,DOWN-500,Monitor vertical speed\n",
+        ),
+        (
+            CLEAR,
+            down(Level),
+            "r,1,400B02,DOWN-LEVEL,Level off level off\n",
+        ),
+        (
+            CLEAR,
+            down(Increase),
+            "r,1,400B02,DOWN-INCREASE,Increase descent\n",
+        ),
+        (
+            both(Level, Positive),
+            both(Level, Level),
+            "r,1,400B02,LEVEL-BOTH,Level off level off\n",
+        ),
+    ] {
+        let told = line(1, own, &before, &after).ok_or("no line")?;
+        assert_eq!(rt; told.bytes(), want.as_bytes());
+    }
+    for quiet in [CLEAR, TRAFFIC, up(Positive), both(Level, Positive)] {
+        assert!(rt; line(1, own, &quiet, &quiet).is_none());
+    }
+    Ok(())
+}

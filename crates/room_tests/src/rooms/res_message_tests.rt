@@ -1,0 +1,52 @@
+use acas_base::{Address, ResMsg, Vrc};
+use res_message::{decode, encode, flip};
+use std::test::Fail;
+
+const ALL: [Vrc; 3] = [Vrc::Nil, Vrc::NotBelow, Vrc::NotAbove];
+
+fn message(many: bool, cancel: Vrc, vrc: Vrc) -> Result<ResMsg, Fail> {
+    Ok(ResMsg {
+        many,
+        cancel,
+        vrc,
+        sender: Address::new(0x40_0A01).ok_or("no address")?,
+    })
+}
+
+#[test]
+fn writes_words(rt: HostRuntime) -> Result<(), Fail> {
+    for (cancel, vrc, word) in [
+        (Vrc::Nil, Vrc::NotAbove, 0x30_0800_0740_0A01),
+        (Vrc::Nil, Vrc::NotBelow, 0x30_0400_0E40_0A01),
+        (Vrc::NotAbove, Vrc::NotBelow, 0x30_2400_0340_0A01),
+        (Vrc::NotAbove, Vrc::Nil, 0x30_2000_0D40_0A01),
+    ] {
+        let message = message(false, cancel, vrc)?;
+        assert_eq!(rt; encode(&message), word);
+        assert_eq!(rt; decode(word), Some(message));
+    }
+    Ok(())
+}
+
+#[test]
+fn flips_and_refuses(rt: HostRuntime) -> Result<(), Fail> {
+    let spoilt = flip(0x30_0800_0740_0A01, 0x07);
+    assert_eq!(rt; spoilt, 0x30_0800_0040_0A01);
+    assert_eq!(rt; decode(spoilt), None);
+    let mut spoilt: u16 = 0;
+    for many in [false, true] {
+        for cancel in ALL {
+            for vrc in ALL {
+                let word = encode(&message(many, cancel, vrc)?);
+                for mask in 1..=255u8 {
+                    if mask.count_ones() <= 3 {
+                        assert_eq!(rt; decode(flip(word, mask)), None);
+                        spoilt = spoilt.saturating_add(1);
+                    }
+                }
+            }
+        }
+    }
+    assert_eq!(rt; spoilt, 1_656);
+    Ok(())
+}

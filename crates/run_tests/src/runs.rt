@@ -1,0 +1,182 @@
+// Whole runs, and what their tests share.
+mod answered;
+mod faults;
+mod judged;
+mod played;
+mod resumed;
+mod swept;
+mod threaded;
+mod told;
+mod why;
+
+use acas_io::{MemSink, MemSource};
+use acas_top::{Status, acas};
+use craft_worker::Pause;
+use std::alloc::{AllocError, Global};
+use std::sync::Wait;
+use std::thread::Threads;
+
+// Two aircraft with resolution advisories that fly towards each other, at different altitudes and at the same one, without
+// the end of the text.
+const APART: &[u8] =
+    b"encounter,1\nrun,31,0\ncraft,400A01,RA,0,0,35000\ncraft,400B02,RA,91200,0,35300\nleg,400A01,1,760,0,0\nleg,400B02,1,-760,0,0\n";
+
+const LEVEL: &[u8] =
+    b"encounter,1\nrun,31,0\ncraft,400A01,RA,0,0,35000\ncraft,400B02,RA,91200,0,35000\nleg,400A01,1,760,0,0\nleg,400B02,1,-760,0,0\n";
+
+// The same two at one altitude, in format 2.
+const LEVEL_2: &[u8] =
+    b"encounter,2\nrun,31,0\ncraft,400A01,RA,0,0,35000\ncraft,400B02,RA,91200,0,35000\nleg,400A01,1,760,0,0\nleg,400B02,1,-760,0,0\n";
+
+// How the text of the two at one altitude goes on, where a copy is held back so long that it is taken last.
+const HELD_LONG: &[u8] =
+    b"gains,1024,1024,1024,1024\nleg,400B02,27,-760,0,6000\nfate,400A01,400B02,2,0,00,3,00\nfate,400A01,400B02,5\nend\n";
+
+// The lower address misses the replies of the other one from cycle 22 on, and its cancel is lost.
+const LAPSING: &[u8] =
+    b"encounter,1\nrun,33,0\ncraft,400A01,RA,0,0,35000\ncraft,400B02,RA,91200,0,35000\nleg,400A01,1,760,0,0\nleg,400B02,1,-760,0,0\nmiss,400A01,400B02,22,60\nfate,400A01,400B02,2\n";
+
+// The two at different altitudes, with traffic advisories alone.
+const TRAFFIC: &[u8] =
+    b"encounter,1\nrun,31,0\ncraft,400A01,TA,0,0,35000\ncraft,400B02,TA,91200,0,35300\nleg,400A01,1,760,0,0\nleg,400B02,1,-760,0,0\n";
+
+const ONE_CYCLE: &[u8] =
+    b"encounter,1\nrun,1,0\ngains,683,256,512,128\ncraft,400100,RA,-55000,39000,22400\nleg,400100,1,550,-390,-800\nend\n";
+
+const ONE_CYCLE_RECORDING: &[u8] =
+    b"recording,1\nencounter,1\nrun,1,0\ngains,683,256,512,128\ncraft,400100,RA,-55000,39000,22400\nleg,400100,1,550,-390,-800\nend\njournal,1\nc,0,1,-\nreport,0\nclose\n";
+
+// Holds nobody.
+struct NoPause;
+
+impl Pause for NoPause {
+    fn pause(&self, _craft: u8, _cycle: u16) {}
+}
+
+// How a run ended, and what it wrote.
+#[derive(Drop)]
+struct Outcome {
+    status: Status,
+    sink: MemSink,
+}
+
+// Runs the words of a line on a source and a sink in memory, which fail at these reads and writes.
+fn run_with<R: Threads + Wait + Sync + Alloc<A = Global>, P: Pause + Sync>(
+    rt: &R,
+    line: &str,
+    input: &[u8],
+    failing_reads: &[u64],
+    failing_writes: &[u64],
+    pause: &P,
+) -> Result<Outcome, AllocError> {
+    let alloc = rt.alloc();
+    let mut words = Vec::new(alloc);
+    for word in line.split_whitespace() {
+        words.push(String::from_str(alloc, word)?)?;
+    }
+    let mut source = MemSource::new(input.to_vec(alloc)?, 64, failing_reads.to_vec(alloc)?);
+    let room = Vec::with_capacity(alloc, 2_000_000)?;
+    let mut sink = MemSink::new(room, 16, failing_writes.to_vec(alloc)?);
+    let status = acas(rt, alloc, words.as_slice(), &mut source, &mut sink, pause);
+    Ok(Outcome { status, sink })
+}
+
+// Runs the words of a line, where nothing fails.
+fn run<R: Threads + Wait + Sync + Alloc<A = Global>>(
+    rt: &R,
+    line: &str,
+    input: &[u8],
+) -> Result<Outcome, AllocError> {
+    run_with(rt, line, input, &[], &[], &NoPause)
+}
+
+// Whether a run ends with this status, and writes this text.
+fn answers<R: Threads + Wait + Sync + Alloc<A = Global>>(
+    rt: &R,
+    line: &str,
+    input: &[u8],
+    status: Status,
+    text: &[u8],
+) -> Result<bool, AllocError> {
+    let done = run(rt, line, input)?;
+    Ok(done.status == status && done.sink.bytes() == text)
+}
+
+// A text of two parts.
+fn joined(alloc: Global, open: &[u8], rest: &[u8]) -> Result<Vec<u8>, AllocError> {
+    let mut text = open.to_vec(alloc)?;
+    text.extend_from_slice(rest)?;
+    Ok(text)
+}
+
+// The recording of an encounter whose text has two parts.
+fn recording<R: Threads + Wait + Sync + Alloc<A = Global>>(
+    rt: &R,
+    open: &[u8],
+    rest: &[u8],
+) -> Result<Vec<u8>, AllocError> {
+    let text = joined(rt.alloc(), open, rest)?;
+    let played = run(rt, "serial", text.as_slice())?;
+    played.sink.bytes().to_vec(rt.alloc())
+}
+
+// How many lines of a text begin so.
+fn lines_with(text: &[u8], beginning: &[u8]) -> u64 {
+    let mut count = 0u64;
+    for line in text.split(|byte| *byte == b'\n') {
+        if line.starts_with(beginning) {
+            count = count.saturating_add(1);
+        }
+    }
+    count
+}
+
+// The line of an entry in a recording.
+fn entry_in(text: &[u8], position: usize) -> &[u8] {
+    let mut left: Option<usize> = None;
+    for line in text.split(|byte| *byte == b'\n') {
+        match left {
+            Some(0) => return line,
+            Some(more) => left = Some(more - 1),
+            None => if line.starts_with(b"journal,") {
+                left = Some(position);
+            },
+        }
+    }
+    &[]
+}
+
+// The lines of a text from one number on, from 1, as far as another one.
+fn lines_between(alloc: Global, text: &[u8], first: u64, last: u64) -> Result<Vec<u8>, AllocError> {
+    let mut lines = Vec::new(alloc);
+    let mut number = 0u64;
+    for line in text.split(|byte| *byte == b'\n') {
+        number = number.saturating_add(1);
+        if number >= first && number <= last && !line.is_empty() {
+            lines.extend_from_slice(line)?;
+            lines.push(b'\n')?;
+        }
+    }
+    Ok(lines)
+}
+
+// A text with one of its lines, counted from 1, replaced by another text. It has no empty line.
+fn with_line(
+    alloc: Global,
+    text: &[u8],
+    replaced: u64,
+    other: &[u8],
+) -> Result<Vec<u8>, AllocError> {
+    let mut changed = Vec::new(alloc);
+    let mut number = 0u64;
+    for line in text.split(|byte| *byte == b'\n') {
+        number = number.saturating_add(1);
+        if number == replaced {
+            changed.extend_from_slice(other)?;
+        } else if !line.is_empty() {
+            changed.extend_from_slice(line)?;
+            changed.push(b'\n')?;
+        }
+    }
+    Ok(changed)
+}

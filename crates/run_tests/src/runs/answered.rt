@@ -1,0 +1,71 @@
+// What words answer, to the byte.
+use super::{APART, LEVEL, ONE_CYCLE, ONE_CYCLE_RECORDING, TRAFFIC, answers, joined, run};
+use acas_top::Status;
+use std::alloc::{AllocError, Global};
+use std::sync::Wait;
+use std::test::Fail;
+use std::thread::Threads;
+
+// Nine aircraft in format 1 are one too many, and seventeen in format 2.
+const NINE: &[u8] =
+    b"encounter,1\nrun,1,0\ncraft,000001,RA,0,0,0\ncraft,000002,RA,0,0,0\ncraft,000003,RA,0,0,0\ncraft,000004,RA,0,0,0\ncraft,000005,RA,0,0,0\ncraft,000006,RA,0,0,0\ncraft,000007,RA,0,0,0\ncraft,000008,RA,0,0,0\ncraft,000009,RA,0,0,0\n";
+
+const SEVENTEEN: &[u8] =
+    b"encounter,2\nrun,1,0\ncraft,000001,RA,0,0,0\ncraft,000002,RA,0,0,0\ncraft,000003,RA,0,0,0\ncraft,000004,RA,0,0,0\ncraft,000005,RA,0,0,0\ncraft,000006,RA,0,0,0\ncraft,000007,RA,0,0,0\ncraft,000008,RA,0,0,0\ncraft,000009,RA,0,0,0\ncraft,00000A,RA,0,0,0\ncraft,00000B,RA,0,0,0\ncraft,00000C,RA,0,0,0\ncraft,00000D,RA,0,0,0\ncraft,00000E,RA,0,0,0\ncraft,00000F,RA,0,0,0\ncraft,000010,RA,0,0,0\ncraft,000011,RA,0,0,0\n";
+
+// The beginning of a text, its rest, and the line of its refusal.
+type Refusal = (&'static [u8], &'static [u8], &'static [u8]);
+
+const REFUSED: [Refusal; 12] = [
+    (b"", b"", b"refused,1,1\n"),
+    (APART, b"", b"refused,7,11\n"),
+    (APART, b"end\nend\n", b"refused,8,12\n"),
+    (APART, b"leg,400A01,1,0,0,0\nend\n", b"refused,7,6\n"),
+    (APART, b"fate,400A01,400A01,1\nend\n", b"refused,7,7\n"),
+    (b"encounter,1\n", b"run,031,0\n", b"refused,2,4\n"),
+    (
+        b"encounter,1\nrun,31,0\n",
+        b"craft,400A01,RA,0,0,60001\n",
+        b"refused,3,4\n",
+    ),
+    (
+        LEVEL,
+        b"fate,400A01,400B02,1,0,0F\nend\n",
+        b"refused,7,10\n",
+    ),
+    (LEVEL, b"climb,400A01,30000\nend\n", b"refused,7,2\n"),
+    (NINE, b"end\n", b"refused,11,8\n"),
+    (SEVENTEEN, b"end\n", b"refused,19,8\n"),
+    (TRAFFIC, b"", b"refused,7,11\n"),
+];
+
+// The place of the first text that a word refuses otherwise.
+fn first_other<R: Threads + Wait + Sync + Alloc<A = Global>>(
+    rt: &R,
+    word: &str,
+    refusals: &[Refusal],
+) -> Result<Option<usize>, AllocError> {
+    for place in 0..refusals.len() {
+        let (open, rest, line) = refusals[place];
+        let text = joined(rt.alloc(), open, rest)?;
+        if !answers(rt, word, text.as_slice(), Status::Refused, line)? {
+            return Ok(Some(place));
+        }
+    }
+    Ok(None)
+}
+
+#[test]
+fn refuses_by_record_and_code(rt: HostRuntime) -> Result<(), Fail> {
+    assert_eq!(rt; first_other(&rt, "serial", &REFUSED)?, None);
+    assert_eq!(rt; first_other(&rt, "play", &REFUSED)?, None);
+    Ok(())
+}
+
+#[test]
+fn makes_and_plays_encounters(rt: HostRuntime) -> Result<(), Fail> {
+    assert!(rt; answers(&rt, "gen 7 1 1", b"", Status::Done, ONE_CYCLE)?);
+    assert!(rt; answers(&rt, "serial", ONE_CYCLE, Status::Done, ONE_CYCLE_RECORDING)?);
+    assert!(rt; run(&rt, "gen 4294967295 16 600", b"")?.status == Status::Done);
+    Ok(())
+}

@@ -1,0 +1,192 @@
+// Reads and writes that fail, inputs that are too long, and words that are none.
+use super::{
+    APART, LEVEL, NoPause, ONE_CYCLE, ONE_CYCLE_RECORDING, Outcome, answers, joined, lines_between,
+    recording, run, run_with,
+};
+use acas_io::{SureSink, SureSource};
+use acas_top::{Status, acas_plain};
+use std::alloc::{AllocError, Global};
+use std::sync::Wait;
+use std::test::Fail;
+use std::thread::Threads;
+
+// Runs the words of a line, where these reads and writes fail.
+fn failing<R: Threads + Wait + Sync + Alloc<A = Global>>(
+    rt: &R,
+    line: &str,
+    input: &[u8],
+    reads: &[u64],
+    writes: &[u64],
+) -> Result<Outcome, AllocError> {
+    run_with(rt, line, input, reads, writes, &NoPause)
+}
+
+// The first reads of a run fail in turn, and then the first writes: nothing was written, or so much of the text as the writes
+// before. What a run in threads writes first is the same, whatever the order is.
+fn tells_each_fault<R: Threads + Wait + Sync + Alloc<A = Global>>(
+    rt: &R,
+    line: &str,
+    input: &[u8],
+    reads: u64,
+    writes: u64,
+) -> Result<bool, AllocError> {
+    for read in 0..reads {
+        let unread = failing(rt, line, input, &[read + 1], &[])?;
+        if unread.status != Status::ReadFault || !unread.sink.bytes().is_empty() {
+            return Ok(false);
+        }
+    }
+    let whole = run(rt, line, input)?;
+    let text = whole.sink.bytes();
+    for write in 0..writes.min(text.len() as u64 / 16) {
+        let unwritten = failing(rt, line, input, &[], &[write + 1])?;
+        let front = unwritten.sink.bytes();
+        if unwritten.status != Status::WriteFault
+            || !text.starts_with(front)
+            || front.len() as u64 != write.saturating_mul(16)
+        {
+            return Ok(false);
+        }
+    }
+    Ok(true)
+}
+
+// What a word reads, how many of its reads fail in turn, and how many of its writes at most.
+type Failing = (&'static str, Reads, u64, u64);
+
+#[derive(Clone, Copy)]
+enum Reads {
+    Nothing,
+    Encounter,
+    Recording,
+    Beginning,
+}
+
+const FAILING: [Failing; 11] = [
+    ("serial", Reads::Encounter, 3, 1000),
+    ("play", Reads::Encounter, 3, 9),
+    ("audit", Reads::Recording, 3, 1000),
+    ("sum", Reads::Encounter, 3, 1000),
+    ("gen 7 1 1", Reads::Nothing, 0, 1000),
+    ("reports", Reads::Recording, 3, 1000),
+    ("sweep 7 3 1 1", Reads::Nothing, 0, 1000),
+    ("response", Reads::Recording, 3, 1000),
+    ("watch", Reads::Recording, 3, 1000),
+    ("resume", Reads::Beginning, 3, 1000),
+    ("why", Reads::Recording, 3, 1000),
+];
+
+fn input_of<R: Threads + Wait + Sync + Alloc<A = Global>>(
+    rt: &R,
+    reads: Reads,
+) -> Result<Vec<u8>, AllocError> {
+    let alloc = rt.alloc();
+    match reads {
+        Reads::Nothing => Ok(Vec::new(alloc)),
+        Reads::Encounter => joined(alloc, LEVEL, b"end\n"),
+        Reads::Recording => recording(rt, APART, b"end\n"),
+        Reads::Beginning => {
+            let whole = recording(rt, APART, b"end\n")?;
+            lines_between(alloc, whole.as_slice(), 1, 50)
+        }
+    }
+}
+
+// The place of the first word that tells a fault otherwise.
+fn first_other<R: Threads + Wait + Sync + Alloc<A = Global>>(
+    rt: &R,
+    words: &[Failing],
+) -> Result<Option<usize>, AllocError> {
+    for place in 0..words.len() {
+        let (line, input, reads, writes) = words[place];
+        let input = input_of(rt, input)?;
+        if !tells_each_fault(rt, line, input.as_slice(), reads, writes)? {
+            return Ok(Some(place));
+        }
+    }
+    Ok(None)
+}
+
+#[test]
+fn tells_faults(rt: HostRuntime) -> Result<(), Fail> {
+    assert_eq!(rt; first_other(&rt, &FAILING)?, None);
+    Ok(())
+}
+
+// Words that say no command, by their number, by a word, or by a number out of its range.
+const NO_COMMANDS: [&str; 18] = [
+    "",
+    "serial now",
+    "play 1",
+    "Gen 7 1 1",
+    "gen 7 17 1",
+    "gen 7 0 1",
+    "gen 7 1 601",
+    "gen 07 1 1",
+    "gen 4294967296 1 1",
+    "swept 7 1 1 1",
+    "sweep 7 0 1 1",
+    "sweep 7 4097 1 1",
+    "sweep 7 1 0 1",
+    "sweep 7 1 5 1",
+    "sweep 7 1 1 0",
+    "sweep 7 1 1 121",
+    "sweep 4294967296 1 1 1",
+    "sweep 7 01 1 1",
+];
+
+// The place of the first line that is answered otherwise than by a word on the usage.
+fn first_command<R: Threads + Wait + Sync + Alloc<A = Global>>(
+    rt: &R,
+    lines: &[&str],
+) -> Result<Option<usize>, AllocError> {
+    for place in 0..lines.len() {
+        let none = failing(rt, lines[place], ONE_CYCLE, &[1], &[1])?;
+        if none.status != Status::Usage || !none.sink.bytes().is_empty() {
+            return Ok(Some(place));
+        }
+    }
+    Ok(None)
+}
+
+// What a word is answered with where nobody may wait.
+fn plain_status<R: Threads + Sync + Alloc<A = Global>>(
+    rt: &R,
+    word: &str,
+) -> Result<Status, AllocError> {
+    let alloc = rt.alloc();
+    let mut words = Vec::new(alloc);
+    words.push(String::from_str(alloc, word)?)?;
+    let mut source = SureSource::new(Vec::new(alloc));
+    let mut sink = SureSink::new(Vec::new(alloc));
+    Ok(acas_plain(rt, alloc, words.as_slice(), &mut source, &mut sink))
+}
+
+#[test]
+fn reads_nothing_without_a_command(rt: HostRuntime) -> Result<(), Fail> {
+    assert_eq!(rt; first_command(&rt, &NO_COMMANDS)?, None);
+    // Words that run threads are none of those that wait for nobody.
+    assert_eq!(rt; plain_status(&rt, "play")?, Status::Usage);
+    assert_eq!(rt; plain_status(&rt, "sum")?, Status::Usage);
+    Ok(())
+}
+
+// Blank lines are no records, so a text with many of them says the same.
+#[test]
+fn reads_texts_up_to_the_limit(rt: HostRuntime) -> Result<(), Fail> {
+    let alloc = rt.alloc();
+    let mut text = vec![in alloc; b'\n'; 16_777_216 - ONE_CYCLE.len()]?;
+    text.extend_from_slice(ONE_CYCLE)?;
+    assert!(rt;
+        answers(
+            &rt,
+            "serial",
+            text.as_slice(),
+            Status::Done,
+            ONE_CYCLE_RECORDING
+        )?
+    );
+    text.push(b'\n')?;
+    assert!(rt; answers(&rt, "serial", text.as_slice(), Status::TooLong, b"")?);
+    Ok(())
+}

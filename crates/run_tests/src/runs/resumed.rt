@@ -1,0 +1,134 @@
+// Recordings that were cut.
+use super::{
+    HELD_LONG, LEVEL, answers, joined, lines_between, lines_with, recording, run, with_line,
+};
+use acas_top::Status;
+use std::alloc::{AllocError, Global};
+use std::sync::Wait;
+use std::test::Fail;
+use std::thread::Threads;
+
+// Where a recording was cut: how many lines are whole, and how many bytes of the next one stand behind them.
+fn cut(alloc: Global, recording: &[u8], lines: u64, bytes: usize) -> Result<Vec<u8>, AllocError> {
+    let mut text = lines_between(alloc, recording, 1, lines)?;
+    let next = lines_between(
+        alloc,
+        recording,
+        lines.saturating_add(1),
+        lines.saturating_add(1),
+    )?;
+    text.extend_from_slice(&next[..bytes.min(next.len())])?;
+    Ok(text)
+}
+
+// What is wrong with a recording whose `journal` is this line, with so many entries, cut behind so many whole lines or within
+// the next one: the line and the reason, or nothing.
+fn wrong_at(journal: u64, entries: u64, lines: u64, within: bool) -> Option<(u64, u8)> {
+    let last = journal.saturating_add(entries);
+    if lines > last || (lines == last && within) {
+        return Some((last.saturating_add(1), 6));
+    }
+    if lines >= journal && !within {
+        return None;
+    }
+    // The unfinished line isn't `end`, so that the line behind it is missing.
+    if lines > 0 && lines.saturating_add(1) < journal && within {
+        return Some((lines.saturating_add(2), 2));
+    }
+    Some((lines.saturating_add(1), 2))
+}
+
+// What a recording, cut so, is answered with.
+fn answer(
+    alloc: Global,
+    recording: &[u8],
+    wrong: Option<(u64, u8)>,
+) -> Result<Vec<u8>, AllocError> {
+    match wrong {
+        Some((line, reason)) => {
+            let verdict = format!(in alloc; "wrong,{line},{reason}\n")?;
+            verdict.as_bytes().to_vec(alloc)
+        }
+        None => recording.to_vec(alloc),
+    }
+}
+
+// Whether a recording that was cut behind so many lines, or within the next one, is answered so.
+fn is_answered<R: Threads + Wait + Sync + Alloc<A = Global>>(
+    rt: &R,
+    whole: &[u8],
+    lines: u64,
+    is_within: bool,
+    wrong: Option<(u64, u8)>,
+) -> Result<bool, AllocError> {
+    let alloc = rt.alloc();
+    let text = cut(alloc, whole, lines, if is_within { 3 } else { 0 })?;
+    let resumed = run(rt, "resume", text.as_slice())?;
+    let want = answer(alloc, whole, wrong)?;
+    Ok(resumed.sink.bytes() == want.as_slice())
+}
+
+// The first cut that is answered otherwise: behind so many lines, or within the next one.
+fn first_other<R: Threads + Wait + Sync + Alloc<A = Global>>(
+    rt: &R,
+    whole: &[u8],
+    journal: u64,
+    entries: u64,
+) -> Result<Option<(u64, bool)>, AllocError> {
+    for lines in 0..lines_with(whole, b"") {
+        for is_within in [false, true] {
+            let wrong = wrong_at(journal, entries, lines, is_within);
+            if !is_answered(rt, whole, lines, is_within, wrong)? {
+                return Ok(Some((lines, is_within)));
+            }
+        }
+    }
+    Ok(None)
+}
+
+// Each cut of a recording. In the second one a copy is held back and taken last; its `journal` is three lines later.
+#[test]
+fn answers_each_cut(rt: HostRuntime) -> Result<(), Fail> {
+    let level = recording(&rt, LEVEL, b"end\n")?;
+    assert_eq!(rt; first_other(&rt, level.as_slice(), 10, 86)?, None);
+    let held = recording(&rt, LEVEL, HELD_LONG)?;
+    assert_eq!(rt; first_other(&rt, held.as_slice(), 13, 86)?, None);
+    Ok(())
+}
+
+// The recording's first lines, with another line of its entries, and these entries.
+fn begun(
+    alloc: Global,
+    whole: &[u8],
+    journal: &[u8],
+    entries: &[u8],
+) -> Result<Vec<u8>, AllocError> {
+    let other = with_line(alloc, whole, 10, journal)?;
+    let open = lines_between(alloc, other.as_slice(), 1, 10)?;
+    joined(alloc, open.as_slice(), entries)
+}
+
+#[test]
+fn goes_on_from_another_order(rt: HostRuntime) -> Result<(), Fail> {
+    let alloc = rt.alloc();
+    let whole = recording(&rt, LEVEL, b"end\n")?;
+    let text = begun(alloc, whole.as_slice(), b"journal,1\n", b"c,1,1,-,-\n")?;
+    let open = begun(
+        alloc,
+        whole.as_slice(),
+        b"journal,86\n",
+        b"c,1,1,-,-\nc,0,1,-,-\n",
+    )?;
+    let rest = lines_between(alloc, whole.as_slice(), 13, 200)?;
+    let want = joined(alloc, open.as_slice(), rest.as_slice())?;
+    assert!(rt;
+        answers(
+            &rt,
+            "resume",
+            text.as_slice(),
+            Status::Done,
+            want.as_slice()
+        )?
+    );
+    Ok(())
+}

@@ -1,0 +1,213 @@
+// The lines that tell why, of encounters whose numbers were computed from the rules by hand.
+use super::told::told;
+use super::{APART, HELD_LONG, LAPSING, LEVEL, LEVEL_2, TRAFFIC};
+use acas_top::Status;
+use std::alloc::{AllocError, Global};
+use std::sync::Wait;
+use std::test::Fail;
+use std::thread::Threads;
+
+// A text has this line.
+fn has_line(text: &[u8], line: &[u8]) -> bool {
+    for other in text.split(|byte| *byte == b'\n') {
+        if other == line {
+            return true;
+        }
+    }
+    false
+}
+
+// The beginning of an encounter's text, its rest, and a line of its reasons.
+type Reason = (&'static [u8], &'static [u8], &'static [u8]);
+
+// Whether the reasons of an encounter have a line.
+fn is_told<R: Threads + Wait + Sync + Alloc<A = Global>>(
+    rt: &R,
+    reason: &Reason,
+) -> Result<bool, AllocError> {
+    let (open, rest, line) = *reason;
+    let reasons = told(rt, "why", open, rest)?;
+    Ok(reasons.status == Status::Done && has_line(reasons.sink.bytes(), line))
+}
+
+// Near the ground.
+const LOW: &[u8] =
+    b"encounter,1\nrun,17,0\ncraft,400A01,RA,0,0,1099\ncraft,400B02,RA,12000,0,1099\nleg,400A01,1,200,0,0\nleg,400B02,1,-200,0,0\n";
+
+// One between two others.
+const THREE: &[u8] =
+    b"encounter,1\nrun,25,0\ngains,1024,1024,1024,1024\ncraft,400A01,RA,45600,0,34700\ncraft,400B02,RA,-45600,0,35300\ncraft,400C03,RA,0,0,35000\nleg,400A01,1,-760,0,0\nleg,400B02,1,760,0,0\n";
+
+// A threat with a transponder only, which climbs in the end.
+const TRANSPONDER: &[u8] =
+    b"encounter,1\nrun,31,0\ngains,1024,1024,1024,1024\ncraft,400A01,XPDR,0,0,35000\ncraft,400B02,RA,91200,0,35000\nleg,400A01,1,760,0,0\nleg,400A01,27,760,0,6000\nleg,400B02,1,-760,0,0\n";
+
+// A foot more than 30 nautical miles apart.
+const FAR: &[u8] =
+    b"encounter,1\nrun,2,0\ncraft,400A01,RA,0,0,35000\ncraft,400B02,TA,182281,0,35000\n";
+
+const REASONS: [Reason; 28] = [
+    // Measured, tracked and tested alike; the separations of both senses, once for each of the two.
+    (
+        APART,
+        b"end\n",
+        b"24,13,400A01,400B02,first,72960,35300,35000,35000,7,1,72960.0,-1520.0,300.0,0.0,0.0,48,0,48,0,48,35,1,0,70,600,down,5,417.0,5,1017.0,,,,,,,,,,-,t,traffic",
+    ),
+    (
+        APART,
+        b"end\n",
+        b"50,26,400A01,400B02,first,53200,35300,35000,35000,7,1,53200.0,-1520.0,300.0,0.0,0.0,35,0,35,0,48,35,1,1,70,600,down,5,417.0,5,1017.0,,,,,,,,,,t,D5.1c,starts",
+    ),
+    (
+        APART,
+        b"end\n",
+        b"51,26,400B02,400A01,second,53200,35000,35300,35300,7,1,53200.0,-1520.0,-300.0,0.0,0.0,35,0,35,0,48,35,1,1,70,600,up,5,1017.0,5,417.0,,,,,,,,,,t,U5.1c,starts",
+    ),
+    // A message in force.
+    (
+        LEVEL,
+        b"end\n",
+        b"51,26,400B02,400A01,second,53200,35000,35000,35000,7,1,53200.0,-1520.0,0.0,0.0,0.0,35,0,35,0,48,35,1,1,70,600,up,5,717.0,5,717.0,,,,,,,,,,t,U5.1c,starts",
+    ),
+    (
+        LEVEL,
+        b"end\n",
+        b"57,27,400B02,400A01,second,51680,35000,35000,35000,7,1,51680.0,-1520.0,0.0,0.0,0.0,34,0,34,0,48,35,1,1,68,600,up,5,692.0,5,692.0,0,5,765.0,1243.6,765.0,above,52,55,0,U5.1c,D5.2cx,obeys",
+    ),
+    // Three messages are lost.
+    (
+        LEVEL,
+        b"fate,400A01,400B02,1\nfate,400A01,400B02,2\nfate,400A01,400B02,3\nend\n",
+        b"66,29,400B02,400A01,second,48640,35000,35000,35000,7,1,48640.0,-1520.0,0.0,0.0,0.0,32,0,32,0,48,35,1,1,64,600,up,5,642.0,5,642.0,0,5,715.0,1160.3,715.0,,,,,U5.3c,U5.4c,keeps",
+    ),
+    (
+        LEVEL,
+        b"fate,400A01,400B02,1\nfate,400A01,400B02,2\nfate,400A01,400B02,3\nend\n",
+        b"72,30,400B02,400A01,second,47120,35000,35000,35000,7,1,47120.0,-1520.0,0.0,0.0,0.0,31,0,31,0,48,35,1,1,62,600,up,5,617.0,5,617.0,0,5,690.0,1118.6,690.0,above,67,70,0,U5.4c,D5.5cx,obeys",
+    ),
+    // An old message that was taken last.
+    (
+        LEVEL,
+        HELD_LONG,
+        b"62,28,400A01,400B02,first,50160,35100,35000,35000,7,1,50160.0,-1520.0,100.0,6000.0,0.0,33,0,33,0,48,35,1,1,66,600,down,5,-2733.0,5,4067.0,0,6,-2198.1,-2198.1,4140.0,below,59,60,0,U5.2c,D5.3cr,reverses",
+    ),
+    (
+        LEVEL,
+        HELD_LONG,
+        b"81,31,400B02,400A01,second,45601,35000,35400,35400,7,1,45601.0,-1519.0,-400.0,-6000.0,6000.0,30,0,30,0,48,35,1,1,60,600,up,5,3400.0,5,-1220.5,0,1,3400.0,3400.0,-641.8,above,58,79,0,U5.5,D5.6cx,obeys",
+    ),
+    // A spoilt take is never in force.
+    (
+        LEVEL,
+        b"fate,400A01,400B02,1,0,07\nend\n",
+        b"57,27,400B02,400A01,second,51680,35000,35000,35000,7,1,51680.0,-1520.0,0.0,0.0,0.0,34,0,34,0,48,35,1,1,68,600,up,5,692.0,5,692.0,0,5,765.0,1243.6,765.0,,,,,U5.1c,U5.2c,keeps",
+    ),
+    (
+        LEVEL,
+        b"fate,400A01,400B02,1,0,07\nend\n",
+        b"63,28,400B02,400A01,second,50160,35000,35000,35000,7,1,50160.0,-1520.0,0.0,0.0,0.0,33,0,33,0,48,35,1,1,66,600,up,5,667.0,5,667.0,0,5,740.0,1201.9,740.0,above,58,61,0,U5.2c,D5.3cx,obeys",
+    ),
+    // Near the ground.
+    (
+        LOW,
+        b"end\n",
+        b"30,16,400A01,400B02,first,6000,1100,1099,1099,3,1,6000.0,-400.0,1.0,0.0,0.0,14,0,15,0,25,15,1,1,30,300,down,5,216.0,4,1.0,,,,,,,,,,t,U5.1cx,starts",
+    ),
+    (
+        LOW,
+        b"end\n",
+        b"36,17,400A01,400B02,first,5600,1100,1099,1099,3,1,5600.0,-400.0,1.0,0.0,0.0,13,0,14,0,25,15,1,1,28,300,down,5,191.0,4,1.0,0,6,409.3,409.3,1.0,above,33,34,0,U5.1cx,U6.2cx,strengthens",
+    ),
+    (
+        LOW,
+        b"end\n",
+        b"37,17,400B02,400A01,second,5600,1100,1099,1099,3,1,5600.0,-400.0,1.0,0.0,0.0,13,0,14,0,25,15,1,1,28,300,down,5,191.0,4,1.0,0,6,409.3,409.3,1.0,above,32,35,0,U5.1cx,D4.2,obeys",
+    ),
+    // Two threats.
+    (THREE, b"end\n", b"why,150"),
+    (
+        THREE,
+        b"end\n",
+        b"71,24,400C03,400A01,second,28121,34700,35000,35000,7,1,28121.0,-760.0,-300.0,0.0,0.0,35,0,35,0,48,35,1,1,70,600,up,5,1017.0,5,417.0,,,,,,,,,,t,U5.1c,starts",
+    ),
+    (
+        THREE,
+        b"end\n",
+        b"71,24,400C03,400B02,second,28121,35300,35000,35000,7,1,28121.0,-760.0,300.0,0.0,0.0,35,0,35,0,48,35,1,1,70,600,down,5,417.0,5,1017.0,,,,,,,,,,t,D5.1c,starts",
+    ),
+    // A threat with a transponder only, which has no lines of its own.
+    (TRANSPONDER, b"end\n", b"why,31"),
+    (
+        TRANSPONDER,
+        b"end\n",
+        b"27,28,400B02,400A01,free,50160,35100,35000,35000,7,1,50160.0,-1520.0,100.0,6000.0,0.0,33,0,33,0,48,35,1,1,66,600,down,5,-2733.0,5,4067.0,0,6,-2198.1,-2198.1,4140.0,,,,,U5.2c,D5.3cr,reverses",
+    ),
+    // A missed measurement; a message in force without tracks, and lapsed.
+    (
+        LAPSING,
+        b"miss,400B02,400A01,1,31\nend\n",
+        b"42,22,400A01,400B02,first,,,35000,35000,7,1,59280.0,-1520.0,0.0,0.0,0.0,39,0,39,0,48,35,1,0,70,600,up,5,717.0,5,717.0,,,,,,,,,,t,t,traffic",
+    ),
+    (
+        LAPSING,
+        b"miss,400B02,400A01,1,31\nend\n",
+        b"66,32,400B02,400A01,second,44080,35000,35000,35000,7,1,,,,,,,,,,,,,,,,,,,,,,,,,,above,52,53,5,-,-,untested",
+    ),
+    (
+        LAPSING,
+        b"miss,400B02,400A01,1,31\nend\n",
+        b"68,33,400B02,400A01,second,42560,35000,35000,35000,7,1,42560.0,-1520.0,0.0,0.0,0.0,28,0,28,0,48,35,1,1,56,600,up,5,542.0,5,542.0,,,,,,,,,,-,U5.1c,starts",
+    ),
+    // The same message, not yet lapsed.
+    (
+        LAPSING,
+        b"miss,400B02,400A01,1,30\nend\n",
+        b"66,32,400B02,400A01,second,44080,35000,35000,35000,7,1,44080.0,-1520.0,0.0,0.0,0.0,29,0,29,0,48,35,1,1,58,600,up,5,567.0,5,567.0,,,,,,above,52,53,5,-,D5.1cx,starts-as-told",
+    ),
+    // A ceiling.
+    (
+        LEVEL_2,
+        b"climb,400A01,30000\nend\n",
+        b"50,26,400A01,400B02,first,53200,35000,35000,35000,7,0,53200.0,-1520.0,0.0,0.0,0.0,35,0,35,0,48,35,1,1,70,600,up,4,0.0,5,717.0,,,,,,,,,,t,D5.1cx,starts",
+    ),
+    // Traffic advisories alone.
+    (
+        TRAFFIC,
+        b"end\n",
+        b"24,13,400A01,400B02,free,72960,35300,35000,35000,7,1,72960.0,-1520.0,300.0,0.0,0.0,48,0,,,48,,1,0,,,,,,,,,,,,,,,,,-,t,traffic",
+    ),
+    // Out of range.
+    (FAR, b"end\n", b"why,4"),
+    (
+        FAR,
+        b"end\n",
+        b"0,1,400A01,400B02,free,,,35000,35000,7,1,,,,,,,,,,,,,,,,,,,,,,,,,,,,,,-,-,untested",
+    ),
+    (
+        FAR,
+        b"end\n",
+        b"3,2,400B02,400A01,second,,,35000,35000,7,1,,,,,,,,,,,,,,,,,,,,,,,,,,,,,,-,-,untested",
+    ),
+];
+
+// The place of the first line that isn't told.
+fn first_missing<R: Threads + Wait + Sync + Alloc<A = Global>>(
+    rt: &R,
+    reasons: &[Reason],
+) -> Result<Option<usize>, AllocError> {
+    for place in 0..reasons.len() {
+        if !is_told(rt, &reasons[place])? {
+            return Ok(Some(place));
+        }
+    }
+    Ok(None)
+}
+
+#[test]
+fn tells_reasons(rt: HostRuntime) -> Result<(), Fail> {
+    assert_eq!(rt; first_missing(&rt, &REASONS)?, None);
+    let whole = told(&rt, "why", APART, b"end\n")?;
+    let head = b"why,62\nposition,cycle,own,other,rank,";
+    assert!(rt; whole.sink.bytes().starts_with(head));
+    Ok(())
+}
