@@ -1,7 +1,8 @@
 // Runs in threads, and what answers their words.
-ghost use Rattle.std.specs.Prelude.{◌≡◌, ◌≤◌, IfOk, length};
+ghost use Rattle.std.specs.Prelude.{◌≡◌, ℕ, ◌≤◌, List, IfOk, length};
 ghost use Rattle.acas_top.specs.Answers.{Answers, IsRun};
 ghost use Rattle.acas_top.specs.Given.{answer_status, answer_text};
+ghost use Rattle.enc_file.specs.Reading.{Says};
 ghost use Rattle.flight.specs.Inside.{IsInside};
 
 use crate::answers::Answer;
@@ -37,6 +38,27 @@ fn threaded_state<R: Threads + Wait + Sync, P: Pause + Sync>(
     Ok(closed)
 }
 
+// What a run in threads of an encounter, which a text says, is answered with.
+fn answer_of(
+    alloc: Global,
+    run: Threaded,
+    encounter: &Encounter,
+    played: AirState,
+) -> Result<Answer, AllocError>
+    requires inside { IsInside encounter.now }
+    requires encounter { played.encounter ≡ encounter.now }
+    requires run { IsRun encounter.now played.journal }
+    ensures { IfOk result (λ answer. (bytes : List ℕ) → Says bytes encounter.now → Answers (Command.Run run) bytes (answer_status answer) (answer_text answer)) }
+{
+    match run {
+        Threaded::Play => Ok(Answer::Recorded(played)),
+        Threaded::Sum => {
+            let serial = serial_state(alloc, encounter)?;
+            Ok(Answer::Summed(counts_of(&played).commits, counts_of(&serial)))
+        }
+    }
+}
+
 /// The answer to the word of a run in threads on the bytes that it read. An error says that memory was wanting; all of it
 /// is asked for here.
 pub(crate) fn answer_in_threads<R: Threads + Wait + Sync, P: Pause + Sync>(
@@ -57,11 +79,5 @@ pub(crate) fn answer_in_threads<R: Threads + Wait + Sync, P: Pause + Sync>(
         Err(ReadError::OutOfMemory) => return Err(AllocError),
     };
     let played = threaded_state(rt, alloc, &encounter, pause)?;
-    match run {
-        Threaded::Play => Ok(Answer::Recorded(played)),
-        Threaded::Sum => {
-            let serial = serial_state(alloc, &encounter)?;
-            Ok(Answer::Summed(counts_of(&played).commits, counts_of(&serial)))
-        }
-    }
+    answer_of(alloc, run, &encounter, played)
 }

@@ -1,4 +1,4 @@
-//! Tests of the rooms, each of its public calls. They stand apart, since a crate with tests is proved twice.
+//! Tests of what the public calls of each room answer. They stand apart, since a crate with tests is proved twice.
 #![tactic(auto)]
 
 #[cfg(test)]

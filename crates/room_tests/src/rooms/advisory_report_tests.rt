@@ -162,74 +162,109 @@ fn tells_lines_of_cells(rt: HostRuntime) -> Result<(), Fail> {
     Ok(())
 }
 
+// A strength of each sense, and the line where this is advised first.
+type Word = (Option<Strength>, Option<Strength>, &'static str);
+
+const WORDS: [Word; 11] = [
+    (
+        Some(Strength::Limit2000),
+        None,
+        "r,1,400B02,UP-2000,Monitor vertical speed\n",
+    ),
+    (
+        Some(Strength::Limit1000),
+        None,
+        "r,1,400B02,UP-1000,Monitor vertical speed\n",
+    ),
+    (
+        Some(Strength::Limit500),
+        None,
+        "r,1,400B02,UP-500,Monitor vertical speed\n",
+    ),
+    (
+        Some(Strength::Level),
+        None,
+        "r,1,400B02,UP-LEVEL,Level off level off\n",
+    ),
+    (
+        Some(Strength::Positive),
+        None,
+        "r,1,400B02,UP-CLIMB,Climb climb\n",
+    ),
+    (
+        Some(Strength::Increase),
+        None,
+        "r,1,400B02,UP-INCREASE,Increase climb\n",
+    ),
+    (
+        None,
+        Some(Strength::Limit2000),
+        "r,1,400B02,DOWN-2000,Monitor vertical speed\n",
+    ),
+    (
+        None,
+        Some(Strength::Limit1000),
+        "r,1,400B02,DOWN-1000,Monitor vertical speed\n",
+    ),
+    (
+        None,
+        Some(Strength::Limit500),
+        "r,1,400B02,DOWN-500,Monitor vertical speed\n",
+    ),
+    (
+        None,
+        Some(Strength::Level),
+        "r,1,400B02,DOWN-LEVEL,Level off level off\n",
+    ),
+    (
+        None,
+        Some(Strength::Increase),
+        "r,1,400B02,DOWN-INCREASE,Increase descent\n",
+    ),
+];
+
+// Whether the line from one composite to the next one is this; none where it is empty.
+fn says(own: Address, before: &Composite, after: &Composite, want: &str) -> bool {
+    match line(1, own, before, after) {
+        Some(told) => told.bytes() == want.as_bytes(),
+        None => want.is_empty(),
+    }
+}
+
+// The place of the first word that is told otherwise.
+fn first_other(own: Address, words: &[Word]) -> Option<usize> {
+    for place in 0..words.len() {
+        let (up, down, want) = words[place];
+        let after = Composite {
+            up,
+            down,
+            corrective: true,
+            ..CLEAR
+        };
+        if !says(own, &CLEAR, &after, want) {
+            return Some(place);
+        }
+    }
+    None
+}
+
 #[test]
 fn tells_words(rt: HostRuntime) -> Result<(), Fail> {
-    use Strength::{Increase, Level, Limit500, Limit1000, Limit2000, Positive};
     let own = Address::new(0x40_0B02).ok_or("no address")?;
-    for (before, after, want) in [
-        (TRAFFIC, CLEAR, "r,1,400B02,CLEAR,-\n"),
-        (
-            CLEAR,
-            up(Limit2000),
-            "r,1,400B02,UP-2000,Monitor vertical speed\n",
-        ),
-        (
-            CLEAR,
-            up(Limit1000),
-            "r,1,400B02,UP-1000,Monitor vertical speed\n",
-        ),
-        (
-            CLEAR,
-            up(Limit500),
-            "r,1,400B02,UP-500,Monitor vertical speed\n",
-        ),
-        (
-            CLEAR,
-            up(Level),
-            "r,1,400B02,UP-LEVEL,Level off level off\n",
-        ),
-        (CLEAR, up(Positive), "r,1,400B02,UP-CLIMB,Climb climb\n"),
-        (
-            CLEAR,
-            up(Increase),
-            "r,1,400B02,UP-INCREASE,Increase climb\n",
-        ),
-        (
-            CLEAR,
-            down(Limit2000),
-            "r,1,400B02,DOWN-2000,Monitor vertical speed\n",
-        ),
-        (
-            CLEAR,
-            down(Limit1000),
-            "r,1,400B02,DOWN-1000,Monitor vertical speed\n",
-        ),
-        (
-            CLEAR,
-            down(Limit500),
-            "r,1,400B02,DOWN-500,Monitor vertical speed\n",
-        ),
-        (
-            CLEAR,
-            down(Level),
-            "r,1,400B02,DOWN-LEVEL,Level off level off\n",
-        ),
-        (
-            CLEAR,
-            down(Increase),
-            "r,1,400B02,DOWN-INCREASE,Increase descent\n",
-        ),
-        (
-            both(Level, Positive),
-            both(Level, Level),
-            "r,1,400B02,LEVEL-BOTH,Level off level off\n",
-        ),
-    ] {
-        let told = line(1, own, &before, &after).ok_or("no line")?;
-        assert_eq!(rt; told.bytes(), want.as_bytes());
-    }
-    for quiet in [CLEAR, TRAFFIC, up(Positive), both(Level, Positive)] {
-        assert!(rt; line(1, own, &quiet, &quiet).is_none());
+    assert_eq!(rt; first_other(own, &WORDS), None);
+    assert!(rt; says(own, &TRAFFIC, &CLEAR, "r,1,400B02,CLEAR,-\n"));
+    let strong = both(Strength::Level, Strength::Positive);
+    let level = both(Strength::Level, Strength::Level);
+    assert!(rt;
+        says(
+            own,
+            &strong,
+            &level,
+            "r,1,400B02,LEVEL-BOTH,Level off level off\n"
+        )
+    );
+    for quiet in [CLEAR, TRAFFIC, up(Strength::Positive), strong] {
+        assert!(rt; says(own, &quiet, &quiet, ""));
     }
     Ok(())
 }

@@ -68,22 +68,39 @@ fn sense_in(state: &AirState, own: u8, other: usize, cycle: u16) -> Option<Sense
     }
 }
 
+// A cycle, and the senses of both aircraft in it.
+type Senses = (u16, Option<Sense>, Option<Sense>);
+
+const SENSES: [Senses; 4] = [
+    (25, None, None),
+    (26, Some(Sense::Up), Some(Sense::Up)),
+    (27, Some(Sense::Up), Some(Sense::Down)),
+    (31, Some(Sense::Up), Some(Sense::Down)),
+];
+
+// The first cycle in which the senses of both are others.
+fn first_other(state: &AirState, senses: &[Senses]) -> Option<u16> {
+    for place in 0..senses.len() {
+        let (cycle, low, high) = senses[place];
+        if sense_in(state, 0, 1, cycle) != low || sense_in(state, 1, 0, cycle) != high {
+            return Some(cycle);
+        }
+    }
+    None
+}
+
+fn serial_journal(alloc: Global) -> Result<AirState, Fail> {
+    let enc = meeting(alloc)?;
+    let mut state = empty_journal(alloc, &enc)?;
+    serial(&mut state, &enc);
+    Ok(state)
+}
+
 // Both choose to climb, and the one of higher address descends after it has taken the other one's message.
 #[test]
 fn higher_address_gives_way(rt: HostRuntime) -> Result<(), Fail> {
-    let enc = meeting(rt.alloc())?;
-    let mut state = empty_journal(rt.alloc(), &enc)?;
-    serial(&mut state, &enc);
-    assert_eq!(rt; state.count(), 86);
-    assert!(rt; state.complete());
-    for (cycle, low, high) in [
-        (25u16, None, None),
-        (26, Some(Sense::Up), Some(Sense::Up)),
-        (27, Some(Sense::Up), Some(Sense::Down)),
-        (31, Some(Sense::Up), Some(Sense::Down)),
-    ] {
-        assert_eq!(rt; sense_in(&state, 0, 1, cycle), low);
-        assert_eq!(rt; sense_in(&state, 1, 0, cycle), high);
-    }
+    let state = serial_journal(rt.alloc())?;
+    assert!(rt; state.count() == 86 && state.complete());
+    assert_eq!(rt; first_other(&state, &SENSES), None);
     Ok(())
 }

@@ -1,7 +1,8 @@
 // Encounters of some numbers. The values were computed by a program in another language.
-use acas_base::{Address, CopyPlan, CraftSpec, Fate, Kind, Leg, Miss};
+use acas_base::{Address, CopyPlan, CraftSpec, Encounter, Fate, Kind, Leg, Miss};
 use enc_gen::make;
 use flight::inside;
+use std::alloc::Global;
 use std::test::Fail;
 
 const PLAIN: CopyPlan = CopyPlan { hold: 0, mask: 0 };
@@ -120,31 +121,43 @@ fn rows() -> [Row; 4] {
     ]
 }
 
+fn last_craft(row: &Row) -> Result<CraftSpec, Fail> {
+    let (x, y, alt) = row.place;
+    Ok(CraftSpec {
+        address: Address::new(row.address).ok_or("no address")?,
+        kind: row.kind,
+        x,
+        y,
+        alt,
+        ceiling: None,
+    })
+}
+
+// Whether an encounter has so many records of each list, and these last ones.
+fn is_row(made: &Encounter, row: &Row, last: &CraftSpec) -> bool {
+    made.version() == row.version
+        && made.crafts().len() == usize::from(row.crafts)
+        && made.crafts().last() == Some(last)
+        && made.legs().len() == row.legs
+        && made.legs().last() == Some(&row.leg)
+        && made.misses().len() == row.misses
+        && made.misses().last().copied() == row.miss
+        && made.fates().len() == row.fates
+        && made.fates().last() == Some(&row.fate)
+        && inside(made)
+}
+
+fn is_made(alloc: Global, row: &Row) -> Result<bool, Fail> {
+    let crafts = row.crafts.min(16).max(1);
+    let cycles = row.cycles.min(600).max(1);
+    let made = make(alloc, row.number, crafts, cycles)?;
+    Ok(is_row(&made, row, &last_craft(row)?))
+}
+
 #[test]
 fn makes_encounters(rt: HostRuntime) -> Result<(), Fail> {
     for row in &rows() {
-        let crafts = row.crafts.min(16).max(1);
-        let cycles = row.cycles.min(600).max(1);
-        let made = make(rt.alloc(), row.number, crafts, cycles)?;
-        assert_eq!(rt; made.version(), row.version);
-        assert_eq!(rt; made.crafts().len(), usize::from(row.crafts));
-        let (x, y, alt) = row.place;
-        let last = CraftSpec {
-            address: Address::new(row.address).ok_or("no address")?,
-            kind: row.kind,
-            x,
-            y,
-            alt,
-            ceiling: None,
-        };
-        assert_eq!(rt; made.crafts().last(), Some(&last));
-        assert_eq!(rt; made.legs().len(), row.legs);
-        assert_eq!(rt; made.legs().last(), Some(&row.leg));
-        assert_eq!(rt; made.misses().len(), row.misses);
-        assert_eq!(rt; made.misses().last().copied(), row.miss);
-        assert_eq!(rt; made.fates().len(), row.fates);
-        assert_eq!(rt; made.fates().last(), Some(&row.fate));
-        assert!(rt; inside(&made));
+        assert!(rt; is_made(rt.alloc(), row)?);
     }
     Ok(())
 }

@@ -4,32 +4,47 @@ use rec_text::write;
 use std::alloc::{AllocError, Global};
 use std::test::Fail;
 
-const ENCOUNTER: &str = "encounter,1
-run,2,-500
-gains,683,256,512,128
-craft,400A01,TA,0,0,35000
-craft,400B02,XPDR,91200,0,35300
-end
-";
+const ENCOUNTER: &[u8] =
+    b"encounter,1\nrun,2,-500\ngains,683,256,512,128\ncraft,400A01,TA,0,0,35000\ncraft,400B02,XPDR,91200,0,35300\nend\n";
 
 fn sink(alloc: Global, fails: &[u64]) -> Result<MemSink, AllocError> {
     let room = Vec::with_capacity(alloc, 1_000)?;
     Ok(MemSink::new(room, 1_000, fails.to_vec(alloc)?))
 }
 
-// Nothing is played yet. Where the first write fails, nothing is written.
+const RECORDING: &[u8] =
+    b"recording,1\nencounter,1\nrun,2,-500\ngains,683,256,512,128\ncraft,400A01,TA,0,0,35000\ncraft,400B02,XPDR,91200,0,35300\nend\njournal,0\nreport,0\nclose\n";
+
+// The empty journal of the encounter that a text says.
+fn state_of(alloc: Global, text: &[u8]) -> Result<AirState, Fail> {
+    if text.len() > 1_000 {
+        return Err("too long".into());
+    }
+    match enc_file::read(alloc, text) {
+        Ok(encounter) => Ok(AirState::new(alloc, &encounter)?),
+        Err(_) => Err("refused".into()),
+    }
+}
+
+// Whether a recording is written whole.
+fn is_written(alloc: Global, state: &AirState, want: &[u8]) -> Result<bool, Fail> {
+    let mut whole = sink(alloc, &[])?;
+    write(state, &mut whole)?;
+    Ok(whole.bytes() == want)
+}
+
+// Whether nothing of it is written where the first write fails.
+fn is_unwritten(alloc: Global, state: &AirState) -> Result<bool, AllocError> {
+    let mut failing = sink(alloc, &[1])?;
+    let written = write(state, &mut failing);
+    Ok(written.is_err() && failing.bytes().is_empty() && failing.faults() == 1)
+}
+
+// Nothing is played yet.
 #[test]
 fn writes_a_recording(rt: HostRuntime) -> Result<(), Fail> {
-    let Ok(encounter) = enc_file::read(rt.alloc(), ENCOUNTER.as_bytes()) else {
-        return Err("refused".into());
-    };
-    let state = AirState::new(rt.alloc(), &encounter)?;
-    let mut whole = sink(rt.alloc(), &[])?;
-    write(&state, &mut whole)?;
-    let want = format!(in rt.alloc(); "recording,1\n{ENCOUNTER}journal,0\nreport,0\nclose\n")?;
-    assert_eq!(rt; whole.bytes(), want.as_bytes());
-    let mut failing = sink(rt.alloc(), &[1])?;
-    assert!(rt; write(&state, &mut failing).is_err());
-    assert!(rt; failing.bytes().is_empty() && failing.faults() == 1);
+    let state = state_of(rt.alloc(), ENCOUNTER)?;
+    assert!(rt; is_written(rt.alloc(), &state, RECORDING)?);
+    assert!(rt; is_unwritten(rt.alloc(), &state)?);
     Ok(())
 }

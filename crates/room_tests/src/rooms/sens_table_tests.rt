@@ -46,6 +46,9 @@ const BANDS: [Band; 21] = [
 
 fn has_level(band: Band) -> bool {
     let (altitude, elevation, sl, alim) = band;
+    if altitude < -100_000 || altitude > 100_000 || elevation < -100_000 || elevation > 100_000 {
+        return false;
+    }
     let level = level_of(altitude, elevation);
     level.sl == sl && level.alim == i64::from(alim) * FOOT
 }

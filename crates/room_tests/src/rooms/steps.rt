@@ -1,5 +1,5 @@
 // A journal, and its entries one by one.
-ghost use Rattle.std.specs.Prelude.{◌≡◌, ◌+◌, ◌<◌};
+ghost use Rattle.std.specs.Prelude.{◌≡◌, ◌+◌, ◌<◌, [], IfOk};
 ghost use Rattle.craft_view.specs.Kept.{IsActive};
 ghost use Rattle.craft_view.specs.Views.{picture_of};
 ghost use Rattle.flight.specs.Inside.{IsInside};
@@ -12,7 +12,10 @@ use std::alloc::Global;
 use std::test::Fail;
 
 /// The empty journal of an encounter.
-pub fn empty_journal(alloc: Global, enc: &Encounter) -> Result<AirState, Fail> {
+pub fn empty_journal(alloc: Global, enc: &Encounter) -> Result<AirState, Fail>
+    ensures encounter { IfOk result (λ state. state.encounter ≡ enc.now) }
+    ensures journal { IfOk result (λ state. state.journal ≡ []) }
+{
     if !inside(enc) {
         return Err("outside the box".into());
     }

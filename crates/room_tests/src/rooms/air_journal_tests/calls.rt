@@ -2,9 +2,10 @@
 use super::{crosses_threads, meeting};
 use crate::rooms::encounters::{PLAIN, aircraft, encounter, fate};
 use crate::rooms::steps::{commit, empty_journal, send, take};
-use acas_base::CopyPlan;
+use acas_base::{CopyPlan, Encounter};
 use air_journal::{AirState, Commit, Sent, Took, TookThis};
 use craft_view::is_active;
+use std::alloc::Global;
 use std::test::Fail;
 
 // A call of an aircraft, and what it answers.
@@ -123,6 +124,12 @@ fn answers_at_the_start(rt: HostRuntime) -> Result<(), Fail> {
     Ok(())
 }
 
+// The same of the empty journal of an encounter.
+fn first_other_in(alloc: Global, enc: &Encounter, steps: &[Step]) -> Result<Option<usize>, Fail> {
+    let mut state = empty_journal(alloc, enc)?;
+    Ok(first_other(&mut state, steps, 1_000))
+}
+
 #[test]
 fn names_the_first_slower(rt: HostRuntime) -> Result<(), Fail> {
     let crafts = [
@@ -131,8 +138,7 @@ fn names_the_first_slower(rt: HostRuntime) -> Result<(), Fail> {
         aircraft(0x40_0C03, -91_200, 35_000)?,
     ];
     let enc = encounter(rt.alloc(), 2, None, &crafts, &[], &[], &[])?;
-    let mut state = empty_journal(rt.alloc(), &enc)?;
-    assert_eq!(rt; first_other(&mut state, &OF_THREE, 1_000), None);
+    assert_eq!(rt; first_other_in(rt.alloc(), &enc, &OF_THREE)?, None);
     Ok(())
 }
 

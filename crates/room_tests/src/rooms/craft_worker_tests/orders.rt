@@ -197,7 +197,8 @@ fn completed(
     begun: u32,
 ) -> Result<AirState, Fail> {
     let mut state = played(alloc, enc, schedule, begun)?;
-    fill(&mut state, enc);
+    let same = state.enc().copy(alloc)?;
+    fill(&mut state, &same);
     Ok(state)
 }
 
@@ -261,9 +262,11 @@ fn ends_in_each_order(rt: HostRuntime) -> Result<(), Fail> {
     Ok(())
 }
 
+type Line = (Schedule, u16, Sense, Sense);
+
 // A schedule, a cycle, and the senses of both aircraft in it. Both advisories start in cycle 26, and go up where no message
 // was taken. Whoever has taken one starts in the other sense, and the aircraft of higher address turns as soon as it has.
-const SENSES: [(Schedule, u16, Sense, Sense); 8] = [
+const SENSES: [Line; 8] = [
     (Schedule::LastFirst, 26, Sense::Up, Sense::Up),
     (Schedule::LastFirst, 27, Sense::Up, Sense::Down),
     (Schedule::Ahead(0), 26, Sense::Up, Sense::Down),
@@ -274,17 +277,17 @@ const SENSES: [(Schedule, u16, Sense, Sense); 8] = [
     (Schedule::Late(1), 27, Sense::Up, Sense::Down),
 ];
 
-// Whether the senses of both are these in a cycle of a journal.
-fn has_senses(state: &AirState, cycle: u16, low: Sense, high: Sense) -> bool {
-    sense_in(state, 0, 1, cycle) == Some(low) && sense_in(state, 1, 0, cycle) == Some(high)
+// Whether the senses of both are these in a cycle of a schedule's journal.
+fn is_so(alloc: Global, enc: &Encounter, line: Line) -> Result<bool, Fail> {
+    let (schedule, cycle, low, high) = line;
+    let state = played(alloc, enc, schedule, 1000)?;
+    Ok(sense_in(&state, 0, 1, cycle) == Some(low) && sense_in(&state, 1, 0, cycle) == Some(high))
 }
 
 // The place of the first line of which this doesn't hold.
-fn first_otherwise(alloc: Global, enc: &Encounter) -> Result<Option<usize>, Fail> {
-    for place in 0..SENSES.len() {
-        let (schedule, cycle, low, high) = SENSES[place];
-        let state = played(alloc, enc, schedule, 1000)?;
-        if !has_senses(&state, cycle, low, high) {
+fn first_otherwise(alloc: Global, enc: &Encounter, lines: &[Line]) -> Result<Option<usize>, Fail> {
+    for place in 0..lines.len() {
+        if !is_so(alloc, enc, lines[place])? {
             return Ok(Some(place));
         }
     }
@@ -294,6 +297,6 @@ fn first_otherwise(alloc: Global, enc: &Encounter) -> Result<Option<usize>, Fail
 #[test]
 fn decides_by_the_order(rt: HostRuntime) -> Result<(), Fail> {
     let enc = meeting(rt.alloc())?;
-    assert_eq!(rt; first_otherwise(rt.alloc(), &enc)?, None);
+    assert_eq!(rt; first_otherwise(rt.alloc(), &enc, &SENSES)?, None);
     Ok(())
 }
