@@ -1,12 +1,12 @@
 -- How calls end: what is within the limit is not too long, and what the answer of a word is.
-use Rattle.std.proofs.Common.{◌≡◌, ℕ, ◌≤◌, Bool, true, false, List, [], length, get_or, Option, Some, None, refl, ap, sym, ◌∙◌, subst, arith, inl, inr}
+use Rattle.std.proofs.Common.{◌≡◌, ℕ, ◌≤◌, Bool, true, false, List, [], length, get_or, Option, Some, None, Result, Ok, Err, refl, ap, sym, ◌∙◌, subst, arith, inl, inr}
 use Rattle.std.proofs.lemmas.Bool.{eq-eqb, false≢true}
 use Rattle.std.specs.Prelude.{IsSomeAnd, codes, eqb}
 use Rattle.std.specs.Option.{ForSome}
 use Rattle.std.specs.Str.{bytes_eq}
 use Rattle.acas_top.specs.Answers.{Answers}
-use Rattle.acas_io.specs.Stream.{Grew}
-use Rattle.acas_top.specs.Ends.{Answered, Ended, IsAnswer, IsTooLong, IsUnread, PlaysInThreads, PlaysSerial, WasPut, WasRead}
+use Rattle.acas_io.specs.Stream.{Grew, Puts}
+use Rattle.acas_top.specs.Ends.{Answered, Ended, IsAnswer, IsTooLong, IsUnread, PlaysInThreads, PlaysSerial, WasPut, WasRead, status_after}
 use Rattle.acas_top.specs.Statuses.{status_number}
 use Rattle.acas_top.specs.Words.{AreNoCommand, AreNoPlainCommand, AreNoThreadedRun, IsCommand, limit_of, words_of}
 use Rattle.acas_top.specs.Given.{answer_status, answer_text}
@@ -195,7 +195,9 @@ own-put statuses.Refused text old new faults now is grew = (refl, tt, grew)
 own-put statuses.Wrong text old new faults now is grew = (refl, tt, grew)
 own-put own text old new faults now is grew = absurd is
 
--- The whole text of an answer was put out, and its status is given.
-pub was-put : (answer : Answer) (status : Status) (old new : Option (List ℕ)) (faults now : ℕ) → status ≡ answer_status answer → Grew old new (answer_text answer) → WasPut status (answer_status answer) (answer_text answer) old new faults now
-was-put answer status old new faults now same grew =
-    subst (λ (s : Status). WasPut s (answer_status answer) (answer_text answer) old new faults now) (sym same) (own-put (answer_status answer) (answer_text answer) old new faults now (is-answer answer) grew)
+-- The whole text of an answer was put out and its status is given, or a write failed.
+pub was-put : {T E : Type 0} (answer : Answer) (own status : Status) (put : Result T E) (old new : Option (List ℕ)) (faults now : ℕ) → own ≡ answer_status answer → status ≡ status_after own put
+    → Puts old new faults now (answer_text answer) put → WasPut status (answer_status answer) (answer_text answer) old new faults now
+was-put answer own status (Ok unit) old new faults now is same puts =
+    subst (λ (s : Status). WasPut s (answer_status answer) (answer_text answer) old new faults now) (sym (same ∙ is)) (own-put (answer_status answer) (answer_text answer) old new faults now (is-answer answer) puts.0)
+was-put answer own status (Err error) old new faults now is same puts = subst (λ (s : Status). WasPut s (answer_status answer) (answer_text answer) old new faults now) (sym same) puts

@@ -1,5 +1,5 @@
 -- How a call ends, whatever its command is.
-use Rattle.std.specs.Prelude.{◌≡◌, ◌↔◌, ◌⊎◌, ℕ, ◌<◌, ◌≤◌, List, [], length, Option, None, Some, IfSome, IsSomeAnd}
+use Rattle.std.specs.Prelude.{◌≡◌, ◌↔◌, ◌⊎◌, ℕ, ◌<◌, ◌≤◌, List, [], length, Option, None, Some, IfSome, IsSomeAnd, Result, Ok, Err}
 use Rattle.std.specs.Option.{ForSome}
 use Rattle.acas_base.specs.Encounter.{Parts}
 use Rattle.acas_base.specs.declared.entry.Entry.{Entry}
@@ -60,6 +60,11 @@ IsUnread status limit left faults now = ⊥
 abbrev pub WasPut : Status → Status → List ℕ → Option (List ℕ) → Option (List ℕ) → ℕ → ℕ → Type 0
 WasPut WriteFault own text old new faults now = GrewByPrefix old new text × Rose faults now
 WasPut status own text old new faults now = (status ≡ own) × IsAnswer status × Grew old new text
+
+-- The status after a text was put out, which is the answer's own, or a write failed.
+abbrev pub status_after : {T E : Type 0} → Status → Result T E → Status
+status_after own (Ok unit) = own
+status_after own (Err error) = WriteFault
 
 -- How a call ended on some words, its source and its sink, of which `left`, `reads`, `written` and `writes` tell what is left, how
 -- many reads failed, what was written, and how many writes failed. The first argument says that the words are no command of the call.

@@ -44,12 +44,11 @@ pub fn acas<R: Threads + Wait + Sync, S: Source, K: Sink, P: Pause + Sync>(
     let Some(run) = parse_threaded(words) else {
         return acas_plain(rt, alloc, words, source, sink);
     };
-    let bytes = match read_input(alloc, Command::Run(run), source) {
-        Ok(bytes) => bytes,
-        Err(status) => return status,
-    };
-    let Ok(answer) = answer_in_threads(rt, alloc, run, bytes.as_slice(), pause) else {
-        return Status::OutOfMemory;
-    };
-    put_answer(&answer, sink)
+    match read_input(alloc, Command::Run(run), source) {
+        Ok(bytes) => match answer_in_threads(rt, alloc, run, bytes.as_slice(), pause) {
+            Ok(answer) => put_answer(answer, sink),
+            Err(_) => Status::OutOfMemory,
+        },
+        Err(status) => status,
+    }
 }

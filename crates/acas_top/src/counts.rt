@@ -1,11 +1,15 @@
 // What a run counts.
-ghost use Rattle.std.specs.Prelude.{◌≡◌, ◌++◌, ◌+◌, ◌≤◌, length};
+ghost use Rattle.std.specs.Prelude.{◌≡◌, ◌++◌, ◌+◌, ◌≤◌, IfOk, length};
 ghost use Rattle.acas_text.specs.declared.line.TheConstants.{LINE_BYTES};
-ghost use Rattle.acas_top.specs.Counted.{counts_of, counts_text};
+ghost use Rattle.acas_top.specs.Counted.{AreSerial, counts_of, counts_text};
+ghost use Rattle.flight.specs.Inside.{IsInside};
 
+use crate::runs::serial_state;
+use acas_base::Encounter;
 use acas_text::Line;
 use air_journal::AirState;
 use rec_text::{entry_counts, report_count};
+use std::alloc::{AllocError, Global};
 use sweep::Counts;
 
 /// The counts of a run: its entries of each kind, and the lines of its report.
@@ -19,6 +23,15 @@ pub(crate) fn counts_of(state: &AirState) -> Counts
         takes: entries.takes,
         lines: report_count(state),
     }
+}
+
+/// The counts of the serial run of an encounter.
+pub(crate) fn serial_counts(alloc: Global, encounter: &Encounter) -> Result<Counts, AllocError>
+    requires { IsInside encounter.now }
+    ensures { IfOk result (λ counts. AreSerial encounter.now counts) }
+{
+    let state = serial_state(alloc, encounter)?;
+    Ok(counts_of(&state))
 }
 
 /// Adds counts, and the end of the line.

@@ -7,8 +7,7 @@ ghost use Rattle.acas_top.specs.Sweeping.{HasCounted, Sizes};
 ghost use Rattle.sweep.specs.Numbers.{numbers};
 ghost use Rattle.sweep.specs.Totals.{total};
 
-use crate::counts::counts_of;
-use crate::runs::serial_state;
+use crate::counts::serial_counts;
 use enc_gen::make;
 use std::alloc::{AllocError, Global};
 use std::marker::Model;
@@ -58,8 +57,7 @@ impl Job for SerialRuns {
 
     fn one(&self, number: u32) -> Result<Counts, AllocError> {
         let encounter = make(self.alloc, number, self.crafts, self.cycles)?;
-        let state = serial_state(self.alloc, &encounter)?;
-        Ok(counts_of(&state))
+        serial_counts(self.alloc, &encounter)
     }
 }
 

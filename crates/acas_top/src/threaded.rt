@@ -6,8 +6,8 @@ ghost use Rattle.enc_file.specs.Reading.{Says};
 ghost use Rattle.flight.specs.Inside.{IsInside};
 
 use crate::answers::Answer;
-use crate::counts::counts_of;
-use crate::runs::{run_law, serial_state};
+use crate::counts::{counts_of, serial_counts};
+use crate::runs::run_law;
 use crate::{Command, Threaded};
 use acas_base::Encounter;
 use air_journal::AirState;
@@ -38,6 +38,17 @@ fn threaded_state<R: Threads + Wait + Sync, P: Pause + Sync>(
     Ok(closed)
 }
 
+// The answer to `sum` after a run in threads of an encounter, which a text says.
+fn answer_sum(alloc: Global, encounter: &Encounter, played: &AirState) -> Result<Answer, AllocError>
+    requires inside { IsInside encounter.now }
+    requires encounter { played.now.encounter ≡ encounter.now }
+    requires run { IsRun encounter.now played.now.journal }
+    ensures { IfOk result (λ answer. (bytes : List ℕ) → Says bytes encounter.now → Answers (Command.Run Threaded.Sum) bytes (answer_status answer) (answer_text answer)) }
+{
+    let serial = serial_counts(alloc, encounter)?;
+    Ok(Answer::Summed(counts_of(played).commits, serial))
+}
+
 // What a run in threads of an encounter, which a text says, is answered with.
 fn answer_of(
     alloc: Global,
@@ -52,10 +63,7 @@ fn answer_of(
 {
     match run {
         Threaded::Play => Ok(Answer::Recorded(played)),
-        Threaded::Sum => {
-            let serial = serial_state(alloc, encounter)?;
-            Ok(Answer::Summed(counts_of(&played).commits, counts_of(&serial)))
-        }
+        Threaded::Sum => answer_sum(alloc, encounter, &played),
     }
 }
 

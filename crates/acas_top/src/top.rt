@@ -3,14 +3,14 @@ ghost use Rattle.std.specs.Prelude.{◌≡◌, ℕ, List, IfErr, IfOk, map};
 ghost use Rattle.std.specs.String.{string_bytes};
 ghost use Rattle.acas_io.specs.Stream.{Grew};
 ghost use Rattle.acas_top.specs.Answers.{Answers};
-ghost use Rattle.acas_top.specs.Ends.{Ended, IsUnread, PlaysSerial, WasPut, WasRead};
+ghost use Rattle.acas_top.specs.Ends.{Ended, IsUnread, PlaysSerial, WasPut, WasRead, status_after};
 ghost use Rattle.acas_top.specs.Given.{answer_status, answer_text};
 ghost use Rattle.acas_top.specs.Words.{AreNoPlainCommand, limit_of, words_of};
 
 use crate::answers::{Answer, answer_to};
 use crate::words::parse;
 use crate::{Command, Status};
-use acas_io::{InError, Sink, Source, read_all};
+use acas_io::{Failed, InError, Sink, Source, read_all};
 use acas_lines::write_text;
 use rec_audit::verdict_law;
 use std::alloc::Global;
@@ -36,14 +36,21 @@ pub(crate) fn read_input<S: Source>(
     }
 }
 
-/// Puts an answer out, and gives the status of its end.
-pub(crate) fn put_answer<K: Sink>(answer: &Answer, sink: &mut K) -> Status
-    ensures { WasPut result (answer_status answer.now) (answer_text answer.now) (K.written sink.old) (K.written sink.new) (K.faults sink.old) (K.faults sink.new) }
+// The status of the end after an answer of this status was put out, or a write failed.
+fn status_after(own: Status, put: Result<(), Failed>) -> Status
+    ensures { result ≡ status_after own put }
 {
-    match write_text(answer, sink) {
-        Ok(()) => answer.status(),
+    match put {
+        Ok(()) => own,
         Err(_) => Status::WriteFault,
     }
+}
+
+/// Puts the answer to a command out, and gives the status of its end.
+pub(crate) fn put_answer<K: Sink>(answer: Answer, sink: &mut K) -> Status
+    ensures { WasPut result (answer_status answer) (answer_text answer) (K.written sink.old) (K.written sink.new) (K.faults sink.old) (K.faults sink.new) }
+{
+    status_after(answer.status(), write_text(&answer, sink))
 }
 
 /// Does what the words of a plain command say, which waits for nobody: reads the source, writes the sink, and says how it ended.
@@ -75,14 +82,13 @@ pub fn acas_plain<R: Threads + Sync, S: Source, K: Sink>(
     let Some(command) = parse(words) else {
         return Status::Usage;
     };
-    let bytes = match read_input(alloc, command, source) {
-        Ok(bytes) => bytes,
-        Err(status) => return status,
-    };
-    let Ok(answer) = answer_to(rt, alloc, command, bytes.as_slice()) else {
-        return Status::OutOfMemory;
-    };
-    put_answer(&answer, sink)
+    match read_input(alloc, command, source) {
+        Ok(bytes) => match answer_to(rt, alloc, command, bytes.as_slice()) {
+            Ok(answer) => put_answer(answer, sink),
+            Err(_) => Status::OutOfMemory,
+        },
+        Err(status) => status,
+    }
 }
 
 /// At most one status answers a command on the bytes that it read.

@@ -20,6 +20,7 @@ mod range_track_tests;
 mod rec_audit_tests;
 mod rec_text_tests;
 mod res_message_tests;
+mod response_tests;
 mod reversal_tests;
 mod sens_table_tests;
 mod sense_pick_tests;

@@ -1,6 +1,6 @@
 use crate::rooms::encounters::{PLAIN, aircraft, fate, leg, miss};
 use acas_base::{CopyPlan, CraftSpec, Encounter, Fate, Gains, LinkPlan};
-use std::alloc::{AllocError, Global};
+use std::alloc::Global;
 use std::test::Fail;
 
 const GAINS: Gains = Gains {
@@ -36,8 +36,14 @@ fn make(alloc: Global, count: u32, fates: &[Fate]) -> Result<Option<Encounter>, 
 // An encounter may be sent to and shared with other threads.
 fn may_be_shared<T: Send + Sync>(_: &T) {}
 
-// Whether a copy of an encounter has what it has.
-fn is_copied(alloc: Global, encounter: &Encounter) -> Result<bool, AllocError> {
+// Whether an encounter is made of two aircraft, and a copy of it has what it has.
+fn is_copied(alloc: Global) -> Result<bool, Fail> {
+    let encounter = make(alloc, 2, &[])?.ok_or("refused")?;
+    may_be_shared(&encounter);
+    has_copy(alloc, &encounter)
+}
+
+fn has_copy(alloc: Global, encounter: &Encounter) -> Result<bool, Fail> {
     let copy = encounter.copy(alloc)?;
     Ok(copy.cycles() == 31 && copy.crafts() == encounter.crafts() && copy.legs().len() == 1)
 }
@@ -49,11 +55,14 @@ fn is_made(alloc: Global, first: Fate, second: Fate) -> Result<bool, Fail> {
 
 #[test]
 fn makes_what_is_in_range(rt: HostRuntime) -> Result<(), Fail> {
+    assert!(rt; is_copied(rt.alloc())?);
+    assert!(rt; make(rt.alloc(), 9, &[])?.is_none());
+    Ok(())
+}
+
+#[test]
+fn makes_nothing_of_wrong_fates(rt: HostRuntime) -> Result<(), Fail> {
     let alloc = rt.alloc();
-    let encounter = make(alloc, 2, &[])?.ok_or("refused")?;
-    may_be_shared(&encounter);
-    assert!(rt; is_copied(alloc, &encounter)?);
-    assert!(rt; make(alloc, 9, &[])?.is_none());
     let held = CopyPlan { hold: 3, mask: 0 };
     let spoilt = CopyPlan {
         hold: 0,

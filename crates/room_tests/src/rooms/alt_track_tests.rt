@@ -1,4 +1,4 @@
-ghost use Rattle.std.specs.Prelude.{pos, neg_ℤ, IfSome};
+ghost use Rattle.std.specs.Prelude.{pos, neg_ℤ, IsTrue, IfSome};
 ghost use Rattle.acas_num.specs.Clamp.{LiesBetween};
 
 use acas_base::Gains;
@@ -19,31 +19,86 @@ const ALL: Gains = Gains {
     beta: 1024,
 };
 
-fn after(track: &mut AltTrack, measurement: Option<i32>, gains: Gains) -> TrackState
-    requires { IfSome measurement (LiesBetween (neg_ℤ (pos 2000)) (pos 62000)) }
+// A measurement, the gains, and the state after it.
+type Step = (Option<i32>, Gains, TrackState);
+
+const STEPS: [Step; 7] = [
+    (None, USUAL, TrackState::Empty),
+    (Some(35_000), USUAL, TrackState::One { est: 35_000 * FOOT }),
+    (
+        Some(35_300),
+        USUAL,
+        TrackState::Run {
+            est: 35_300 * FOOT,
+            rate: 200 * FOOT,
+            missed: 0,
+        },
+    ),
+    (
+        Some(35_400),
+        USUAL,
+        TrackState::Run {
+            est: 35_450 * FOOT,
+            rate: 175 * FOOT,
+            missed: 0,
+        },
+    ),
+    (
+        Some(30_000),
+        NONE,
+        TrackState::Run {
+            est: 35_625 * FOOT,
+            rate: 175 * FOOT,
+            missed: 0,
+        },
+    ),
+    (
+        Some(35_700),
+        ALL,
+        TrackState::Run {
+            est: 35_700 * FOOT,
+            rate: 75 * FOOT,
+            missed: 0,
+        },
+    ),
+    (
+        None,
+        ALL,
+        TrackState::Run {
+            est: 35_775 * FOOT,
+            rate: 75 * FOOT,
+            missed: 1,
+        },
+    ),
+];
+
+// Whether an altitude may be measured so.
+fn fits(measurement: Option<i32>) -> bool
+    ensures { IsTrue result → IfSome measurement (LiesBetween (neg_ℤ (pos 2000)) (pos 62000)) }
 {
-    track.step(measurement, gains);
-    track.state()
+    match measurement {
+        Some(feet) => feet >= -2_000 && feet <= 62_000,
+        None => true,
+    }
 }
 
-fn run(est: i64, rate: i64, missed: u8) -> TrackState {
-    TrackState::Run { est, rate, missed }
+// The place of the first step after which a new track has another state.
+fn first_other(steps: &[Step]) -> Option<usize> {
+    let mut track = AltTrack::new();
+    for place in 0..steps.len() {
+        let (measurement, gains, want) = steps[place];
+        if !fits(measurement) {
+            return Some(place);
+        }
+        track.step(measurement, gains);
+        if track.state() != want {
+            return Some(place);
+        }
+    }
+    None
 }
 
 #[test]
 fn follows_altitudes_and_misses(rt: HostRuntime) {
-    let mut track = AltTrack::new();
-    assert_eq!(rt; after(&mut track, None, USUAL), TrackState::Empty);
-    let first = TrackState::One { est: 35_000 * FOOT };
-    assert_eq!(rt; after(&mut track, Some(35_000), USUAL), first);
-    let second = run(35_300 * FOOT, 200 * FOOT, 0);
-    assert_eq!(rt; after(&mut track, Some(35_300), USUAL), second);
-    let third = run(35_450 * FOOT, 175 * FOOT, 0);
-    assert_eq!(rt; after(&mut track, Some(35_400), USUAL), third);
-    let predicted = run(35_625 * FOOT, 175 * FOOT, 0);
-    assert_eq!(rt; after(&mut track, Some(30_000), NONE), predicted);
-    let measured = run(35_700 * FOOT, 75 * FOOT, 0);
-    assert_eq!(rt; after(&mut track, Some(35_700), ALL), measured);
-    let missed = run(35_775 * FOOT, 75 * FOOT, 1);
-    assert_eq!(rt; after(&mut track, None, ALL), missed);
+    assert_eq!(rt; first_other(&STEPS), None);
 }

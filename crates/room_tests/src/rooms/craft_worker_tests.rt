@@ -89,18 +89,17 @@ fn first_other(state: &AirState, senses: &[Senses]) -> Option<u16> {
     None
 }
 
-fn serial_journal(alloc: Global) -> Result<AirState, Fail> {
+// Whether the serial run of two aircraft at one altitude has so many entries and these senses.
+fn is_played(alloc: Global, entries: u32, senses: &[Senses]) -> Result<bool, Fail> {
     let enc = meeting(alloc)?;
     let mut state = empty_journal(alloc, &enc)?;
     serial(&mut state, &enc);
-    Ok(state)
+    Ok(state.count() == entries && state.complete() && first_other(&state, senses).is_none())
 }
 
 // Both choose to climb, and the one of higher address descends after it has taken the other one's message.
 #[test]
 fn higher_address_gives_way(rt: HostRuntime) -> Result<(), Fail> {
-    let state = serial_journal(rt.alloc())?;
-    assert!(rt; state.count() == 86 && state.complete());
-    assert_eq!(rt; first_other(&state, &SENSES), None);
+    assert!(rt; is_played(rt.alloc(), 86, &SENSES)?);
     Ok(())
 }

@@ -1,4 +1,4 @@
-ghost use Rattle.std.specs.Prelude.{◌≤◌, IfSome};
+ghost use Rattle.std.specs.Prelude.{◌≤◌, IsTrue, IfSome};
 
 use acas_base::Gains;
 use acas_num::TrackState;
@@ -18,34 +18,86 @@ const ALL: Gains = Gains {
     beta: 1024,
 };
 
-fn after(track: &mut RangeTrack, measurement: Option<u32>, gains: Gains) -> TrackState
-    requires { IfSome measurement (λ feet. feet ≤ 182280) }
+// A measurement, the gains, and the state after it.
+type Step = (Option<u32>, Gains, TrackState);
+
+const STEPS: [Step; 7] = [
+    (None, USUAL, TrackState::Empty),
+    (Some(10_000), USUAL, TrackState::One { est: 10_000 * FOOT }),
+    (
+        Some(9_900),
+        USUAL,
+        TrackState::Run {
+            est: 9_900 * FOOT,
+            rate: -100 * FOOT,
+            missed: 0,
+        },
+    ),
+    (
+        Some(9_790),
+        USUAL,
+        TrackState::Run {
+            est: 9_795 * FOOT,
+            rate: -104_960,
+            missed: 0,
+        },
+    ),
+    (
+        Some(9_000),
+        NONE,
+        TrackState::Run {
+            est: 9_925_120,
+            rate: -104_960,
+            missed: 0,
+        },
+    ),
+    (
+        Some(9_600),
+        ALL,
+        TrackState::Run {
+            est: 9_600 * FOOT,
+            rate: -94_720,
+            missed: 0,
+        },
+    ),
+    (
+        None,
+        ALL,
+        TrackState::Run {
+            est: 9_735_680,
+            rate: -94_720,
+            missed: 1,
+        },
+    ),
+];
+
+// Whether a range may be measured so.
+fn fits(measurement: Option<u32>) -> bool
+    ensures { IsTrue result → IfSome measurement (λ feet. feet ≤ 182280) }
 {
-    track.step(measurement, gains);
-    track.state()
+    match measurement {
+        Some(feet) => feet <= 182_280,
+        None => true,
+    }
 }
 
-fn run(est: i64, rate: i64, missed: u8) -> TrackState {
-    TrackState::Run { est, rate, missed }
+// The place of the first step after which a new track has another state.
+fn first_other(steps: &[Step]) -> Option<usize> {
+    let mut track = RangeTrack::new();
+    for place in 0..steps.len() {
+        let (measurement, gains, want) = steps[place];
+        if !fits(measurement) {
+            return Some(place);
+        }
+        track.step(measurement, gains);
+        if track.state() != want {
+            return Some(place);
+        }
+    }
+    None
 }
 
 #[test]
 fn follows_ranges_and_misses(rt: HostRuntime) {
-    let mut track = RangeTrack::new();
-    assert_eq!(rt; after(&mut track, None, USUAL), TrackState::Empty);
-    let first = TrackState::One { est: 10_000 * FOOT };
-    assert_eq!(rt; after(&mut track, Some(10_000), USUAL), first);
-    let second = run(9_900 * FOOT, -100 * FOOT, 0);
-    assert_eq!(rt; after(&mut track, Some(9_900), USUAL), second);
-    let third = run(9_795 * FOOT, -104_960, 0);
-    assert_eq!(rt; after(&mut track, Some(9_790), USUAL), third);
-    assert_eq!(rt;
-        after(&mut track, Some(9_000), NONE),
-        run(9_925_120, -104_960, 0)
-    );
-    assert_eq!(rt;
-        after(&mut track, Some(9_600), ALL),
-        run(9_600 * FOOT, -94_720, 0)
-    );
-    assert_eq!(rt; after(&mut track, None, ALL), run(9_735_680, -94_720, 1));
+    assert_eq!(rt; first_other(&STEPS), None);
 }

@@ -1,4 +1,4 @@
-use acas_io::{MemSink, Sink};
+use acas_io::MemSink;
 use air_journal::AirState;
 use rec_text::write;
 use std::alloc::{AllocError, Global};
@@ -26,25 +26,27 @@ fn state_of(alloc: Global, text: &[u8]) -> Result<AirState, Fail> {
     }
 }
 
-// Whether a recording is written whole.
-fn is_written(alloc: Global, state: &AirState, want: &[u8]) -> Result<bool, Fail> {
-    let mut whole = sink(alloc, &[])?;
-    write(state, &mut whole)?;
-    Ok(whole.bytes() == want)
+// Whether a recording is written so, and where these writes of 1,000 bytes fail a front of it.
+fn is_written(alloc: Global, state: &AirState, fails: &[u64], want: &[u8]) -> Result<bool, Fail> {
+    let mut sink = sink(alloc, fails)?;
+    let written = write(state, &mut sink);
+    Ok(written.is_ok() == fails.is_empty() && sink.bytes() == want)
 }
 
-// Whether nothing of it is written where the first write fails.
-fn is_unwritten(alloc: Global, state: &AirState) -> Result<bool, AllocError> {
-    let mut failing = sink(alloc, &[1])?;
-    let written = write(state, &mut failing);
-    Ok(written.is_err() && failing.bytes().is_empty() && failing.faults() == 1)
+// Whether the recording is this one, and nothing of it is written where the first write fails.
+fn is_told(alloc: Global, state: &AirState, want: &[u8]) -> Result<bool, Fail> {
+    Ok(is_written(alloc, state, &[], want)? && is_written(alloc, state, &[1], b"")?)
+}
+
+// The same of the empty journal of the encounter that a text says.
+fn is_recorded(alloc: Global, text: &[u8], want: &[u8]) -> Result<bool, Fail> {
+    let state = state_of(alloc, text)?;
+    is_told(alloc, &state, want)
 }
 
 // Nothing is played yet.
 #[test]
 fn writes_a_recording(rt: HostRuntime) -> Result<(), Fail> {
-    let state = state_of(rt.alloc(), ENCOUNTER)?;
-    assert!(rt; is_written(rt.alloc(), &state, RECORDING)?);
-    assert!(rt; is_unwritten(rt.alloc(), &state)?);
+    assert!(rt; is_recorded(rt.alloc(), ENCOUNTER, RECORDING)?);
     Ok(())
 }

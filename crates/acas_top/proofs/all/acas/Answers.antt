@@ -6,25 +6,25 @@ use Rattle.acas_top.specs.declared.status.Status.{Status}
 use Rattle.acas_top.specs.declared.words.Command.TheVariants.{Run}
 use Rattle.acas_top.proofs.all.acas.Goals as goal
 
-pub returns-in-Err-clause-ended : goal.returns-in-Err-clause-ended
-returns-in-Err-clause-ended g c =
+pub returns-clause-ended : goal.returns-clause-ended
+returns-clause-ended g c =
     let run = c.in-Some.run' in
     let said = c.in-Some.ensures.some in
     unread-ends (Run run) c.in-Err.status said (λ none. none (Run run) tt said) c.in-Err.ensures.unread
 
-pub returns-in_default-answer_in_threads-clause-ended : goal.returns-in_default-answer_in_threads-clause-ended
-returns-in_default-answer_in_threads-clause-ended g c = wanting-ends (λ none. none (Run c.in-Some.run') tt c.in-Some.ensures.some)
+pub returns-in-Ok-clause-ended : goal.returns-in-Ok-clause-ended
+returns-in-Ok-clause-ended g c = wanting-ends (λ none. none (Run c.in-Some.run') tt c.in-Some.ensures.some)
 
-pub returns-clause-ended : goal.returns-clause-ended
-returns-clause-ended g c =
+pub returns-in-Ok-answer_in_threads-clause-ended : goal.returns-in-Ok-answer_in_threads-clause-ended
+returns-in-Ok-answer_in_threads-clause-ended g c =
     let run = c.in-Some.run' in
     let said = c.in-Some.ensures.some in
     let answer = c.in-Ok-answer_in_threads.answer in
     let answers : Answers (Run run) c.in-Ok.bytes.items (answer_status answer) (answer_text answer) = rw c.as_slice.ensures.value at c.in-Ok-answer_in_threads.ensures in
     put-ends (Run run) c.in-Ok.bytes.items (answer_text answer) (answer_status answer) c.put_answer.result said tt (λ none. none (Run run) tt said) c.in-Ok.ensures.read answers c.put_answer.ensures
 
-pub returns-clause-played_in_threads : goal.returns-clause-played_in_threads
-returns-clause-played_in_threads g c = λ also done.
+pub returns-in-Ok-answer_in_threads-clause-played_in_threads : goal.returns-in-Ok-answer_in_threads-clause-played_in_threads
+returns-in-Ok-answer_in_threads-clause-played_in_threads g c = λ also done.
     let run = c.in-Some.run' in
     let answer = c.in-Ok-answer_in_threads.answer in
     let answers : Answers (Run run) c.in-Ok.bytes.items (answer_status answer) (answer_text answer) = rw c.as_slice.ensures.value at c.in-Ok-answer_in_threads.ensures in

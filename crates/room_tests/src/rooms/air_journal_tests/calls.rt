@@ -115,19 +115,39 @@ fn has_one_cycle(state: &AirState) -> bool {
     is_active(state.enc(), 0) && state.cells(0, 1).is_some() && state.cells(0, 2).is_none()
 }
 
-#[test]
-fn answers_at_the_start(rt: HostRuntime) -> Result<(), Fail> {
-    let mut state = meeting(rt.alloc(), None, &[], &[])?;
-    assert!(rt; crosses_threads(&state) && is_empty(&state));
-    assert_eq!(rt; first_other(&mut state, &AT_THE_START, 1_000), None);
-    assert!(rt; has_one_cycle(&state));
-    Ok(())
+// The place of the first step that the empty journal of an encounter answers otherwise, as above, and how many entries it has
+// then where it is complete.
+fn first_other_in(
+    alloc: Global,
+    enc: &Encounter,
+    steps: &[Step],
+    entries: u32,
+) -> Result<(Option<usize>, Option<u32>), Fail> {
+    let mut state = empty_journal(alloc, enc)?;
+    let other = first_other(&mut state, steps, entries);
+    let whole = if state.complete() {
+        Some(state.count())
+    } else {
+        None
+    };
+    Ok((other, whole))
 }
 
-// The same of the empty journal of an encounter.
-fn first_other_in(alloc: Global, enc: &Encounter, steps: &[Step]) -> Result<Option<usize>, Fail> {
-    let mut state = empty_journal(alloc, enc)?;
-    Ok(first_other(&mut state, steps, 1_000))
+// Whether a journal without entries answers the first calls so, and then has the cells of one cycle.
+fn answers_at_first(alloc: Global) -> Result<bool, Fail> {
+    let mut state = meeting(alloc, None, &[], &[])?;
+    Ok(
+        crosses_threads(&state)
+            && is_empty(&state)
+            && first_other(&mut state, &AT_THE_START, 1_000).is_none()
+            && has_one_cycle(&state),
+    )
+}
+
+#[test]
+fn answers_at_the_start(rt: HostRuntime) -> Result<(), Fail> {
+    assert!(rt; answers_at_first(rt.alloc())?);
+    Ok(())
 }
 
 #[test]
@@ -138,7 +158,10 @@ fn names_the_first_slower(rt: HostRuntime) -> Result<(), Fail> {
         aircraft(0x40_0C03, -91_200, 35_000)?,
     ];
     let enc = encounter(rt.alloc(), 2, None, &crafts, &[], &[], &[])?;
-    assert_eq!(rt; first_other_in(rt.alloc(), &enc, &OF_THREE)?, None);
+    assert_eq!(rt;
+        first_other_in(rt.alloc(), &enc, &OF_THREE, 1_000)?,
+        (None, None)
+    );
     Ok(())
 }
 
@@ -150,8 +173,9 @@ fn answers_to_the_end(rt: HostRuntime) -> Result<(), Fail> {
     ];
     let spoilt = fate(1, 2, CopyPlan { hold: 0, mask: 7 }, PLAIN);
     let enc = encounter(rt.alloc(), 3, Some(0), &crafts, &[], &[], &[spoilt])?;
-    let mut state = empty_journal(rt.alloc(), &enc)?;
-    assert_eq!(rt; first_other(&mut state, &TO_THE_END, 14), None);
-    assert!(rt; state.complete() && state.count() == 15);
+    assert_eq!(rt;
+        first_other_in(rt.alloc(), &enc, &TO_THE_END, 14)?,
+        (None, Some(15))
+    );
     Ok(())
 }

@@ -5,6 +5,7 @@ use acas_base::{CRAFTS, Cell, CopyPlan, Entry, Fate, Vrc};
 use air_journal::{AirState, Commit, Waiting};
 use craft_view::is_active;
 use res_message::{decode, flip};
+use std::alloc::Global;
 use std::test::Fail;
 
 // The entries that are looked for.
@@ -277,15 +278,19 @@ fn first_other(state: &mut AirState, entries: u32) -> Option<u32> {
     None
 }
 
-// A message of the first aircraft is held so long that it is taken last, and a later one is lost.
-#[test]
-fn agrees_after_each_entry(rt: HostRuntime) -> Result<(), Fail> {
+// Whether they agree after each of so many entries, which are all. A message of the first aircraft is held so long that it is
+// taken last, and a later one is lost.
+fn agrees(alloc: Global, entries: u32) -> Result<bool, Fail> {
     let fates = [
         fate(2, 2, PLAIN, CopyPlan { hold: 3, mask: 0 }),
         fate(5, 0, PLAIN, PLAIN),
     ];
-    let mut state = meeting(rt.alloc(), Some(1024), &[leg(1, 27, -760, 6000)], &fates)?;
-    assert_eq!(rt; first_other(&mut state, 86), None);
-    assert!(rt; state.complete() && !goes_on(&mut state));
+    let mut state = meeting(alloc, Some(1024), &[leg(1, 27, -760, 6000)], &fates)?;
+    Ok(first_other(&mut state, entries).is_none() && state.complete() && !goes_on(&mut state))
+}
+
+#[test]
+fn agrees_after_each_entry(rt: HostRuntime) -> Result<(), Fail> {
+    assert!(rt; agrees(rt.alloc(), 86)?);
     Ok(())
 }
