@@ -1,5 +1,5 @@
 -- How the calls of a seat change the number of its aircraft's commits, and what it owes.
-use Rattle.std.proofs.Common.{◌≡◌, ℕ, ◌+◌, ◌<◌, List, ◌∷◌, None, refl, sym, ap, ◌∙◌, subst, arith, eq-eqb}
+use Rattle.std.proofs.Common.{◌≡◌, ℕ, ◌+◌, List, refl, sym, ap, ◌∙◌, subst, arith, eq-eqb}
 use Rattle.std.proofs.lemmas.Bool.{cond-true}
 use Rattle.acas_base.specs.Encounter.{Parts}
 use Rattle.acas_base.specs.declared.entry.Entry.{Entry}
@@ -15,7 +15,7 @@ use Rattle.air_rules.specs.Air.{Air}
 use Rattle.air_rules.specs.Journal.{commits, entries_of}
 use Rattle.air_rules.specs.Owed.{OwesNothing, owed}
 use Rattle.air_rules.proofs.OwnEntries.{depends-on-own}
-use Rattle.air_turn.specs.Seats.{Called, CommitsIn, SeatState, SendsIn, TakesIn}
+use Rattle.air_turn.specs.Seats.{CommitsIn, SeatState, SendsIn, TakesIn}
 use Rattle.air_turn.specs.Turns.{commit_growth}
 
 module _ (air : Air) (own : ℕ) (old new : List Entry) where

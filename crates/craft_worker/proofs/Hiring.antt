@@ -5,7 +5,7 @@ use Rattle.std.proofs.Math.Seq.{take-append_seam}
 use Rattle.acas_base.specs.Encounter.{Parts}
 use Rattle.acas_base.specs.declared.entry.Entry.{Entry}
 use Rattle.atomic_table.specs.Seated.{TableId}
-use Rattle.air_turn.specs.Seats.{AreAllSeats, AreSeatsOf, IsSameSeat, SeatState, SharedAir, first_seats, owns_of}
+use Rattle.air_turn.specs.Seats.{AreAllSeats, AreSeatsOf, SeatState, SharedAir, first_seats, owns_of}
 use Rattle.craft_worker.specs.Workers.{EachSame, EachWorked, HasPlayed, IsReady, seat_of}
 use Rattle.craft_worker.specs.declared.worker.Worker.{Worker}
 use Rattle.craft_worker.proofs.Working.{same-on}

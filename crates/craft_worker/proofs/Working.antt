@@ -1,5 +1,5 @@
 -- How a worker goes on.
-use Rattle.std.proofs.Common.{◌≡◌, ℕ, ◌+◌, ◌<◌, ◌≤◌, Bool, refl, sym, ap, ◌∙◌, subst, arith}
+use Rattle.std.proofs.Common.{◌≡◌, ◌+◌, ◌<◌, ◌≤◌, Bool, refl, sym, ap, ◌∙◌, subst, arith}
 use Rattle.acas_base.specs.Encounter.{Parts}
 use Rattle.air_journal.specs.Airs.{air_of}
 use Rattle.air_rules.specs.Journal.{commits}

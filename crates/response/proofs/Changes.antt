@@ -1,5 +1,5 @@
 -- When the advice changed last.
-use Rattle.std.proofs.Common.{◌≡◌, ℕ, suc, ◌-◌, ◌+◌, ◌≤◌, zero, true, false, not, refl, sym, ap, ◌∙◌, subst, arith}
+use Rattle.std.proofs.Common.{◌≡◌, ℕ, suc, ◌-◌, ◌+◌, ◌≤◌, zero, true, false, not, sym, ap, ◌∙◌, subst, arith}
 use Rattle.std.proofs.lemmas.Bool.{cond-false, cond-true, cond_both}
 use Rattle.advisory_report.specs.declared.composite.Composite.{Composite}
 use Rattle.response.specs.Flown.{Flight, changed, is_changed, is_same_advice}

@@ -1,11 +1,9 @@
 -- How a flight goes on.
-use Rattle.std.proofs.Common.{◌≡◌, ℕ, zero, suc, ◌+◌, ◌-◌, ◌<◌, ◌≤◌, ℤ, Bool, true, false, cond, Option, Some, None, refl, sym, ap, ◌∙◌, subst, unsigned_abs, ◌*◌, ◌^◌, arith}
-use Rattle.std.specs.Prelude.{IfSome, find, nat_le, option_map}
-use Rattle.std.specs.List.{range_with_len}
+use Rattle.std.proofs.Common.{◌≡◌, ℕ, zero, suc, ◌+◌, ◌-◌, ◌<◌, ◌≤◌, ℤ, Bool, true, false, cond, Option, Some, None, refl, sym, ap, ◌∙◌, subst, unsigned_abs, ◌^◌, arith}
+use Rattle.std.specs.Prelude.{IfSome, nat_le, option_map}
 use Rattle.std.specs.Option.{option_or}
 use Rattle.std.proofs.lemmas.Bool.{cond-false, cond-true}
 use Rattle.std.proofs.lemmas.Bool.Decides.{nat_tests}
-use Rattle.advisory_report.specs.declared.composite.Composite.{Composite}
 use Rattle.response.proofs.Numbers.{IsLater, first-kept, first-later, first-more, first-within, tested}
 use Rattle.response.specs.Flown.{Flight, after_cycle, changed, first_advised, flown_from, has_advice, motion_since, moved_twice, response_to}
 use Rattle.response.specs.Flying.{IsAdvised, IsMotion, begun, highest, motion_at, moved_on, responded}

@@ -1,6 +1,5 @@
-use Rattle.std.proofs.Common.{◌≡◌, ◌≤◌, ◌^◌, pos, neg_ℤ, ◌+ℤ◌, ◌-ℤ◌, unsigned_abs, to_z, of_z, w64, arith, rules, sym, ap, ap₂, ◌∙◌, subst}
+use Rattle.std.proofs.Common.{◌≡◌, ◌≤◌, ◌^◌, pos, neg_ℤ, ◌-ℤ◌, unsigned_abs, to_z, of_z, w64, arith, rules, sym, ◌∙◌, subst}
 use Rattle.std.proofs.lemmas.Int.{ints, to_z-of_z}
-use Rattle.acas_num.specs.Clamp.{clamped}
 use Rattle.response.proofs.Rates.{toward-bound}
 use Rattle.response.specs.Flown.{toward}
 use Rattle.response.proofs.motion.toward.Goals as goal

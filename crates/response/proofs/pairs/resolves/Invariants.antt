@@ -1,6 +1,4 @@
 use Rattle.std.proofs.Common.{◌≡◌, false}
-use Rattle.std.specs.List.{list_any, range_with_len}
-use Rattle.air_journal.specs.Cells.{commit_cells}
 use Rattle.response.specs.Response.{resolves}
 use Rattle.response.proofs.pairs.resolves.Given as goal
 

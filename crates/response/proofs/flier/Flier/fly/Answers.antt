@@ -2,12 +2,11 @@ use Rattle.std.proofs.Common.{◌≡◌, ◌+◌, ◌-◌, ◌≤◌, ℤ, ◌-�
 use Rattle.std.proofs.lemmas.Int.{to_z-of_z}
 use Rattle.acas_base.specs.Ranges.{IsWithin}
 use Rattle.advisory_report.specs.Composite.{shown}
-use Rattle.flight.specs.Flight.{position}
 use Rattle.response.proofs.Changes.{changed-before}
 use Rattle.response.proofs.Flights.{motion-next}
 use Rattle.response.proofs.Rates.{rate-small, vertical}
-use Rattle.response.specs.Flown.{altitude_units, changed, flight_of, rate_units}
-use Rattle.response.specs.Flying.{Flying, IsAdvised, flying, moved_on}
+use Rattle.response.specs.Flown.{altitude_units, flight_of, rate_units}
+use Rattle.response.specs.Flying.{IsAdvised, moved_on}
 use Rattle.response.proofs.flier.Flier.fly.Goals as goal
 
 pub rate_between-rate-requires-clause-rate : goal.rate_between-rate-requires-clause-rate

@@ -1,6 +1,6 @@
 use Rattle.std.proofs.Common.{◌≤◌, ℤ, unsigned_abs, w64, rules, refl, sym, ap, ◌∙◌, subst, inl}
 use Rattle.std.proofs.lemmas.Int.{to_z-of_z}
-use Rattle.advisory_report.specs.Composite.{clear, shown}
+use Rattle.advisory_report.specs.Composite.{shown}
 use Rattle.air_journal.proofs.Adding.{no-cells}
 use Rattle.air_journal.specs.Airs.{air_of}
 use Rattle.response.specs.Flown.{flight_of}
