@@ -57,10 +57,24 @@ fn both(up: Strength, down: Strength) -> Composite {
     }
 }
 
+// A composite, the next one, and the phrase.
+type Phrase = (Composite, Composite, Aural);
+
+// The place of the first phrase that is another one.
+fn first_unsaid(phrases: &[Phrase]) -> Option<usize> {
+    for place in 0..phrases.len() {
+        let (before, after, said) = phrases[place];
+        if aural_of(&before, &after) != said {
+            return Some(place);
+        }
+    }
+    None
+}
+
 #[test]
 fn says_the_phrases(rt: HostRuntime) {
     use Strength::{Increase, Level, Limit500, Limit1000, Limit2000, Positive};
-    for (before, after, said) in [
+    let phrases = [
         // the encounters that are worked out
         (CLEAR, TRAFFIC, Aural::TrafficTraffic),
         (TRAFFIC, down(Positive), Aural::DescendDescend),
@@ -98,9 +112,8 @@ fn says_the_phrases(rt: HostRuntime) {
         (both(Level, Positive), down(Positive), Aural::DescendDescend),
         (CLEAR, preventive(down(Positive)), Aural::Maintain),
         (CLEAR, crossing(down(Positive)), Aural::DescendCrossing),
-    ] {
-        assert_eq!(rt; aural_of(&before, &after), said);
-    }
+    ];
+    assert_eq!(rt; first_unsaid(&phrases), None);
 }
 
 fn advisory(sense: Sense, strength: Strength) -> Cell {

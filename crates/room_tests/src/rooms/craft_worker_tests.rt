@@ -89,12 +89,17 @@ fn first_other(state: &AirState, senses: &[Senses]) -> Option<u16> {
     None
 }
 
-// Whether the serial run of two aircraft at one altitude has so many entries and these senses.
+// Whether a complete journal has so many entries and these senses.
+fn is_right(state: &AirState, entries: u32, senses: &[Senses]) -> bool {
+    state.count() == entries && state.complete() && first_other(state, senses).is_none()
+}
+
+// The same of the serial run of two aircraft at one altitude.
 fn is_played(alloc: Global, entries: u32, senses: &[Senses]) -> Result<bool, Fail> {
     let enc = meeting(alloc)?;
     let mut state = empty_journal(alloc, &enc)?;
     serial(&mut state, &enc);
-    Ok(state.count() == entries && state.complete() && first_other(&state, senses).is_none())
+    Ok(is_right(&state, entries, senses))
 }
 
 // Both choose to climb, and the one of higher address descends after it has taken the other one's message.

@@ -62,21 +62,38 @@ const FAR: [Row; 6] = [
     (0, 1, 9, None),
 ];
 
+const LOW: [Row; 1] = [(0, 1, 16, Some((6_000, 1_100)))];
+
+// The first other row of two that meet, of two far from each other, and of two near the ground.
+fn other_of_meeting(alloc: Global) -> Result<Option<usize>, Fail> {
+    let legs = [leg(0, 1, 760, 0), leg(1, 1, -760, 0)];
+    let enc = pair(alloc, 35_000, 91_200, 35_300, &legs, &[])?;
+    Ok(first_other(&enc, &MEETING))
+}
+
+fn other_of_far(alloc: Global) -> Result<Option<usize>, Fail> {
+    let enc = pair(
+        alloc,
+        0,
+        182_280,
+        0,
+        &[leg(1, 8, 1, 0)],
+        &[miss(0, 1, 5, 7)],
+    )?;
+    Ok(first_other(&enc, &FAR))
+}
+
+fn other_of_low(alloc: Global) -> Result<Option<usize>, Fail> {
+    let legs = [leg(0, 1, 200, 0), leg(1, 1, -200, 0)];
+    let enc = pair(alloc, 1_099, 12_000, 1_099, &legs, &[])?;
+    Ok(first_other(&enc, &LOW))
+}
+
 #[test]
 fn measures_and_misses(rt: HostRuntime) -> Result<(), Fail> {
-    let alloc = rt.alloc();
-    let legs = [leg(0, 1, 760, 0), leg(1, 1, -760, 0)];
-    let met = pair(alloc, 35_000, 91_200, 35_300, &legs, &[])?;
-    assert_eq!(rt; first_other(&met, &MEETING), None);
-    let missed = miss(0, 1, 5, 7);
-    let far = pair(alloc, 0, 182_280, 0, &[leg(1, 8, 1, 0)], &[missed])?;
-    assert_eq!(rt; first_other(&far, &FAR), None);
-    let legs = [leg(0, 1, 200, 0), leg(1, 1, -200, 0)];
-    let low = pair(alloc, 1_099, 12_000, 1_099, &legs, &[])?;
-    assert_eq!(rt;
-        first_other(&low, &[(0, 1, 16, Some((6_000, 1_100)))]),
-        None
-    );
+    assert_eq!(rt; other_of_meeting(rt.alloc())?, None);
+    assert_eq!(rt; other_of_far(rt.alloc())?, None);
+    assert_eq!(rt; other_of_low(rt.alloc())?, None);
     Ok(())
 }
 

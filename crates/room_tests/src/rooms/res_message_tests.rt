@@ -28,25 +28,34 @@ fn writes_words(rt: HostRuntime) -> Result<(), Fail> {
     Ok(())
 }
 
-#[test]
-fn flips_and_refuses(rt: HostRuntime) -> Result<(), Fail> {
-    let spoilt = flip(0x30_0800_0740_0A01, 0x07);
-    assert_eq!(rt; spoilt, 0x30_0800_0040_0A01);
-    assert_eq!(rt; decode(spoilt), None);
-    let mut spoilt: u16 = 0;
+// How many masks of one to three bits leave a word unread.
+fn unread(word: u64) -> u16 {
+    let mut count: u16 = 0;
+    for mask in 1..=255u8 {
+        if mask.count_ones() <= 3 && decode(flip(word, mask)).is_none() {
+            count = count.saturating_add(1);
+        }
+    }
+    count
+}
+
+// The first message that some of these 92 masks don't spoil.
+fn first_read() -> Result<Option<(bool, Vrc, Vrc)>, Fail> {
     for many in [false, true] {
         for cancel in ALL {
             for vrc in ALL {
-                let word = encode(&message(many, cancel, vrc)?);
-                for mask in 1..=255u8 {
-                    if mask.count_ones() <= 3 {
-                        assert_eq!(rt; decode(flip(word, mask)), None);
-                        spoilt = spoilt.saturating_add(1);
-                    }
+                if unread(encode(&message(many, cancel, vrc)?)) != 92 {
+                    return Ok(Some((many, cancel, vrc)));
                 }
             }
         }
     }
-    assert_eq!(rt; spoilt, 1_656);
+    Ok(None)
+}
+
+#[test]
+fn flips_and_refuses(rt: HostRuntime) -> Result<(), Fail> {
+    assert_eq!(rt; flip(0x30_0800_0740_0A01, 0x07), 0x30_0800_0040_0A01);
+    assert_eq!(rt; first_read()?, None);
     Ok(())
 }

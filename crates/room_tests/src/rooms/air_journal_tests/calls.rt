@@ -115,6 +115,15 @@ fn has_one_cycle(state: &AirState) -> bool {
     is_active(state.enc(), 0) && state.cells(0, 1).is_some() && state.cells(0, 2).is_none()
 }
 
+// How many entries a complete journal has.
+fn whole_count(state: &AirState) -> Option<u32> {
+    if state.complete() {
+        Some(state.count())
+    } else {
+        None
+    }
+}
+
 // The place of the first step that the empty journal of an encounter answers otherwise, as above, and how many entries it has
 // then where it is complete.
 fn first_other_in(
@@ -125,23 +134,20 @@ fn first_other_in(
 ) -> Result<(Option<usize>, Option<u32>), Fail> {
     let mut state = empty_journal(alloc, enc)?;
     let other = first_other(&mut state, steps, entries);
-    let whole = if state.complete() {
-        Some(state.count())
-    } else {
-        None
-    };
-    Ok((other, whole))
+    Ok((other, whole_count(&state)))
 }
 
 // Whether a journal without entries answers the first calls so, and then has the cells of one cycle.
+fn answers_first(state: &mut AirState) -> bool {
+    crosses_threads(state)
+        && is_empty(state)
+        && first_other(state, &AT_THE_START, 1_000).is_none()
+        && has_one_cycle(state)
+}
+
 fn answers_at_first(alloc: Global) -> Result<bool, Fail> {
     let mut state = meeting(alloc, None, &[], &[])?;
-    Ok(
-        crosses_threads(&state)
-            && is_empty(&state)
-            && first_other(&mut state, &AT_THE_START, 1_000).is_none()
-            && has_one_cycle(&state),
-    )
+    Ok(answers_first(&mut state))
 }
 
 #[test]

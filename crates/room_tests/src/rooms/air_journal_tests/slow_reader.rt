@@ -278,15 +278,19 @@ fn first_other(state: &mut AirState, entries: u32) -> Option<u32> {
     None
 }
 
-// Whether they agree after each of so many entries, which are all. A message of the first aircraft is held so long that it is
-// taken last, and a later one is lost.
+// Whether they agree after each of so many entries, which are all.
+fn agrees_to_the_end(state: &mut AirState, entries: u32) -> bool {
+    first_other(state, entries).is_none() && state.complete() && !goes_on(state)
+}
+
+// A message of the first aircraft is held so long that it is taken last, and a later one is lost.
 fn agrees(alloc: Global, entries: u32) -> Result<bool, Fail> {
     let fates = [
         fate(2, 2, PLAIN, CopyPlan { hold: 3, mask: 0 }),
         fate(5, 0, PLAIN, PLAIN),
     ];
     let mut state = meeting(alloc, Some(1024), &[leg(1, 27, -760, 6000)], &fates)?;
-    Ok(first_other(&mut state, entries).is_none() && state.complete() && !goes_on(&mut state))
+    Ok(agrees_to_the_end(&mut state, entries))
 }
 
 #[test]

@@ -3,10 +3,14 @@ use super::{goes_on_for, meeting};
 use crate::rooms::encounters::{PLAIN, fate};
 use acas_base::{CopyPlan, Entry, Vrc};
 use air_journal::{AirState, Waiting};
+use std::alloc::Global;
 use std::test::Fail;
 
-// Whether the last entry takes the second copy, and the first one waits, alone.
-fn is_held(state: &AirState) -> bool {
+// Whether after so many entries the last one takes the second copy, and the first one waits, alone.
+fn is_held(state: &mut AirState, entries: u32) -> bool {
+    if !goes_on_for(state, entries) {
+        return false;
+    }
     if state.enc().crafts().len() != 2 {
         return false;
     }
@@ -28,10 +32,14 @@ fn is_held(state: &AirState) -> bool {
 }
 
 // Of the first message the one copy is taken at once, and the other one is held for two commits.
+fn holds(alloc: Global) -> Result<bool, Fail> {
+    let held = fate(1, 2, CopyPlan { hold: 2, mask: 0 }, PLAIN);
+    let mut state = meeting(alloc, None, &[], &[held])?;
+    Ok(is_held(&mut state, 56))
+}
+
 #[test]
 fn holds_a_copy(rt: HostRuntime) -> Result<(), Fail> {
-    let held = fate(1, 2, CopyPlan { hold: 2, mask: 0 }, PLAIN);
-    let mut state = meeting(rt.alloc(), None, &[], &[held])?;
-    assert!(rt; goes_on_for(&mut state, 56) && is_held(&state));
+    assert!(rt; holds(rt.alloc())?);
     Ok(())
 }

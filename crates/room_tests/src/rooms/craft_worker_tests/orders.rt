@@ -202,6 +202,11 @@ fn completed(
     Ok(state)
 }
 
+// Whether a journal is as long as another one, complete, and begins as that does.
+fn is_like(state: &AirState, whole: &AirState, begun: u32) -> bool {
+    state.count() == whole.count() && state.complete() && begins(state, whole, begun)
+}
+
 // Whether that journal is completed, and keeps what it had.
 fn is_completed(
     alloc: Global,
@@ -210,7 +215,7 @@ fn is_completed(
     begun: u32,
 ) -> Result<bool, Fail> {
     let state = completed(alloc, whole.enc(), schedule, begun)?;
-    Ok(state.count() == whole.count() && state.complete() && begins(&state, whole, begun))
+    Ok(is_like(&state, whole, begun))
 }
 
 // How many entries are left where a journal breaks off.
@@ -231,13 +236,22 @@ fn is_completed_from_each(
     Ok(true)
 }
 
-// Whether a schedule ends with so many entries, and is completed from three places of its middle.
-fn ends(alloc: Global, enc: &Encounter, schedule: Schedule, entries: u32) -> Result<bool, Fail> {
-    let whole = played(alloc, enc, schedule, 1000)?;
+// Whether a schedule's journal has so many entries, and is completed from three places of its middle.
+fn is_whole(
+    alloc: Global,
+    whole: &AirState,
+    schedule: Schedule,
+    entries: u32,
+) -> Result<bool, Fail> {
     if whole.count() != entries || !whole.complete() {
         return Ok(false);
     }
-    is_completed_from_each(alloc, &whole, schedule)
+    is_completed_from_each(alloc, whole, schedule)
+}
+
+fn ends(alloc: Global, enc: &Encounter, schedule: Schedule, entries: u32) -> Result<bool, Fail> {
+    let whole = played(alloc, enc, schedule, 1000)?;
+    is_whole(alloc, &whole, schedule, entries)
 }
 
 // The place of the first schedule that doesn't.
@@ -309,11 +323,16 @@ const SENSES: [Line; 8] = [
     (Schedule::Late(1), 27, Sense::Up, Sense::Down),
 ];
 
-// Whether the senses of both are these in a cycle of a schedule's journal.
+// Whether the senses of both are these in a cycle.
+fn has_senses(state: &AirState, cycle: u16, low: Sense, high: Sense) -> bool {
+    sense_in(state, 0, 1, cycle) == Some(low) && sense_in(state, 1, 0, cycle) == Some(high)
+}
+
+// The same of the journal of a schedule.
 fn is_so(alloc: Global, enc: &Encounter, line: Line) -> Result<bool, Fail> {
     let (schedule, cycle, low, high) = line;
     let state = played(alloc, enc, schedule, 1000)?;
-    Ok(sense_in(&state, 0, 1, cycle) == Some(low) && sense_in(&state, 1, 0, cycle) == Some(high))
+    Ok(has_senses(&state, cycle, low, high))
 }
 
 // The place of the first line of which this doesn't hold.
