@@ -4,7 +4,7 @@ use Front::{
     RunSixteen, Sixteen, ThereAndBack, Two,
 };
 use acas_base::{Address, CopyPlan, CraftSpec, Encounter, Fate, Gains, Kind, Leg, LinkPlan, Miss};
-use acas_io::MemSink;
+use acas_io::{MemSink, Sink};
 use enc_file::{ReadError, read, write};
 use std::alloc::{AllocError, Global};
 use std::test::Fail;
@@ -203,7 +203,11 @@ fn is_written(
 ) -> Result<bool, AllocError> {
     let mut sink = sink(alloc, fails)?;
     let written = write(encounter, &mut sink);
-    Ok(written.is_ok() == fails.is_empty() && sink.bytes() == want)
+    Ok(
+        written.is_ok() == fails.is_empty()
+            && sink.bytes() == want
+            && sink.faults() == fails.len() as u64,
+    )
 }
 
 #[test]

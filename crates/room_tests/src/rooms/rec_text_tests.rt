@@ -1,4 +1,4 @@
-use acas_io::MemSink;
+use acas_io::{MemSink, Sink};
 use air_journal::AirState;
 use rec_text::write;
 use std::alloc::{AllocError, Global};
@@ -30,7 +30,11 @@ fn state_of(alloc: Global, text: &[u8]) -> Result<AirState, Fail> {
 fn is_written(alloc: Global, state: &AirState, fails: &[u64], want: &[u8]) -> Result<bool, Fail> {
     let mut sink = sink(alloc, fails)?;
     let written = write(state, &mut sink);
-    Ok(written.is_ok() == fails.is_empty() && sink.bytes() == want)
+    Ok(
+        written.is_ok() == fails.is_empty()
+            && sink.bytes() == want
+            && sink.faults() == fails.len() as u64,
+    )
 }
 
 // Whether the recording is this one, and nothing of it is written where the first write fails.

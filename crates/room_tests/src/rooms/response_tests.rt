@@ -2,7 +2,7 @@
 use crate::rooms::encounters::{aircraft, encounter, leg};
 use crate::rooms::steps::empty_journal;
 use acas_base::Encounter;
-use acas_io::MemSink;
+use acas_io::{MemSink, Sink};
 use air_journal::AirState;
 use response::{flown, write};
 use std::alloc::Global;
@@ -30,7 +30,11 @@ fn is_written(alloc: Global, state: &AirState, fails: &[u64], want: &[u8]) -> Re
     let room = Vec::with_capacity(alloc, 100)?;
     let mut sink = MemSink::new(room, 100, fails.to_vec(alloc)?);
     let written = write(state, &mut sink);
-    Ok(written.is_ok() == fails.is_empty() && sink.bytes() == want)
+    Ok(
+        written.is_ok() == fails.is_empty()
+            && sink.bytes() == want
+            && sink.faults() == fails.len() as u64,
+    )
 }
 
 // Whether all fly as planned, and there are no pairs. The altitude is 2048 * (60 * 35000 - 2) / 60, rounded down.
