@@ -10,5 +10,3 @@ pub mod Turning
 pub mod Seating
 pub mod Gathering
 pub mod Closed
-pub mod Counted
-pub mod Returned

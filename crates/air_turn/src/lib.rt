@@ -16,6 +16,3 @@ mod view;
 
 pub use air::Air;
 pub use seat::Seat;
-
-#[cfg(test)]
-mod tests;

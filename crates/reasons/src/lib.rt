@@ -12,8 +12,6 @@ mod laws;
 mod rules;
 mod seconds;
 mod seen;
-#[cfg(test)]
-mod tests;
 mod text;
 mod told;
 

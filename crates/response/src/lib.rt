@@ -13,6 +13,3 @@ mod response;
 
 pub use flying::flown;
 pub use response::{Response, write};
-
-#[cfg(test)]
-mod tests;

@@ -22,8 +22,8 @@ pub fn empty_journal(alloc: Global, enc: &Encounter) -> Result<AirState, Fail>
     Ok(AirState::new(alloc, enc)?)
 }
 
-// The picture of an active aircraft's next cycle.
-fn look(enc: &Encounter, own: u8, made: u16) -> Picture
+/// The picture of an active aircraft's next cycle.
+pub fn look(enc: &Encounter, own: u8, made: u16) -> Picture
     requires active { IsActive enc.now own }
     requires inside { IsInside enc.now }
     requires left { made < enc.now.cycles }

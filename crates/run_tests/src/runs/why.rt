@@ -46,7 +46,14 @@ const TRANSPONDER: &[u8] =
 const FAR: &[u8] =
     b"encounter,1\nrun,2,0\ncraft,400A01,RA,0,0,35000\ncraft,400B02,TA,182281,0,35000\n";
 
-const REASONS: [Reason; 28] = [
+// One above the other, and one beside it.
+const ABOVE: &[u8] =
+    b"encounter,1\nrun,2,0\ngains,1024,1024,1024,1024\ncraft,400A01,RA,0,0,35000\ncraft,400B02,RA,0,0,37000\n";
+
+const BESIDE: &[u8] =
+    b"encounter,1\nrun,2,0\ngains,1024,1024,1024,1024\ncraft,400A01,RA,0,0,35000\ncraft,400B02,RA,12000,0,35000\n";
+
+const REASONS: [Reason; 31] = [
     // Measured, tracked and tested alike; the separations of both senses, once for each of the two.
     (
         APART,
@@ -175,6 +182,23 @@ const REASONS: [Reason; 28] = [
         TRAFFIC,
         b"end\n",
         b"24,13,400A01,400B02,free,72960,35300,35000,35000,7,1,72960.0,-1520.0,300.0,0.0,0.0,48,0,,,48,,1,0,,,,,,,,,,,,,,,,,-,t,traffic",
+    ),
+    // Within DMOD the range test needs no seconds. The altitude test needs those until the same altitude, and none tell where
+    // the altitude difference stays, as none do where the range grows.
+    (
+        ABOVE,
+        b"leg,400B02,1,0,0,-6000\nend\n",
+        b"2,2,400A01,400B02,first,1900,36900,35000,35000,7,1,1900.0,-100.0,1900.0,-6000.0,0.0,0,19,0,19,48,35,1,1,38,600,down,5,317.0,5,317.0,,,,,,,,,,-,D5.1c,starts",
+    ),
+    (
+        ABOVE,
+        b"end\n",
+        b"2,2,400A01,400B02,first,2000,37000,35000,35000,7,1,2000.0,0.0,2000.0,0.0,0.0,0,,0,,48,35,0,0,0,600,down,5,-2000.0,5,2000.0,,,,,,,,,,-,-,quiet",
+    ),
+    (
+        BESIDE,
+        b"leg,400B02,1,200,0,0\nend\n",
+        b"2,2,400A01,400B02,first,12200,35000,35000,35000,7,1,12200.0,200.0,0.0,0.0,0.0,,0,,0,48,35,0,0,0,600,up,5,0.0,5,0.0,,,,,,,,,,-,-,quiet",
     ),
     // Out of range.
     (FAR, b"end\n", b"why,4"),

@@ -1,98 +1,113 @@
-// Calls of the seats of two aircraft.
-ghost use Rattle.std.specs.Prelude.{◌≡◌, ℕ, ◌+◌, ◌<◌, [], ◌∷◌, All, IfOk, IfSome, length, slice_index_or};
+// Shared journals of small encounters.
+ghost use Rattle.std.specs.Prelude.{◌≡◌, ℕ, ◌<◌, [], ◌∷◌, All, IfOk, IfSome, length, slice_index_or};
 ghost use Rattle.air_rules.specs.Journal.{commits};
 ghost use Rattle.air_turn.specs.Seats.{AreAllSeats, IsSameSeat, SeatState};
-ghost use Rattle.craft_view.specs.Kept.{IsActive};
-ghost use Rattle.craft_view.specs.Views.{picture_of};
-ghost use Rattle.flight.specs.Inside.{IsInside};
 
-use crate::{Air, Seat};
-use acas_base::{Address, CraftSpec, Encounter, Gains, Kind, Leg, Picture};
+use crate::rooms::encounters::{aircraft, encounter, leg};
+use crate::rooms::steps::{empty_journal, look};
+use acas_base::{Address, CraftSpec, Encounter, Kind};
 use air_journal::{AirState, Commit, Sent, Took};
-use craft_view::{Craft, no_picture};
-use flight::inside;
+use air_turn::{Air, Seat};
+use craft_view::no_picture;
 use std::alloc::Global;
 use std::sync::Wait;
 use std::test::Fail;
 use std::thread::{Threads, for_each_mut};
 
-fn aircraft(address: u32, kind: Kind, x: i32, alt: i32) -> Result<CraftSpec, Fail> {
-    Ok(CraftSpec {
-        address: Address::new(address).ok_or("no address")?,
-        kind,
-        x,
-        y: 0,
-        alt,
-        ceiling: None,
-    })
-}
-
-fn leg(craft: u8, vx: i32) -> Leg {
-    Leg {
-        craft,
-        from: 1,
-        vx,
-        vy: 0,
-        vz: 0,
-    }
-}
-
-// Two aircraft of a kind that fly towards each other, the second one at this altitude.
-fn meeting(alloc: Global, kind: Kind, alt: i32) -> Result<Encounter, Fail> {
-    let crafts = [
-        aircraft(0x40_0A01, kind, 0, 35_000)?,
-        aircraft(0x40_0B02, kind, 91_200, alt)?,
-    ];
-    let legs = [leg(0, 760), leg(1, -760)];
-    let made = Encounter::make(
-        1,
-        31,
-        0,
-        Gains {
-            alpha: 683,
-            beta: 256,
-        },
-        Gains {
-            alpha: 512,
-            beta: 128,
-        },
-        crafts.to_vec(alloc)?,
-        legs.to_vec(alloc)?,
-        Vec::new(alloc),
-        Vec::new(alloc),
-        Vec::new(alloc),
-    );
-    Ok(made.ok_or("refused")?)
-}
-
-// Its shared journal, empty.
+// The shared journal of an encounter, empty.
 fn opened(alloc: Global, enc: &Encounter) -> Result<(Air, Vec<Seat>), Fail>
     ensures encounter { IfOk result (λ opened. opened.0.encounter ≡ enc.now) }
     ensures all { IfOk result (λ opened. AreAllSeats opened.0 opened.1.items) }
     ensures fresh { IfOk result (λ opened. All (λ seat. (seat.table ≡ opened.0.table) × (seat.encounter ≡ enc.now) × (seat.front ≡ [])) opened.1.items) }
 {
-    if !inside(enc) {
-        return Err("outside the box".into());
-    }
-    let state = AirState::new(alloc, enc)?;
+    let state = empty_journal(alloc, enc)?;
     Ok(Air::open(alloc, state)?)
 }
 
-// ---- single calls
+// ---- the seats
 
-// The picture of an aircraft's next cycle.
-fn look(enc: &Encounter, own: u8, made: u16) -> Picture
-    requires active { IsActive enc.now own }
-    requires inside { IsInside enc.now }
-    requires left { made < enc.now.cycles }
-    ensures { result ≡ picture_of enc.now own (made + 1) }
-{
-    let mut craft = Craft::new(enc, own);
-    for _cycle in 0..made {
-        let _ = craft.look(enc);
+// Two cycles of aircraft of these kinds, which stand still beside each other.
+fn standing(alloc: Global, kinds: &[Kind]) -> Result<Encounter, Fail> {
+    let mut crafts = [aircraft(0x40_0A01, 1000, 35_000)?; 16];
+    for place in 0..kinds.len().min(16) {
+        let address = Address::new(0x40_0A01 + place as u32).ok_or("no address")?;
+        crafts[place] = CraftSpec {
+            address,
+            kind: kinds[place],
+            ..crafts[place]
+        };
     }
-    craft.look(enc)
+    let crafts = crafts.get(..kinds.len()).ok_or("too many")?;
+    encounter(alloc, 2, None, crafts, &[], &[], &[])
 }
+
+// What may be sent to another thread, and shared with it.
+fn crosses_threads<T: Send + Sync>(_value: &T) -> bool {
+    true
+}
+
+fn may_be_sent<T: Send>(_value: &T) -> bool {
+    true
+}
+
+// Whether these are the aircraft of the seats.
+fn are_of(seats: &[Seat], owns: &[u8]) -> bool {
+    for place in 0..seats.len() {
+        if !may_be_sent(&seats[place]) || owns.get(place) != Some(&seats[place].own()) {
+            return false;
+        }
+    }
+    seats.len() == owns.len()
+}
+
+// The same, and that the journal is empty when none has made a call.
+fn are_all_of(air: Air, seats: Vec<Seat>, owns: &[u8]) -> bool
+    requires { AreAllSeats air seats.items }
+{
+    let same = crosses_threads(&air) && are_of(seats.as_slice(), owns);
+    let count = air.close(seats).count();
+    same && count == 0
+}
+
+// Whether aircraft of these kinds get seats so.
+fn has_seats(alloc: Global, kinds: &[Kind], owns: &[u8]) -> Result<bool, Fail> {
+    let enc = standing(alloc, kinds)?;
+    let (air, seats) = opened(alloc, &enc)?;
+    Ok(are_all_of(air, seats, owns))
+}
+
+// The kinds of the aircraft of an encounter, and those that have a seat.
+type Seated = (&'static [Kind], &'static [u8]);
+
+const SEATED: [Seated; 4] = [
+    (&[Kind::Ra, Kind::Ra], &[0, 1]),
+    (&[Kind::Xpdr, Kind::Ra, Kind::Xpdr], &[1]),
+    (&[Kind::Ta, Kind::Xpdr, Kind::Ta], &[0, 2]),
+    (
+        &[Kind::Ra; 16],
+        &[0, 1, 2, 3, 4, 5, 6, 7, 8, 9, 10, 11, 12, 13, 14, 15],
+    ),
+];
+
+// The place of the first encounter that gets others.
+fn first_otherwise_seated(alloc: Global, rows: &[Seated]) -> Result<Option<usize>, Fail> {
+    for place in 0..rows.len() {
+        let (kinds, owns) = rows[place];
+        if !has_seats(alloc, kinds, owns)? {
+            return Ok(Some(place));
+        }
+    }
+    Ok(None)
+}
+
+// Each active aircraft has a seat, in order of index, and a seat that makes no call doesn't hinder the end.
+#[test]
+fn seats(rt: HostRuntime) -> Result<(), Fail> {
+    assert_eq!(rt; first_otherwise_seated(rt.alloc(), &SEATED)?, None);
+    Ok(())
+}
+
+// ---- single calls
 
 // Asks for the commit of a seat's next cycle, and counts it where it is made.
 fn commit<R: Wait>(rt: &R, air: &Air, enc: &Encounter, seat: &mut Seat, made: &mut u16) -> Commit
@@ -198,6 +213,22 @@ fn both(mut seats: Vec<Seat>) -> Option<(Seat, Seat)>
     }
 }
 
+// Two aircraft of a kind that fly towards each other, the second one at this altitude.
+fn meeting(alloc: Global, kind: Kind, alt: i32) -> Result<Encounter, Fail> {
+    let crafts = [
+        CraftSpec {
+            kind,
+            ..aircraft(0x40_0A01, 0, 35_000)?
+        },
+        CraftSpec {
+            kind,
+            ..aircraft(0x40_0B02, 91_200, alt)?
+        },
+    ];
+    let legs = [leg(0, 1, 760, 0), leg(1, 1, -760, 0)];
+    encounter(alloc, 31, None, &crafts, &legs, &[], &[])
+}
+
 // The place of the first act with another answer, and how many entries there are in the end.
 fn played<R: Wait>(
     rt: &R,
@@ -291,15 +322,27 @@ fn all_commit<R: Threads + Wait + Sync>(rt: &R, air: &Air, enc: &Encounter, seat
     );
 }
 
+// Their journal, when both have ended.
+fn committed<R: Threads + Wait + Sync>(
+    rt: &R,
+    alloc: Global,
+    enc: &Encounter,
+) -> Result<AirState, Fail> {
+    let (air, mut seats) = opened(alloc, enc)?;
+    all_commit(rt, &air, enc, seats.as_mut_slice());
+    Ok(air.close(seats))
+}
+
+// Whether it has so many entries, and is complete.
+fn ends<R: Threads + Wait + Sync>(rt: &R, alloc: Global, entries: u32) -> Result<bool, Fail> {
+    let enc = meeting(alloc, Kind::Ta, 35_300)?;
+    let state = committed(rt, alloc, &enc)?;
+    Ok(state.count() == entries && state.complete())
+}
+
 // Traffic advisories alone: nothing is sent, so all entries are commits.
 #[test]
 fn commits_in_threads(rt: HostRuntime) -> Result<(), Fail> {
-    let alloc = rt.alloc();
-    let enc = meeting(alloc, Kind::Ta, 35_300)?;
-    let (air, mut seats) = opened(alloc, &enc)?;
-    all_commit(&rt, &air, &enc, seats.as_mut_slice());
-    let state = air.close(seats);
-    assert_eq!(rt; state.count(), 62);
-    assert!(rt; state.complete());
+    assert!(rt; ends(&rt, rt.alloc(), 62)?);
     Ok(())
 }

@@ -1,5 +1,5 @@
-use Rattle.air_turn.proofs.Returned.{fresh-first}
-use Rattle.air_turn.proofs.tests.calls.opened.Goals as goal
+use Rattle.room_tests.proofs.Returned.{fresh-first}
+use Rattle.room_tests.proofs.rooms.air_turn_tests.opened.Goals as goal
 
 pub returns-clause-fresh : goal.returns-clause-fresh
 returns-clause-fresh c =

@@ -1,17 +1,9 @@
-// The words of the rules, over views made by hand, and the seconds that the tests need.
-use crate::seconds::{altitude_seconds, range_seconds};
-use crate::{Rule, rule_of};
-use acas_base::{Cell, Intent, Rank, Row, Sense, Seps, Strength, View, Vrc};
+// The words of the rules, over views made by hand.
+use acas_base::{Cell, Intent, Rank, Sense, Seps, Strength, View, Vrc};
+use reasons::{Rule, rule_of};
 use std::test::Fail;
 
 const FOOT: i64 = 1024;
-
-// The thresholds of a resolution advisory at level 5.
-const LEVEL_5: Row = Row {
-    tau: 25,
-    dmod: 3_341 * FOOT,
-    zthr: 600 * FOOT,
-};
 
 const ALIM: i64 = 600 * FOOT;
 
@@ -167,23 +159,4 @@ fn names_each_rule(rt: HostRuntime) -> Result<(), Fail> {
         assert_eq!(rt; rule_of(&before, &view, complement, rank), rule);
     }
     Ok(())
-}
-
-// ---- the seconds that a test needs
-
-// 88,837,719 square feet, at 4,000,000 or 3,550,000 a second.
-#[test]
-fn needs_whole_seconds(rt: HostRuntime) {
-    let closing = range_seconds(10_000 * FOOT, -400 * FOOT, &LEVEL_5);
-    assert_eq!(rt; closing, Some(23));
-    let slower = range_seconds(10_000 * FOOT, -355 * FOOT, &LEVEL_5);
-    assert_eq!(rt; slower, Some(26));
-    let opening = range_seconds(3_342 * FOOT, FOOT, &LEVEL_5);
-    assert_eq!(rt; opening, None);
-    let near = altitude_seconds(-600 * FOOT, FOOT, &LEVEL_5);
-    assert_eq!(rt; near, Some(0));
-    let converging = altitude_seconds(601 * FOOT, -600 * FOOT, &LEVEL_5);
-    assert_eq!(rt; converging, Some(2));
-    let level = altitude_seconds(601 * FOOT, 0, &LEVEL_5);
-    assert_eq!(rt; level, None);
 }

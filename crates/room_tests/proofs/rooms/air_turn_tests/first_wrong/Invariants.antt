@@ -1,7 +1,7 @@
 use Rattle.std.proofs.Common.{◌≡◌}
 use Rattle.air_rules.specs.Journal.{commits}
 use Rattle.air_turn.specs.Seats.{IsSameSeat}
-use Rattle.air_turn.proofs.tests.calls.first_wrong.Given as goal
+use Rattle.room_tests.proofs.rooms.air_turn_tests.first_wrong.Given as goal
 
 abbrev pub invariant-loop-place : goal.invariant-loop-place
 invariant-loop-place g l = record {

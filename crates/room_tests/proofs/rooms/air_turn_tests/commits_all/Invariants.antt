@@ -1,7 +1,7 @@
 use Rattle.std.proofs.Common.{◌≡◌}
 use Rattle.air_rules.specs.Journal.{commits}
 use Rattle.air_turn.specs.Seats.{IsSameSeat}
-use Rattle.air_turn.proofs.tests.calls.commits_all.Given as goal
+use Rattle.room_tests.proofs.rooms.air_turn_tests.commits_all.Given as goal
 
 abbrev pub invariant-loop-try : goal.invariant-loop-try
 invariant-loop-try g l = record {
