@@ -62,11 +62,24 @@ IsAltitude n = IsBetween (neg_ℤ (pos 1000)) (pos 60000) n
 abbrev pub IsGains : Gains → Type 0
 IsGains g = (g.alpha ≤ 1024) × (g.beta ≤ 1024)
 
+-- The gains of the range tracks and of the altitude tracks where an encounter gives none.
+abbrev pub usual_range_gains : Gains
+usual_range_gains = record { alpha = 683; beta = 256 }
+
+abbrev pub usual_altitude_gains : Gains
+usual_altitude_gains = record { alpha = 512; beta = 128 }
+
 -- The kinds that advise.
 abbrev pub is_active_kind : Kind → Bool
 is_active_kind Ra = true
 is_active_kind Ta = true
 is_active_kind Xpdr = false
+
+-- The kind that gives resolution advisories.
+abbrev pub is_ra_kind : Kind → Bool
+is_ra_kind Ra = true
+is_ra_kind Ta = false
+is_ra_kind Xpdr = false
 
 -- What stands where there is no copy.
 abbrev pub no_copy : CopyPlan
@@ -86,6 +99,10 @@ pub record IsCraft (craft : CraftSpec) : Type 0 where
 -- An active aircraft advises, and so makes entries of its own.
 abbrev pub is_active : CraftSpec → Bool
 is_active craft = is_active_kind craft.kind
+
+-- There is an aircraft at the index, and it is active.
+abbrev pub is_active_at : List CraftSpec → ℕ → Bool
+is_active_at crafts craft = option_map_or is_active (slice_get crafts craft) false
 
 -- Two aircraft of different addresses.
 abbrev pub AreApart : CraftSpec → CraftSpec → Type 0

@@ -106,7 +106,8 @@ pub enum Rank {
 }
 
 /// A resolution advisory against one aircraft: its age in cycles, from 1; whether its sense was
-/// reversed, whether the sense crosses the other's altitude, and whether own rate has to change.
+/// reversed geometrically, whether the sense crosses the other's altitude, and whether own rate has to
+/// change.
 #[derive(Clone, Copy, Debug, PartialEq, Eq)]
 pub struct Intent {
     pub sense: Sense,

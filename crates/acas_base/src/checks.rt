@@ -1,10 +1,9 @@
 // Whether the parts of an encounter are in their ranges and orders.
 ghost use Rattle.std.specs.Prelude.{◌≡◌, ◌≢◌, ◌↔◌, ◌≤◌, All, AllPairs, IsTrue, IfSome, None};
-ghost use Rattle.std.specs.List.{list_any};
-ghost use Rattle.acas_base.specs.Encounter.{AreApart, AreCopies, AreCrafts, AreRates, IsAltitude, IsCopy, IsCraft, IsElevation, IsGains, IsPair, IsPlain, IsRun, IsVersion, is_active, most_crafts};
+ghost use Rattle.acas_base.specs.Encounter.{AreApart, AreCopies, AreCrafts, AreRates, IsAltitude, IsCopy, IsCraft, IsElevation, IsGains, IsPair, IsPlain, IsRun, IsVersion, most_crafts};
 ghost use Rattle.acas_base.specs.Ranges.{IsBetween, IsCycle};
 
-use crate::{Address, CopyPlan, CraftSpec, Gains, Leg, LinkPlan, most_crafts};
+use crate::{Address, CopyPlan, CraftSpec, Gains, Leg, LinkPlan, most_crafts, some_active};
 
 fn is_between(low: i32, value: i32, high: i32) -> bool
     ensures { IsTrue result ↔ IsBetween low high value }
@@ -123,12 +122,6 @@ fn are_in_range(crafts: &[CraftSpec]) -> bool
     ensures { IsTrue result ↔ All IsCraft crafts.now }
 {
     crafts.iter().all(|craft| is_craft(craft))
-}
-
-fn some_active(crafts: &[CraftSpec]) -> bool
-    ensures { result ≡ list_any is_active crafts.now }
-{
-    crafts.iter().any(|craft| craft.is_active())
 }
 
 pub(crate) fn are_crafts(version: u8, crafts: &[CraftSpec]) -> bool

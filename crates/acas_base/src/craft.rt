@@ -1,6 +1,7 @@
 // Aircraft and how they fly.
 ghost use Rattle.std.specs.Prelude.{◌≡◌};
-ghost use Rattle.acas_base.specs.Encounter.{most_crafts};
+ghost use Rattle.std.specs.List.{list_any};
+ghost use Rattle.acas_base.specs.Encounter.{is_active, is_active_at, most_crafts};
 
 use crate::{Address, CRAFTS};
 
@@ -23,7 +24,7 @@ pub enum Kind {
 }
 
 impl Kind {
-    ghost use Rattle.acas_base.specs.Encounter.{is_active_kind};
+    ghost use Rattle.acas_base.specs.Encounter.{is_active_kind, is_ra_kind};
 
     /// Whether it advises, `Ra` or `Ta`.
     pub fn is_active(self) -> bool
@@ -32,6 +33,16 @@ impl Kind {
         match self {
             Kind::Ra | Kind::Ta => true,
             Kind::Xpdr => false,
+        }
+    }
+
+    /// Whether it gives resolution advisories, `Ra`.
+    pub fn resolves(self) -> bool
+        ensures { result ≡ is_ra_kind self }
+    {
+        match self {
+            Kind::Ra => true,
+            Kind::Ta | Kind::Xpdr => false,
         }
     }
 }
@@ -43,6 +54,18 @@ pub struct Gains {
     pub alpha: u16,
     pub beta: u16,
 }
+
+/// The gains of the range tracks where an encounter gives none (this project's profile).
+pub const USUAL_RANGE_GAINS: Gains = Gains {
+    alpha: 683,
+    beta: 256,
+};
+
+/// The gains of the altitude tracks where an encounter gives none (this project's profile).
+pub const USUAL_ALTITUDE_GAINS: Gains = Gains {
+    alpha: 512,
+    beta: 128,
+};
 
 /// An aircraft, and where it is in cycle 1: `x`, `y` and altitude `alt` in ft. It may climb where it
 /// has no `ceiling` (ft) or its altitude is below it.
@@ -65,6 +88,23 @@ impl CraftSpec {
     {
         self.kind.is_active()
     }
+}
+
+/// Whether the aircraft at an index is there and advises.
+pub fn is_active_at(crafts: &[CraftSpec], craft: u8) -> bool
+    ensures { result ≡ is_active_at crafts.now craft }
+{
+    match crafts.get(usize::from(craft)) {
+        Some(craft) => craft.is_active(),
+        None => false,
+    }
+}
+
+/// Whether some aircraft advises.
+pub fn some_active(crafts: &[CraftSpec]) -> bool
+    ensures { result ≡ list_any is_active crafts.now }
+{
+    crafts.iter().any(CraftSpec::is_active)
 }
 
 /// How the aircraft with index `craft` flies from cycle `from` on, until a later leg of it begins:

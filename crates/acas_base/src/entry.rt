@@ -11,7 +11,7 @@ pub enum Entry {
         cycle: u16,
         cells: Cells,
     },
-    /// `own` sends a message to `target`, its `number`th to it, from 1.
+    /// `own` sends a message to `target`, its `number`th to it, from 1. `word` has the message's 56 bits.
     Send {
         own: u8,
         target: u8,

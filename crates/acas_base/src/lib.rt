@@ -12,6 +12,7 @@ mod fates;
 mod keys;
 mod level;
 mod link;
+mod pairs;
 mod records;
 mod separations;
 mod strengths;
@@ -19,11 +20,15 @@ mod view;
 
 pub use address::Address;
 pub use advisory::{Cell, Cells, Intent, Rank, ResMsg, Sense, Strength, Vrc};
-pub use craft::{CraftSpec, Gains, Kind, Leg, Miss, most_crafts};
+pub use craft::{
+    CraftSpec, Gains, Kind, Leg, Miss, USUAL_ALTITUDE_GAINS, USUAL_RANGE_GAINS, is_active_at,
+    most_crafts, some_active,
+};
 pub use encounter::Encounter;
 pub use entry::Entry;
 pub use level::{Level, Row};
 pub use link::{CopyPlan, Fate, LinkPlan};
+pub use pairs::{PAIRS, pair_of};
 pub use records::Record;
 pub use separations::{gives_alim, separation};
 pub use strengths::{allowed, meets_floor, strongest};

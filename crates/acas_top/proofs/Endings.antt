@@ -48,16 +48,13 @@ plays-serial Serial words old new bytes text IsPut said also plays read put = re
   run = plays.run;
   put = subst IsPut plays.text_is put;
 }
-plays-serial (Gen number crafts cycles) words old new bytes text IsPut said also plays read put = absurd (clash (codes "serial") words _ _ said also refl refl)
-plays-serial Audit words old new bytes text IsPut said also plays read put = absurd (clash (codes "serial") words _ _ said also refl refl)
-plays-serial (Sweep number count crafts cycles) words old new bytes text IsPut said also plays read put = absurd (clash (codes "serial") words _ _ said also refl refl)
 plays-serial (Tell Reports) words old new bytes text IsPut said also plays read put = absurd (clash (codes "serial") words _ _ said also refl refl)
 plays-serial (Tell Response) words old new bytes text IsPut said also plays read put = absurd (clash (codes "serial") words _ _ said also refl refl)
 plays-serial (Tell Watch) words old new bytes text IsPut said also plays read put = absurd (clash (codes "serial") words _ _ said also refl refl)
 plays-serial (Tell Why) words old new bytes text IsPut said also plays read put = absurd (clash (codes "serial") words _ _ said also refl refl)
-plays-serial Resume words old new bytes text IsPut said also plays read put = absurd (clash (codes "serial") words _ _ said also refl refl)
 plays-serial (Run Play) words old new bytes text IsPut said also plays read put = absurd (clash (codes "serial") words _ _ said also refl refl)
 plays-serial (Run Sum) words old new bytes text IsPut said also plays read put = absurd (clash (codes "serial") words _ _ said also refl refl)
+plays-serial command words old new bytes text IsPut said also plays read put = absurd (clash (codes "serial") words _ _ said also refl refl)
 
 -- The answer Done to the word `play` is the recording of a journal.
 pub plays-in-threads : (run : Threaded) (words : List (List ℕ)) (old new : Option (List ℕ)) (bytes text : List ℕ) (IsPut : List ℕ → Type 0)
@@ -75,13 +72,8 @@ plays-in-threads Sum words old new bytes text IsPut said also plays read put = a
 
 -- Words that say neither a plain command nor a run in threads say none.
 pub none-at-all : (words : List (List ℕ)) → AreNoPlainCommand words → AreNoThreadedRun words → AreNoCommand words
-none-at-all words plain threaded Serial is = plain Serial is tt
-none-at-all words plain threaded Audit is = plain Audit is tt
-none-at-all words plain threaded (Gen number crafts cycles) is = plain (Gen number crafts cycles) is tt
-none-at-all words plain threaded (Tell tool) is = plain (Tell tool) is tt
-none-at-all words plain threaded (Sweep number count crafts cycles) is = plain (Sweep number count crafts cycles) is tt
-none-at-all words plain threaded Resume is = plain Resume is tt
 none-at-all words plain threaded (Run run) is = threaded run
+none-at-all words plain threaded command is = plain command is tt
 
 -- Statuses of different numbers are different.
 differ : (one other : Status) → eqb (status_number one) (status_number other) ≡ false → one ≡ other → ⊥

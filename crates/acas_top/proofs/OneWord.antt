@@ -15,15 +15,16 @@ pub other-than-runs : (word : List ℕ) → false ≡ bytes_eq word (codes "play
 other-than-runs word play sum Play = different word (codes "play") refl play
 other-than-runs word play sum Sum = different word (codes "sum") refl sum
 
-pub other-than-commands : (word : List ℕ) → false ≡ bytes_eq word (codes "serial") → false ≡ bytes_eq word (codes "audit") → false ≡ bytes_eq word (codes "reports") → false ≡ bytes_eq word (codes "response")
-    → false ≡ bytes_eq word (codes "watch") → false ≡ bytes_eq word (codes "why") → false ≡ bytes_eq word (codes "resume") → AreNoPlainCommand (word ∷ [])
-other-than-commands word serial audit reports response watch why resume Serial valid plain = different word (codes "serial") refl serial
-other-than-commands word serial audit reports response watch why resume Audit valid plain = different word (codes "audit") refl audit
-other-than-commands word serial audit reports response watch why resume (Gen number crafts cycles) valid plain = λ is. absurd (omega (arith, ap length is))
-other-than-commands word serial audit reports response watch why resume (Tell Reports) valid plain = different word (codes "reports") refl reports
-other-than-commands word serial audit reports response watch why resume (Tell Response) valid plain = different word (codes "response") refl response
-other-than-commands word serial audit reports response watch why resume (Tell Watch) valid plain = different word (codes "watch") refl watch
-other-than-commands word serial audit reports response watch why resume (Tell Why) valid plain = different word (codes "why") refl why
-other-than-commands word serial audit reports response watch why resume (Sweep number count crafts cycles) valid plain = λ is. absurd (omega (arith, ap length is))
-other-than-commands word serial audit reports response watch why resume Resume valid plain = different word (codes "resume") refl resume
-other-than-commands word serial audit reports response watch why resume (Run run) valid plain = λ is. absurd plain
+module _ (word : List ℕ) (serial : false ≡ bytes_eq word (codes "serial")) (audit : false ≡ bytes_eq word (codes "audit")) (reports : false ≡ bytes_eq word (codes "reports")) (response : false ≡ bytes_eq word (codes "response"))
+    (watch : false ≡ bytes_eq word (codes "watch")) (why : false ≡ bytes_eq word (codes "why")) (resume : false ≡ bytes_eq word (codes "resume")) where
+  pub other-than-commands : AreNoPlainCommand (word ∷ [])
+  other-than-commands Serial valid plain = different word (codes "serial") refl serial
+  other-than-commands Audit valid plain = different word (codes "audit") refl audit
+  other-than-commands (Gen number crafts cycles) valid plain = λ is. absurd (omega (arith, ap length is))
+  other-than-commands (Tell Reports) valid plain = different word (codes "reports") refl reports
+  other-than-commands (Tell Response) valid plain = different word (codes "response") refl response
+  other-than-commands (Tell Watch) valid plain = different word (codes "watch") refl watch
+  other-than-commands (Tell Why) valid plain = different word (codes "why") refl why
+  other-than-commands (Sweep number count crafts cycles) valid plain = λ is. absurd (omega (arith, ap length is))
+  other-than-commands Resume valid plain = different word (codes "resume") refl resume
+  other-than-commands (Run run) valid plain = λ is. absurd plain

@@ -2,11 +2,12 @@
 ghost use Rattle.std.specs.Prelude.{◌≡◌, ◌++◌, ◌+◌, ◌≤◌, IfOk, length};
 ghost use Rattle.acas_text.specs.declared.line.TheConstants.{LINE_BYTES};
 ghost use Rattle.acas_top.specs.Counted.{AreSerial, counts_of, counts_text};
+ghost use Rattle.acas_top.specs.declared.counts.TheConstants.{COUNTS_BYTES};
 ghost use Rattle.flight.specs.Inside.{IsInside};
 
 use crate::runs::serial_state;
 use acas_base::Encounter;
-use acas_text::Line;
+use acas_text::{Line, U32_BYTES};
 use air_journal::AirState;
 use rec_text::{entry_counts, report_count};
 use std::alloc::{AllocError, Global};
@@ -34,9 +35,12 @@ pub(crate) fn serial_counts(alloc: Global, encounter: &Encounter) -> Result<Coun
     Ok(counts_of(&state))
 }
 
+/// The most bytes of counts: four numbers, each with a comma or the end of the line behind it.
+const COUNTS_BYTES: usize = 4 * (U32_BYTES + 1);
+
 /// Adds counts, and the end of the line.
 pub(crate) fn add_counts(line: &mut Line, counts: &Counts)
-    requires { length line.old + 44 ≤ LINE_BYTES }
+    requires { length line.old + COUNTS_BYTES ≤ LINE_BYTES }
     ensures { line.new ≡ line.old ++ counts_text counts.now }
 {
     line.u32(counts.commits);

@@ -2,15 +2,19 @@
 ghost use Rattle.std.specs.Prelude.{◌≡◌, ◌++◌, ◌+◌, ◌≤◌, length};
 ghost use Rattle.acas_text.specs.declared.line.TheConstants.{LINE_BYTES};
 ghost use Rattle.acas_top.specs.Answers.{reason_text, verdict_line};
+ghost use Rattle.acas_top.specs.declared.verdict.TheConstants.{REASON_BYTES};
 
-use acas_text::Line;
+use acas_text::{Line, U16_BYTES};
 use rec_audit::{Reason, Verdict};
+
+// The most bytes of a reason: its number, and behind the first one a comma and a code.
+const REASON_BYTES: usize = 2 * U16_BYTES + 1;
 
 // Adds the number of a reason, and behind the first one the code of the refusal.
 fn add_reason(line: &mut Line, reason: Reason)
-    requires { length line.old + 20 ≤ LINE_BYTES }
+    requires { length line.old + REASON_BYTES ≤ LINE_BYTES }
     ensures added { line.new ≡ line.old ++ reason_text reason }
-    ensures short { length line.new ≤ length line.old + 20 }
+    ensures short { length line.new ≤ length line.old + REASON_BYTES }
 {
     match reason {
         Reason::Encounter(code) => {

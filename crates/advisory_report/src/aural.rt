@@ -38,7 +38,8 @@ pub enum Aural {
     Silent,
 }
 
-fn has_advice(composite: &Composite) -> bool
+/// Whether there is advice, up or down.
+pub fn has_advice(composite: &Composite) -> bool
     ensures { result ≡ has_advice composite.now }
 {
     composite.up.is_some() || composite.down.is_some()

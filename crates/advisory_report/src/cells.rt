@@ -22,7 +22,8 @@ fn add_flag(line: &mut Line, holds: bool, letter: &str)
     }
 }
 
-fn sense_letter(sense: Sense) -> &'static str
+/// The letter of a sense.
+pub fn sense_letter(sense: Sense) -> &'static str
     ensures text { result.now ≡ sense_letter sense }
     ensures short { length result.now ≤ 1 }
 {
@@ -62,7 +63,8 @@ fn add_advisory(line: &mut Line, advisory: &Intent)
 }
 
 /// Adds the text of a cell to a line: `-` where it is Clear, `t` where it is Traffic; else the sense, the strength, the age
-/// in cycles, and the letters `c` where the advisory is corrective, `x` where it is crossing, `r` where its sense was reversed.
+/// in cycles, and the letters `c` where the advisory is corrective, `x` where it is crossing, `r` where its sense was reversed
+/// geometrically.
 pub fn add_cell(line: &mut Line, cell: &Cell)
     requires { length line.old + CELL_BYTES ≤ LINE_BYTES }
     ensures added { line.new ≡ line.old ++ cell_text cell.now }

@@ -7,7 +7,7 @@ mod cells;
 mod composite;
 mod report;
 
-pub use aural::{Aural, aural_of};
-pub use cells::{CELL_BYTES, add_cell, strength_digit};
+pub use aural::{Aural, aural_of, has_advice};
+pub use cells::{CELL_BYTES, add_cell, sense_letter, strength_digit};
 pub use composite::{Composite, composite_of, shown};
 pub use report::line;

@@ -19,3 +19,4 @@ pub mod Alike
 pub mod WellFormed
 pub mod Usually
 pub mod Addresses
+pub mod Activity

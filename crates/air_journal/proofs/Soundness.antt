@@ -7,7 +7,7 @@ use Rattle.std.specs.Int.Count.{ones}
 use Rattle.std.proofs.lemmas.Bool.{cases_Bool, cases_lt}
 use Rattle.std.proofs.lemmas.List.Elements.{All-cons, All-get_or, All-head, All-nil, All-tail, All-take}
 use Rattle.std.proofs.lemmas.Option.{get_or_from_slice_get, slice_get_past, slice_get_within}
-use Rattle.acas_base.specs.Encounter.{AreCopies, IsCraft, IsEncounter, IsFate, IsPlan, Parts, is_active_kind}
+use Rattle.acas_base.specs.Encounter.{AreCopies, IsCraft, IsEncounter, IsFate, IsPlan, Parts, is_active_kind, is_ra_kind}
 use Rattle.acas_base.specs.Fates.{fate_by, fate_of, is_fate_of, is_plan_of, plain_fate, usual_fate}
 use Rattle.acas_base.specs.Ranges.{IsAddress}
 use Rattle.acas_base.specs.declared.advisory.ResMsg.{ResMsg}
@@ -17,7 +17,7 @@ use Rattle.acas_base.specs.declared.link.CopyPlan.{CopyPlan}
 use Rattle.acas_base.specs.declared.link.Fate.{Fate}
 use Rattle.acas_base.specs.declared.link.LinkPlan.{LinkPlan}
 use Rattle.air_journal.specs.Airs.{air_of}
-use Rattle.air_rules.specs.Air.{IsMessageOf, IsSound, copy_plan, is_active, is_ra, is_ra_kind}
+use Rattle.air_rules.specs.Air.{IsMessageOf, IsSound, copy_plan, is_active, is_ra}
 use Rattle.air_rules.specs.Journal.{Sent}
 use Rattle.craft_view.proofs.Resolving.{resolves-as-own, see-nothing, threatens}
 use Rattle.craft_view.specs.Sight.{other_craft}

@@ -29,7 +29,7 @@ mod takes;
 mod usual;
 
 pub use answers::{Commit, Sent, Took, TookThis};
-pub use crafts::rank;
+pub use crafts::{is_ra, rank};
 pub use entry_ref::EntryRef;
 pub use kept::Waiting;
 pub use laws::{air_law, alike_law, entries_law, sound_law};

@@ -1,5 +1,5 @@
 // What is kept of all aircraft and pairs.
-ghost use Rattle.std.specs.Prelude.{◌≡◌, ℕ, ◌+◌, ◌*◌, ◌<◌, ◌≤◌, List, [], ◌++◌, length, replicate, IfOk, Some};
+ghost use Rattle.std.specs.Prelude.{◌≡◌, ℕ, ◌+◌, ◌<◌, ◌≤◌, List, [], ◌++◌, length, replicate, IfOk, Some};
 ghost use Rattle.acas_base.specs.Fates.{copies_of};
 ghost use Rattle.acas_base.specs.declared.TheConstants.{CRAFTS};
 ghost use Rattle.air_journal.specs.Kept.{AfterCommit, AfterSend, AfterTake, IsBlank, RowIs, copies_from, link_at, made_at, no_link, nothing_made, queue_at, read_as, vrc_of, waiting_copy};
@@ -8,7 +8,7 @@ ghost use Rattle.res_message.specs.Words.{flip_word, read_word};
 
 use crate::kept::{Complement, Link, Made, Waiting};
 use crate::queue::Queue;
-use acas_base::{CRAFTS, Cell, Cells, CopyPlan, Fate, Vrc};
+use acas_base::{CRAFTS, Cell, Cells, CopyPlan, Fate, PAIRS, Vrc, pair_of};
 use res_message::{decode, flip, read_law};
 use std::alloc::{AllocError, Global};
 use std::marker::Model;
@@ -30,9 +30,6 @@ impl Model for Rows {
 
     ghost invariant = { λ t. AreTables (kept_in t.made.items t.links.items t.queues.items) };
 }
-
-/// How many ordered pairs there are.
-pub(crate) const PAIRS: usize = 256;
 
 fn new_made(alloc: Global) -> Result<Vec<Made>, AllocError>
     ensures { IfOk result (λ made. made.items ≡ replicate CRAFTS nothing_made) }
@@ -71,13 +68,6 @@ fn new_queues(alloc: Global) -> Result<Vec<Queue>, AllocError>
         queues.push(Queue::new(alloc)?)?;
     }
     Ok(queues)
-}
-
-/// The place of an ordered pair.
-pub(crate) fn pair_of(own: u8, other: u8) -> usize
-    ensures { result ≡ own * CRAFTS + other }
-{
-    usize::from(own) * CRAFTS + usize::from(other)
 }
 
 // A message on its way: its word, its complement, the position of its send, and how many commits its receiver has

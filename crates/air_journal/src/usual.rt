@@ -4,8 +4,7 @@ ghost use Rattle.acas_base.specs.Fates.{copies_of, fate_of};
 ghost use Rattle.acas_base.specs.declared.TheConstants.{CRAFTS};
 ghost use Rattle.air_journal.specs.Usual.{AreUnnamed, AreUsual};
 
-use crate::rows::{PAIRS, pair_of};
-use acas_base::{CRAFTS, Encounter, Fate};
+use acas_base::{CRAFTS, Encounter, Fate, PAIRS, pair_of};
 use std::alloc::{AllocError, Global};
 use std::marker::Model;
 

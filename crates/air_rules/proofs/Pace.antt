@@ -3,7 +3,7 @@ use Rattle.std.proofs.Common.{◌≡◌, ℕ, ◌+◌, ◌<◌, ◌≤◌, Bool,
 use Rattle.std.proofs.lemmas.Bool.{cond-false, cond-true, cond_both, and_parts, and_from, cases_Bool, not-true, not_from_false}
 use Rattle.std.specs.Option.{option_map_or}
 use Rattle.acas_base.specs.declared.craft.Kind.TheVariants as kinds
-use Rattle.acas_base.specs.Encounter.{is_active_kind}
+use Rattle.acas_base.specs.Encounter.{is_active_kind, is_ra_kind}
 use Rattle.acas_base.specs.Messages.{message_for}
 use Rattle.acas_base.specs.Senses.{sense_of}
 use Rattle.acas_base.specs.declared.advisory.Cell.{Cell}
@@ -18,7 +18,7 @@ use Rattle.air_rules.proofs.Legal.{allowed, earlier}
 use Rattle.air_rules.proofs.Positions.{chosen, sent-within, was-sent-more}
 use Rattle.air_rules.proofs.Running.{lasts, owed-message, owed-own, run-sense, run-step, starts, stays}
 use Rattle.air_rules.proofs.Settling.{take-tells}
-use Rattle.air_rules.specs.Air.{Air, IsMessageOf, IsSound, is_active, is_ra, is_ra_kind}
+use Rattle.air_rules.specs.Air.{Air, IsMessageOf, IsSound, is_active, is_ra}
 use Rattle.air_rules.specs.Journal.{Sent, WasSent, commits, count_of, entries_after, has_sent, is_commit_of, last_cell, sent_at}
 use Rattle.air_rules.specs.Owed.{may_owe, owed}
 use Rattle.air_rules.specs.Rules.{IsLegal}

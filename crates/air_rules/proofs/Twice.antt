@@ -24,7 +24,8 @@ use Rattle.air_rules.proofs.PlainLinks.{commit-forbids, plain-begins, rising-beg
 use Rattle.air_rules.proofs.Positions.{was-sent-more}
 use Rattle.air_rules.proofs.Running.{lasts, run-sense, run-step, run-within, sense-has, starts, stays}
 use Rattle.air_rules.proofs.Safety.{commit-clears}
-use Rattle.air_rules.specs.Air.{Air, IsSecond, IsSound, is_ra, is_ra_kind, rank_of}
+use Rattle.acas_base.specs.Encounter.{is_ra_kind}
+use Rattle.air_rules.specs.Air.{Air, IsSecond, IsSound, is_ra, rank_of}
 use Rattle.air_rules.specs.Journal.{Sent, WasSent, cell_at, commits, count_of, entries_after, has_sent, is_commit_of, last_cell, more, whole}
 use Rattle.air_rules.specs.Owed.{owed}
 use Rattle.air_rules.specs.Priority.{IsEqualTwiceAtMost, advises}

@@ -1,13 +1,12 @@
 -- The air as the rules of the journal see it.
 use Rattle.std.specs.Prelude.{◌≡◌, ◌≢◌, ℕ, ◌<◌, ◌≤◌, Bool, true, false, List, length, Option, Some, slice_get}
 use Rattle.std.specs.Option.{option_map_or}
-use Rattle.acas_base.specs.Encounter.{is_active_kind}
+use Rattle.acas_base.specs.Encounter.{is_active_kind, is_ra_kind}
 use Rattle.acas_base.specs.Next.{rank_by}
 use Rattle.acas_base.specs.declared.advisory.Rank.{Rank}
 use Rattle.acas_base.specs.declared.advisory.Rank.TheVariants.{Second, Free}
 use Rattle.acas_base.specs.declared.advisory.ResMsg.{ResMsg}
 use Rattle.acas_base.specs.declared.craft.Kind.{Kind}
-use Rattle.acas_base.specs.declared.craft.Kind.TheVariants.{Ra, Ta, Xpdr}
 use Rattle.acas_base.specs.declared.link.CopyPlan.{CopyPlan}
 use Rattle.acas_base.specs.declared.view.View.{View}
 use Rattle.air_rules.specs.Journal.{Sent}
@@ -24,11 +23,6 @@ pub record Air : Type 0 where
   pub word : ResMsg → ℕ  -- the word that is sent for a message
   pub read : ℕ → Option ResMsg  -- the message that a word reads as; none where it is spoilt
   pub flip : ℕ → ℕ → ℕ  -- a word with the bits flipped that a mask names
-
-abbrev pub is_ra_kind : Kind → Bool
-is_ra_kind Ra = true
-is_ra_kind Ta = false
-is_ra_kind Xpdr = false
 
 -- The aircraft gives resolution advisories, and takes part in coordination.
 abbrev pub is_ra : Air → ℕ → Bool

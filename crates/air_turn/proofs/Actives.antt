@@ -10,6 +10,7 @@ use native.Mathlib.Decide.{dec_le}
 use Rattle.acas_base.specs.Encounter.{IsEncounter, Parts, is_active as is_active_craft, is_active_kind, most_crafts}
 use Rattle.acas_base.specs.declared.TheConstants.{CRAFTS}
 use Rattle.acas_base.specs.declared.craft.CraftSpec.{CraftSpec}
+use Rattle.air_journal.proofs.Activity.{same-active}
 use Rattle.air_journal.specs.Airs.{air_of}
 use Rattle.air_rules.specs.Air.{is_active}
 use Rattle.craft_view.specs.Kept.{IsActive}
@@ -105,14 +106,6 @@ some-active e valid =
     let found = some-craft e.crafts valid.crafts.active in
     some-passes (is_active (air_of e)) 0 (length e.crafts) found.at (omega arith) (let within = slice_get_within e.crafts found.at found.craft found.there in omega arith)
     (ap (λ (o : Option CraftSpec). option_map_or is_active_kind (option_map (λ (craft : CraftSpec). craft.kind) o) false) found.there ∙ found.active)
-
--- To be active is the same in the air.
-same-active : (e : Parts) (own : ℕ) → option_map_or is_active_craft (slice_get e.crafts own) false ≡ is_active (air_of e) own
-same-active e own = by_craft (slice_get e.crafts own)
-  where
-    by_craft : (o : Option CraftSpec) → option_map_or is_active_craft o false ≡ option_map_or is_active_kind (option_map (λ (craft : CraftSpec). craft.kind) o) false
-    by_craft None = refl
-    by_craft (Some craft) = refl
 
 is-active : (e : Parts) (own : ℕ) → IsActive e own → is_active (air_of e) own ≡ true
 is-active e own active = sym (same-active e own) ∙ active

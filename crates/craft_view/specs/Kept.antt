@@ -1,7 +1,6 @@
 -- What an aircraft keeps from cycle to cycle.
-use Rattle.std.specs.Prelude.{◌≡◌, ℕ, ◌<◌, ◌≤◌, ◌==◌, if◌then◌else◌, false, IsTrue, List, slice_get, slice_index_or}
-use Rattle.std.specs.Option.{option_map_or}
-use Rattle.acas_base.specs.Encounter.{Parts, is_active}
+use Rattle.std.specs.Prelude.{◌≡◌, ℕ, ◌<◌, ◌≤◌, ◌==◌, if◌then◌else◌, IsTrue, List, slice_index_or}
+use Rattle.acas_base.specs.Encounter.{Parts, is_active_at}
 use Rattle.acas_base.specs.declared.TheConstants.{CRAFTS}
 use Rattle.acas_num.specs.declared.track.TrackState.{TrackState}
 use Rattle.craft_view.specs.Sight.{sight_of}
@@ -18,7 +17,7 @@ pub record Kept : Type 0 where
 
 -- The aircraft at an index is there, and advises.
 abbrev pub IsActive : Parts → ℕ → Type 0
-IsActive e own = IsTrue (option_map_or is_active (slice_get e.crafts own) false)
+IsActive e own = IsTrue (is_active_at e.crafts own)
 
 -- The tracks kept of the aircraft at an index.
 abbrev pub kept_of : Kept → ℕ → Tracks

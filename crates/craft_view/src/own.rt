@@ -7,7 +7,7 @@ ghost use Rattle.craft_view.specs.Sight.{sight_of};
 ghost use Rattle.flight.specs.Inside.{IsInside};
 ghost use Rattle.sens_table.specs.Levels.{IsLevel, IsTableRow};
 
-use acas_base::{CraftSpec, Encounter, Kind, Level, Row};
+use acas_base::{CraftSpec, Encounter, Kind, Level, Row, is_active_at};
 use flight::Places;
 use sens_table::level_of;
 
@@ -27,10 +27,7 @@ pub struct OwnAircraft {
 pub fn is_active(encounter: &Encounter, own: u8) -> bool
     ensures { IsTrue result ↔ IsActive encounter.now own }
 {
-    match encounter.crafts().get(usize::from(own)) {
-        Some(craft) => craft.is_active(),
-        None => false,
-    }
+    is_active_at(encounter.crafts(), own)
 }
 
 /// What own aircraft brings into its views in a cycle.

@@ -71,8 +71,8 @@ pub(crate) fn approach_of(motion: &Motion, row: &Row) -> Approach
 
 // The separations of all strengths.
 //
-// With its response, its sense and its strength known where it is compiled, a separation takes half the instructions: a
-// quarter less in a look of 16 aircraft of kind RA.
+// With its response, its sense and its strength known where it is compiled, a separation takes half the instructions. Without
+// this and the attribute of `in_sense`, serial runs of 16 and of 8 aircraft of kind RA take 12.6 and 6.6 per cent more.
 #[inline(always)]
 #[tactic(auto, unfolding(crate::specs::Separations::separations))]
 pub(crate) fn separations(motion: &Motion, approach: &Approach, response: Response) -> Seps

@@ -3,7 +3,7 @@
 use Rattle.std.specs.Prelude.{ℕ, ◌+◌, ◌*◌, ◌==◌, if◌then◌else◌, Bool, true, false, ℤ, pos, List, [], ◌∷◌, ◌++◌, map, filter, Option, Some, None, option_map, unwrap_or}
 use Rattle.std.specs.List.{flat_map, position, range_with_len}
 use Rattle.std.specs.Option.{option_and_then, option_to_list}
-use Rattle.acas_base.specs.Encounter.{Parts, encounter_of}
+use Rattle.acas_base.specs.Encounter.{Parts, encounter_of, usual_altitude_gains, usual_range_gains}
 use Rattle.acas_base.specs.declared.TheConstants.{CRAFTS}
 use Rattle.acas_base.specs.declared.craft.CraftSpec.{CraftSpec}
 use Rattle.acas_base.specs.declared.craft.Leg.{Leg}
@@ -114,7 +114,7 @@ fates_of (other ∷ earlier) = fates_of earlier
 
 -- The number of an ordered pair of aircraft: pairs are ordered by the first index and then by the second.
 abbrev pub pair_number : ℕ → ℕ → ℕ
-pair_number first second = CRAFTS * first + second
+pair_number first second = first * CRAFTS + second
 
 abbrev pub leg_group : Leg → ℕ
 leg_group leg = leg.craft
@@ -138,7 +138,7 @@ by_group group groups xs = flat_map (in_group group xs) (range_with_len 0 groups
 
 -- The gains of a text that gives none.
 abbrev pub usual_gains : TrackGains
-usual_gains = record { range = record { alpha = 683; beta = 256 }; altitude = record { alpha = 512; beta = 128 } }
+usual_gains = record { range = usual_range_gains; altitude = usual_altitude_gains }
 
 abbrev pub all_gains : List Record → TrackGains
 all_gains earlier = unwrap_or (gains_of earlier) usual_gains

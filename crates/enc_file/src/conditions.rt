@@ -1,14 +1,12 @@
 // What may be wrong with a record after those before it, and what it gives.
 ghost use Rattle.std.specs.Prelude.{◌≡◌};
-ghost use Rattle.std.specs.List.{list_any};
-ghost use Rattle.acas_base.specs.Encounter.{is_active};
-ghost use Rattle.enc_file.specs.Earlier.{fate_by, leg_by, miss_by, pair_number, plan_by};
+ghost use Rattle.enc_file.specs.Earlier.{fate_by, leg_by, miss_by, plan_by};
 ghost use Rattle.enc_file.specs.Faults.{are_masks_bad, has_ceiling, is_mask_bad};
 ghost use Rattle.enc_file.specs.Reading.{missing_after};
 
 use crate::record::{Copies, Course};
 use crate::refusal::Code;
-use acas_base::{CRAFTS, CopyPlan, CraftSpec, Fate, Leg, LinkPlan, Miss};
+use acas_base::{CopyPlan, CraftSpec, Fate, Leg, LinkPlan, Miss};
 
 // The most bits that a mask flips.
 const BITS: u32 = 3;
@@ -24,12 +22,6 @@ pub(crate) fn missing_after(count: u32) -> Code
     }
 }
 
-pub(crate) fn some_active(crafts: &[CraftSpec]) -> bool
-    ensures { result ≡ list_any is_active crafts.now }
-{
-    crafts.iter().any(CraftSpec::is_active)
-}
-
 pub(crate) fn has_ceiling(crafts: &[CraftSpec], craft: usize) -> bool
     ensures { result ≡ has_ceiling crafts.now craft }
 {
@@ -37,13 +29,6 @@ pub(crate) fn has_ceiling(crafts: &[CraftSpec], craft: usize) -> bool
         Some(craft) => craft.ceiling.is_some(),
         None => false,
     }
-}
-
-/// The number of an ordered pair of aircraft.
-pub(crate) fn pair_number(first: u8, second: u8) -> usize
-    ensures { result ≡ pair_number first second }
-{
-    CRAFTS * usize::from(first) + usize::from(second)
 }
 
 fn is_mask_bad(copy: CopyPlan) -> bool

@@ -10,15 +10,14 @@ ghost use Rattle.enc_file.specs.Tables.{Adds, AreGoing, Holds, IsHeld, Settles, 
 ghost use Rattle.enc_file.specs.WellRead.{IsOfFormat, IsSaid};
 ghost use Rattle.enc_file.specs.declared.record.Record.{Record};
 
-use crate::conditions::{
-    fate_by, has_ceiling, leg_by, miss_by, missing_after, plan_by, some_active,
-};
+use crate::conditions::{fate_by, has_ceiling, leg_by, miss_by, missing_after, plan_by};
 use crate::groups::Groups;
 use crate::record::{Addresses, Copies, Course, Record, Run, TrackGains};
 use crate::refusal::{Code, ReadError, Refusal};
 use crate::saying::{record_of, version_in};
 use acas_base::{
-    Address, CRAFTS, CraftSpec, Encounter, Fate, Gains, Leg, LinkPlan, Miss, most_crafts,
+    Address, CRAFTS, CraftSpec, Encounter, Fate, Leg, LinkPlan, Miss, USUAL_ALTITUDE_GAINS,
+    USUAL_RANGE_GAINS, most_crafts, some_active,
 };
 use csv::ByteRecord;
 use flight::inside;
@@ -26,14 +25,8 @@ use std::alloc::{AllocError, Global};
 
 // The gains of a text that gives none.
 const USUAL_GAINS: TrackGains = TrackGains {
-    range: Gains {
-        alpha: 683,
-        beta: 256,
-    },
-    altitude: Gains {
-        alpha: 512,
-        beta: 128,
-    },
+    range: USUAL_RANGE_GAINS,
+    altitude: USUAL_ALTITUDE_GAINS,
 };
 
 /// What the records so far give. The aircraft's and the pairs' records stand in groups, so that the next one is compared

@@ -13,7 +13,8 @@ use Rattle.enc_gen.proofs.Legs.{later-pair}
 use Rattle.enc_gen.proofs.Numbers.{number-small}
 use Rattle.enc_gen.specs.Draws.{next_state, number_below}
 use Rattle.enc_gen.specs.Making.{each, nothing}
-use Rattle.enc_gen.specs.Misses.{is_active_at, miss, misses, own_misses, pair_miss, some_miss}
+use Rattle.acas_base.specs.Encounter.{is_active_at}
+use Rattle.enc_gen.specs.Misses.{miss, misses, own_misses, pair_miss, some_miss}
 
 -- What is true of the miss that may be drawn.
 miss-all : (P : Miss → Type 0) (cycles own target s : ℕ) → ((t : ℕ) → All P (some_miss cycles own target t).items) → All P (miss cycles own target s).items

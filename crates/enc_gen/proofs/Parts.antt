@@ -5,7 +5,7 @@ use Rattle.std.specs.List.{flat_map}
 use Rattle.std.proofs.lemmas.Bool.Decides.{nat_tests}
 use Rattle.std.proofs.lemmas.Int.{ints}
 use Rattle.std.proofs.lemmas.List.{get_or-map, length-map}
-use Rattle.acas_base.specs.Encounter.{IsEncounter, IsVersion, encounter_of, most_crafts}
+use Rattle.acas_base.specs.Encounter.{IsEncounter, IsVersion, encounter_of, most_crafts, usual_altitude_gains, usual_range_gains}
 use Rattle.acas_base.specs.Ranges.{IsCycle}
 use Rattle.acas_base.specs.declared.craft.CraftSpec.{CraftSpec}
 use Rattle.acas_base.specs.declared.craft.Kind.TheVariants.{Ra}
@@ -110,7 +110,7 @@ pub record AreMade (number crafts cycles s t u v : ℕ) (ds dr ds2 : List Draft)
 -- They make up the encounter.
 pub parts-made : (number crafts cycles s t u v : ℕ) (ds dr ds2 : List Draft) (list one two : List CraftSpec) (legs : List Leg) (missed : List Miss) (fated : List Fate)
     → (version : ℕ) (plans : List LinkPlan) → AreMade number crafts cycles s t u v ds dr ds2 list one two legs missed fated → version ≡ version_of crafts → plans ≡ []
-    → encounter_of version cycles (pos 0) (record { alpha = 683; beta = 256 }) (record { alpha = 512; beta = 128 }) list legs missed plans fated ≡ generated number crafts cycles
+    → encounter_of version cycles (pos 0) usual_range_gains usual_altitude_gains list legs missed plans fated ≡ generated number crafts cycles
 unfolding generated
 parts-made number crafts cycles s t u v ds dr ds2 list one two legs missed fated version plans made first none =
     rw (first, none, made.fate.items, made.miss.state, made.miss.items, made.second, made.first, made.flown, made.listed, made.again, made.read, made.drawn.items, made.drawn.state, made.seeded) refl

@@ -1,19 +1,12 @@
 -- The fates of messages in a generated encounter.
-use Rattle.std.specs.Prelude.{ℕ, ◌+◌, ◌^◌, ◌==◌, ◌&&◌, Bool, true, false, not, if◌then◌else◌, List, length, slice_get}
+use Rattle.std.specs.Prelude.{ℕ, ◌+◌, ◌^◌, ◌==◌, ◌&&◌, Bool, false, not, if◌then◌else◌, List, length, slice_get}
 use Rattle.std.specs.Option.{option_map_or}
-use Rattle.acas_base.specs.Encounter.{no_copy}
+use Rattle.acas_base.specs.Encounter.{is_ra_kind, no_copy}
 use Rattle.acas_base.specs.declared.craft.CraftSpec.{CraftSpec}
-use Rattle.acas_base.specs.declared.craft.Kind.{Kind}
-use Rattle.acas_base.specs.declared.craft.Kind.TheVariants.{Ra, Ta, Xpdr}
 use Rattle.acas_base.specs.declared.link.CopyPlan.{CopyPlan}
 use Rattle.acas_base.specs.declared.link.Fate.{Fate}
 use Rattle.enc_gen.specs.Draws.{draw}
 use Rattle.enc_gen.specs.Making.{Made, each, nothing, one, only}
-
-abbrev pub is_ra_kind : Kind → Bool
-is_ra_kind Ra = true
-is_ra_kind Ta = false
-is_ra_kind Xpdr = false
 
 abbrev pub is_ra_at : List CraftSpec → ℕ → Bool
 is_ra_at crafts craft = option_map_or (λ (spec : CraftSpec). is_ra_kind spec.kind) (slice_get crafts craft) false

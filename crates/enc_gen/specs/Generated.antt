@@ -1,7 +1,7 @@
 -- The generated encounter of a number.
 use Rattle.std.specs.Prelude.{ℕ, nat_le, if◌then◌else◌, pos, [], map}
 use Rattle.std.specs.List.{flat_map}
-use Rattle.acas_base.specs.Encounter.{Parts, most_crafts}
+use Rattle.acas_base.specs.Encounter.{Parts, most_crafts, usual_altitude_gains, usual_range_gains}
 use Rattle.enc_gen.specs.Crafts.{draft, legs_of, spec_of}
 use Rattle.enc_gen.specs.Draws.{seed}
 use Rattle.enc_gen.specs.Fates.{fates}
@@ -28,8 +28,8 @@ generated number crafts cycles =
       version = version_of crafts;
       cycles = cycles;
       elevation = pos 0;
-      range = record { alpha = 683; beta = 256 };
-      altitude = record { alpha = 512; beta = 128 };
+      range = usual_range_gains;
+      altitude = usual_altitude_gains;
       crafts = list;
       legs = flat_map (legs_of cycles) drafts.items;
       misses = missed.items;

@@ -1,14 +1,10 @@
 -- The misses of a generated encounter.
-use Rattle.std.specs.Prelude.{ℕ, ◌+◌, ◌==◌, Bool, false, not, if◌then◌else◌, List, length, min, slice_get}
-use Rattle.std.specs.Option.{option_map_or}
-use Rattle.acas_base.specs.Encounter.{is_active}
+use Rattle.std.specs.Prelude.{ℕ, ◌+◌, ◌==◌, not, if◌then◌else◌, List, length, min}
+use Rattle.acas_base.specs.Encounter.{is_active_at}
 use Rattle.acas_base.specs.declared.craft.CraftSpec.{CraftSpec}
 use Rattle.acas_base.specs.declared.craft.Miss.{Miss}
 use Rattle.enc_gen.specs.Draws.{draw}
 use Rattle.enc_gen.specs.Making.{Made, each, nothing, one, only}
-
-abbrev pub is_active_at : List CraftSpec → ℕ → Bool
-is_active_at crafts craft = option_map_or is_active (slice_get crafts craft) false
 
 -- A miss within the run.
 abbrev pub some_miss : ℕ → ℕ → ℕ → ℕ → Made Miss

@@ -3,29 +3,20 @@ ghost use Rattle.std.specs.Prelude.{◌≡◌, ◌+◌, ◌^◌, ◌<◌, ◌≤
 ghost use Rattle.std.specs.Option.{option_to_list};
 ghost use Rattle.acas_base.specs.Ranges.{IsCycle};
 ghost use Rattle.enc_gen.specs.Draws.{draw};
-ghost use Rattle.enc_gen.specs.Fates.{fate, fate_by, fate_of, fates, is_link, is_ra_at, is_ra_kind, link_fates, own_fates};
+ghost use Rattle.enc_gen.specs.Fates.{fate, fate_by, fate_of, fates, is_link, is_ra_at, link_fates, own_fates};
 ghost use Rattle.enc_gen.specs.Making.{Makes, each};
 
 use crate::draws::Draws;
-use acas_base::{CopyPlan, CraftSpec, Fate, Kind};
+use acas_base::{CopyPlan, CraftSpec, Fate};
 use std::alloc::{AllocError, Global};
 
 const PLAIN: CopyPlan = CopyPlan { hold: 0, mask: 0 };
-
-fn is_ra(kind: Kind) -> bool
-    ensures { result ≡ is_ra_kind kind }
-{
-    match kind {
-        Kind::Ra => true,
-        Kind::Ta | Kind::Xpdr => false,
-    }
-}
 
 fn is_ra_at(crafts: &[CraftSpec], craft: u8) -> bool
     ensures { result ≡ is_ra_at crafts.now craft }
 {
     match crafts.get(usize::from(craft)) {
-        Some(spec) => is_ra(spec.kind),
+        Some(spec) => spec.kind.resolves(),
         None => false,
     }
 }

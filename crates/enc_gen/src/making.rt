@@ -11,18 +11,8 @@ use crate::crafts::{crafts_of, draw_drafts, legs_of};
 use crate::draws::Draws;
 use crate::fates::draw_fates;
 use crate::misses::draw_misses;
-use acas_base::{Encounter, Gains, most_crafts};
+use acas_base::{Encounter, USUAL_ALTITUDE_GAINS, USUAL_RANGE_GAINS, most_crafts};
 use std::alloc::{AllocError, Global};
-
-const RANGE: Gains = Gains {
-    alpha: 683,
-    beta: 256,
-};
-
-const ALTITUDE: Gains = Gains {
-    alpha: 512,
-    beta: 128,
-};
 
 // The version of the format: the first where it has room for so many aircraft.
 fn version_of(crafts: u8) -> u8
@@ -56,7 +46,16 @@ pub fn make(alloc: Global, number: u32, crafts: u8, cycles: u16) -> Result<Encou
     let plans = Vec::new(alloc);
     let version = version_of(crafts);
     match Encounter::make(
-        version, cycles, 0, RANGE, ALTITUDE, list, legs, misses, plans, fates,
+        version,
+        cycles,
+        0,
+        USUAL_RANGE_GAINS,
+        USUAL_ALTITUDE_GAINS,
+        list,
+        legs,
+        misses,
+        plans,
+        fates,
     ) {
         Some(encounter) => Ok(encounter),
         None => unreachable!(),

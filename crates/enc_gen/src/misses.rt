@@ -2,20 +2,11 @@
 ghost use Rattle.std.specs.Prelude.{◌≡◌, ◌<◌, ◌≤◌, ◌∷◌, [], IfOk, OnOk, length};
 ghost use Rattle.acas_base.specs.Ranges.{IsCycle};
 ghost use Rattle.enc_gen.specs.Making.{Makes};
-ghost use Rattle.enc_gen.specs.Misses.{is_active_at, misses, own_misses, pair_miss, some_miss};
+ghost use Rattle.enc_gen.specs.Misses.{misses, own_misses, pair_miss, some_miss};
 
 use crate::draws::Draws;
-use acas_base::{CraftSpec, Miss};
+use acas_base::{CraftSpec, Miss, is_active_at};
 use std::alloc::{AllocError, Global};
-
-fn is_active_at(crafts: &[CraftSpec], craft: u8) -> bool
-    ensures { result ≡ is_active_at crafts.now craft }
-{
-    match crafts.get(usize::from(craft)) {
-        Some(spec) => spec.is_active(),
-        None => false,
-    }
-}
 
 // A miss within the run.
 fn some_miss(draws: &mut Draws, cycles: u16, own: u8, target: u8) -> Miss

@@ -5,7 +5,7 @@ ghost use Rattle.acas_base.specs.Order.{IsRising, is_below, miss_below};
 ghost use Rattle.acas_base.specs.declared.craft.Miss.{Miss};
 ghost use Rattle.flight.specs.Measurement.{covers, is_missed, lasts_in, misses_in};
 
-use acas_base::{Encounter, Miss};
+use acas_base::{Encounter, Miss, Record};
 
 // Whether a record says that this own aircraft misses this target in a cycle.
 pub(crate) fn is_missed(encounter: &Encounter, own: u8, target: u8, cycle: u16) -> bool
@@ -40,8 +40,12 @@ fn count_over(misses: &[Miss], own: u8, target: u8, cycle: u16) -> usize
 fn is_over(miss: &Miss, own: u8, target: u8, cycle: u16) -> bool
     ensures { result ≡ is_below (miss.now.own, miss.now.target, miss.now.to) (own, target, cycle) }
 {
-    miss.own < own
-        || (miss.own == own && (miss.target < target || (miss.target == target && miss.to < cycle)))
+    miss.is_below(&Miss {
+        own,
+        target,
+        from: cycle,
+        to: cycle,
+    })
 }
 
 fn covers(miss: &Miss, own: u8, target: u8, cycle: u16) -> bool

@@ -1,10 +1,10 @@
 // What is kept of an aircraft against another one.
-ghost use Rattle.std.specs.Prelude.{◌≡◌, ◌*◌, ◌+◌, ◌<◌, length, replicate};
+ghost use Rattle.std.specs.Prelude.{◌≡◌, ◌<◌, length, replicate};
 ghost use Rattle.acas_base.specs.Senses.{has_sense, sense_of};
 ghost use Rattle.acas_base.specs.declared.TheConstants.{CRAFTS};
 ghost use Rattle.journal_reader.specs.Links.{PairIs, RowIs, no_link, run_after};
 
-use acas_base::{CRAFTS, Cell, Cells, Sense, Vrc};
+use acas_base::{CRAFTS, Cell, Cells, PAIRS, Sense, Vrc, pair_of};
 
 /// A take of an undamaged copy of another aircraft's message.
 #[derive(Clone, Copy, Debug, PartialEq, Eq)]
@@ -29,9 +29,6 @@ pub(crate) struct Link {
     pub bound: Option<GoodTake>,
 }
 
-/// How many ordered pairs there are.
-pub(crate) const PAIRS: usize = 256;
-
 /// No entry speaks of any pair yet.
 pub(crate) fn no_links() -> [Link; PAIRS]
     ensures { result ≡ replicate 256 no_link }
@@ -43,13 +40,6 @@ pub(crate) fn no_links() -> [Link; PAIRS]
         bound: None,
     };
     [link; PAIRS]
-}
-
-/// The place of an ordered pair.
-pub(crate) fn pair_of(own: u8, other: u8) -> usize
-    ensures { result ≡ own * CRAFTS + other }
-{
-    usize::from(own) * CRAFTS + usize::from(other)
 }
 
 /// The sense of a cell's advisory; none where it has none.

@@ -10,9 +10,9 @@ ghost use Rattle.air_rules.specs.Takes.{complement_from, last_take};
 ghost use Rattle.journal_reader.specs.Links.{IsKept};
 ghost use Rattle.journal_reader.specs.Reading.{Reading, next_entry, present_run, read_of, taken_at, taken_of};
 
-use crate::links::{GoodTake, Link, PAIRS, no_links, note_commit, note_take, pair_of};
+use crate::links::{GoodTake, Link, no_links, note_commit, note_take};
 use crate::taking::told_at;
-use acas_base::{CRAFTS, Cell, Vrc};
+use acas_base::{CRAFTS, Cell, PAIRS, Vrc, pair_of};
 use air_journal::{AirState, EntryRef};
 use std::marker::Model;
 

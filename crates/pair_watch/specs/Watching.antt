@@ -10,11 +10,11 @@ use Rattle.acas_base.specs.declared.advisory.Cell.{Cell}
 use Rattle.acas_base.specs.declared.advisory.Rank.{Rank}
 use Rattle.acas_base.specs.declared.advisory.Rank.TheVariants.{First, Second, Free}
 use Rattle.acas_base.specs.declared.advisory.Sense.{Sense}
-use Rattle.acas_base.specs.declared.advisory.Sense.TheVariants.{Up, Down}
 use Rattle.acas_base.specs.declared.entry.Entry.{Entry}
 use Rattle.acas_base.specs.declared.entry.Entry.TheVariants.{Commit, Send, Take}
 use Rattle.acas_lines.specs.Lines.{joined, line_of}
 use Rattle.acas_text.specs.Hex.{hex}
+use Rattle.advisory_report.specs.Cells.{sense_letter}
 use Rattle.air_journal.specs.Airs.{address_of, air_of}
 use Rattle.air_rules.specs.Air.{Air, rank_of}
 use Rattle.air_rules.specs.Journal.{before_last_commit, cell_at, is_commit_of, last_cell}
@@ -108,10 +108,6 @@ HasCells (Send own target number word) = Unit {0}
 HasCells (Take own send copy good) = Unit {0}
 
 -- ---- the text
-
-abbrev pub sense_letter : Sense → List ℕ
-sense_letter Up = codes "U"
-sense_letter Down = codes "D"
 
 abbrev pub cause_letter : Cause → List ℕ
 cause_letter Untold = codes "n"

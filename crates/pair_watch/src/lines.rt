@@ -1,7 +1,8 @@
 // The text of the intervals.
 ghost use Rattle.std.specs.Prelude.{◌≡◌, ◌+◌, ◌≤◌, ◌++◌, length};
 ghost use Rattle.acas_io.specs.Stream.{Puts};
-ghost use Rattle.pair_watch.specs.Watching.{cause_letter, count_line, interval_line, next_text, sense_letter, watch_text};
+ghost use Rattle.acas_text.specs.declared.line.TheConstants.{LINE_BYTES, U32_BYTES};
+ghost use Rattle.pair_watch.specs.Watching.{cause_letter, count_line, interval_line, next_text, watch_text};
 
 use crate::intervals::Intervals;
 use crate::pair::Cause;
@@ -9,6 +10,7 @@ use acas_base::{Address, Sense};
 use acas_io::{Failed, Sink};
 use acas_lines::{LineSink, Text, count_lines, write_text};
 use acas_text::Line;
+use advisory_report::sense_letter;
 use air_journal::AirState;
 
 /// An interval of equal senses: the sense, the positions of its first and last commit, its cause, and the position of the next
@@ -20,16 +22,6 @@ pub(crate) struct Interval {
     pub to: u32,
     pub cause: Cause,
     pub next: Option<u32>,
-}
-
-fn sense_letter(sense: Sense) -> &'static str
-    ensures text { result.now ≡ sense_letter sense }
-    ensures short { length result.now ≤ 1 }
-{
-    match sense {
-        Sense::Up => "U",
-        Sense::Down => "D",
-    }
 }
 
 fn cause_letter(cause: Cause) -> &'static str
@@ -44,9 +36,9 @@ fn cause_letter(cause: Cause) -> &'static str
 }
 
 fn add_next(line: &mut Line, next: Option<u32>)
-    requires { length line.old ≤ 100 }
+    requires { length line.old + U32_BYTES ≤ LINE_BYTES }
     ensures added { line.new ≡ line.old ++ next_text next }
-    ensures short { length line.new ≤ length line.old + 10 }
+    ensures short { length line.new ≤ length line.old + U32_BYTES }
 {
     match next {
         Some(position) => line.u32(position),

@@ -2,6 +2,7 @@
 use Rattle.std.specs.Prelude.{ℕ, zero, suc, ◌&&◌, ◌||◌, ◌==◌, Bool, true, false, if◌then◌else◌, List, [], ◌∷◌, Option, Some, None, codes, filter, length, option_and_then, option_map, option_to_list}
 use Rattle.std.specs.Fmt.{decimal}
 use Rattle.std.specs.List.{flat_map, list_any, range_with_len}
+use Rattle.acas_base.specs.Complements.{forbids}
 use Rattle.acas_base.specs.Encounter.{Parts}
 use Rattle.acas_base.specs.Messages.{has_advisory}
 use Rattle.acas_base.specs.Senses.{is_same_sense, other_sense}
@@ -10,11 +11,10 @@ use Rattle.acas_base.specs.declared.advisory.Cell.TheVariants.{Clear, Traffic, R
 use Rattle.acas_base.specs.declared.advisory.Cells.{Cells}
 use Rattle.acas_base.specs.declared.advisory.Intent.{Intent}
 use Rattle.acas_base.specs.declared.advisory.Sense.{Sense}
-use Rattle.acas_base.specs.declared.advisory.Sense.TheVariants.{Down}
+use Rattle.acas_base.specs.declared.advisory.Sense.TheVariants.{Up, Down}
 use Rattle.acas_base.specs.declared.advisory.Strength.{Strength}
 use Rattle.acas_base.specs.declared.advisory.Strength.TheVariants.{Limit2000, Limit1000, Limit500, Level, Positive, Increase}
 use Rattle.acas_base.specs.declared.advisory.Vrc.{Vrc}
-use Rattle.acas_base.specs.declared.advisory.Vrc.TheVariants.{Nil, NotBelow, NotAbove}
 use Rattle.acas_base.specs.declared.entry.Entry.{Entry}
 use Rattle.acas_base.specs.declared.entry.Entry.TheVariants.{Commit, Send, Take}
 use Rattle.acas_lines.specs.Lines.{joined, line_of}
@@ -129,15 +129,12 @@ abbrev pub some_below : (ℕ → Bool) → ℕ → Bool
 some_below test zero = false
 some_below test (suc n) = some_below test n || test n
 
+-- "Do not pass below", and "do not pass above".
 abbrev pub is_not_below : Vrc → Bool
-is_not_below Nil = false
-is_not_below NotBelow = true
-is_not_below NotAbove = false
+is_not_below vrc = forbids vrc Down
 
 abbrev pub is_not_above : Vrc → Bool
-is_not_above Nil = false
-is_not_above NotBelow = false
-is_not_above NotAbove = true
+is_not_above vrc = forbids vrc Up
 
 abbrev pub limited : Bool → Bool → RaBlock → RaBlock
 limited below above b = record { corrective = b.corrective; downward = b.downward; increased = b.increased; reversal = b.reversal; crossing = b.crossing; positive = b.positive; below = below; above = above; ended = b.ended; threat = b.threat }

@@ -4,7 +4,7 @@ ghost use Rattle.acas_base.specs.declared.TheConstants.{CRAFTS};
 ghost use Rattle.ra_report.specs.Blocks.{is_limited, is_not_above, is_not_below, limited};
 
 use crate::block::RaBlock;
-use acas_base::Vrc;
+use acas_base::Sense;
 use journal_reader::Reader;
 
 // The kinds of complements that are in force: "do not pass below" and "do not pass above".
@@ -12,24 +12,6 @@ use journal_reader::Reader;
 struct Limits {
     below: bool,
     above: bool,
-}
-
-fn is_not_below(vrc: Vrc) -> bool
-    ensures { result ≡ is_not_below vrc }
-{
-    match vrc {
-        Vrc::NotBelow => true,
-        Vrc::Nil | Vrc::NotAbove => false,
-    }
-}
-
-fn is_not_above(vrc: Vrc) -> bool
-    ensures { result ≡ is_not_above vrc }
-{
-    match vrc {
-        Vrc::NotAbove => true,
-        Vrc::Nil | Vrc::NotBelow => false,
-    }
 }
 
 // Those on an aircraft from the first so many aircraft, by the journal that was read.
@@ -44,8 +26,8 @@ fn limits_on(reader: &Reader<'_>, own: u8, count: u8) -> Limits
     let mut above = false;
     for other in 0..count {
         let vrc = reader.complement(own, other);
-        below = below || is_not_below(vrc);
-        above = above || is_not_above(vrc);
+        below = below || vrc.forbids(Sense::Down);
+        above = above || vrc.forbids(Sense::Up);
     }
     Limits { below, above }
 }

@@ -6,15 +6,15 @@ ghost use Rattle.air_journal.specs.Airs.{air_of};
 ghost use Rattle.air_journal.specs.Cells.{place_of};
 ghost use Rattle.air_journal.specs.EntryRefs.{entry_of};
 ghost use Rattle.air_journal.specs.Ranges.{IsEntry};
-ghost use Rattle.air_rules.specs.Air.{is_ra, is_ra_kind};
+ghost use Rattle.air_rules.specs.Air.{is_ra};
 ghost use Rattle.ra_report.specs.Blocks.{block_in};
 ghost use Rattle.ra_report.specs.Stories.{AreBlocks, AreStories, block_by, no_story};
 
 use crate::block::RaBlock;
 use crate::limits::with_limits;
 use crate::story::{Senses, Story};
-use acas_base::{CRAFTS, Cells, Encounter, Kind};
-use air_journal::{AirState, EntryRef};
+use acas_base::{CRAFTS, Cells, Encounter};
+use air_journal::{AirState, EntryRef, is_ra};
 use journal_reader::Reader;
 use std::marker::Model;
 
@@ -59,25 +59,6 @@ fn no_blocks() -> [Option<RaBlock>; PLACES]
     ensures { result ≡ replicate 9600 None }
 {
     [None; PLACES]
-}
-
-// The aircraft gives resolution advisories.
-fn is_ra(encounter: &Encounter, own: u8) -> bool
-    ensures { result ≡ is_ra (air_of encounter.now) own }
-{
-    match encounter.crafts().get(usize::from(own)) {
-        Some(craft) => resolves(craft.kind),
-        None => false,
-    }
-}
-
-fn resolves(kind: Kind) -> bool
-    ensures { result ≡ is_ra_kind kind }
-{
-    match kind {
-        Kind::Ra => true,
-        Kind::Ta | Kind::Xpdr => false,
-    }
 }
 
 // The block of a commit, which the aircraft's story already has, after the journal that was read.

@@ -5,7 +5,8 @@ use Rattle.std.specs.Option.{option_or}
 use Rattle.std.proofs.lemmas.Bool.{cond-false, cond-true}
 use Rattle.std.proofs.lemmas.Bool.Decides.{nat_tests}
 use Rattle.response.proofs.Numbers.{IsLater, first-kept, first-later, first-more, first-within, tested}
-use Rattle.response.specs.Flown.{Flight, after_cycle, changed, first_advised, flown_from, has_advice, motion_since, moved_twice, response_to}
+use Rattle.advisory_report.specs.Phrases.{has_advice}
+use Rattle.response.specs.Flown.{Flight, after_cycle, changed, first_advised, flown_from, motion_since, moved_twice, response_to}
 use Rattle.response.specs.Flying.{IsAdvised, IsMotion, begun, highest, motion_at, moved_on, responded}
 use Rattle.response.specs.declared.advice.Advised.{Advised}
 use Rattle.response.specs.declared.motion.Motion.{Motion}

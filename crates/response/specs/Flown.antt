@@ -1,6 +1,6 @@
 -- How an aircraft would have flown with the modelled response (this project's profile). Altitudes are in 1/2048 ft and rates in
 -- 1/1024 ft/s, so that in a half-second an altitude grows by the rate.
-use Rattle.std.specs.Prelude.{ℕ, zero, suc, ◌+◌, ◌-◌, ◌*◌, Bool, true, false, not, ◌&&◌, ◌||◌, if◌then◌else◌, nat_le, ℤ, pos, neg_ℤ, ◌+ℤ◌, ◌-ℤ◌, ◌*ℤ◌, List, find, Option, Some, None, is_some}
+use Rattle.std.specs.Prelude.{ℕ, zero, suc, ◌+◌, ◌-◌, ◌*◌, Bool, not, ◌&&◌, if◌then◌else◌, nat_le, ℤ, pos, neg_ℤ, ◌+ℤ◌, ◌-ℤ◌, ◌*ℤ◌, List, find, Option, Some, None}
 use Rattle.std.specs.Int.{int_div_euclid}
 use Rattle.std.specs.List.{range_with_len}
 use Rattle.acas_base.specs.Encounter.{Parts}
@@ -9,7 +9,8 @@ use Rattle.acas_base.specs.declared.advisory.Strength.{Strength}
 use Rattle.acas_base.specs.declared.craft.Leg.{Leg}
 use Rattle.acas_base.specs.declared.entry.Entry.{Entry}
 use Rattle.acas_num.specs.Clamp.{clamped}
-use Rattle.advisory_report.specs.Composite.{is_same_strength, shown}
+use Rattle.advisory_report.specs.Composite.{shown}
+use Rattle.advisory_report.specs.Phrases.{has_advice, is_same_advice}
 use Rattle.advisory_report.specs.declared.composite.Composite.{Composite}
 use Rattle.air_journal.specs.Airs.{air_of}
 use Rattle.air_journal.specs.Cells.{commit_cells}
@@ -28,22 +29,13 @@ pub record Flight : Type 0 where
 
 -- ---- advice
 
-abbrev pub has_advice : Composite → Bool
-has_advice composite = is_some composite.up || is_some composite.down
-
--- The advice of one sense is the same in two composites.
-abbrev pub is_same_side : Option Strength → Option Strength → Bool
-is_same_side None None = true
-is_same_side None (Some other) = false
-is_same_side (Some one) None = false
-is_same_side (Some one) (Some other) = is_same_strength one other
-
-abbrev pub is_same_advice : Composite → Composite → Bool
-is_same_advice one other = is_same_side one.up other.up && is_same_side one.down other.down
+-- Two composites advise the same.
+abbrev pub advise_same : Composite → Composite → Bool
+advise_same one other = is_same_advice one.up other.up && is_same_advice one.down other.down
 
 -- The advice of a cycle differs from that of the cycle before it.
 abbrev pub is_changed : Flight → ℕ → Bool
-is_changed flight cycle = not (is_same_advice (flight.shown (cycle - 1)) (flight.shown cycle))
+is_changed flight cycle = not (advise_same (flight.shown (cycle - 1)) (flight.shown cycle))
 
 -- The last cycle, up to this one, whose advice differs from that of the cycle before it; 0 where there is none.
 abbrev pub changed : Flight → ℕ → ℕ

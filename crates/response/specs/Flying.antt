@@ -2,9 +2,10 @@
 use Rattle.std.specs.Prelude.{◌≡◌, ℕ, ◌+◌, ◌-◌, ◌*◌, ◌<◌, ◌≤◌, ◌^◌, unsigned_abs, ℤ, if◌then◌else◌, List, Option, Some, None, IfSome, length, option_map}
 use Rattle.acas_base.specs.Encounter.{Parts}
 use Rattle.acas_base.specs.declared.entry.Entry.{Entry}
+use Rattle.advisory_report.specs.Phrases.{has_advice}
 use Rattle.advisory_report.specs.declared.composite.Composite.{Composite}
 use Rattle.flight.specs.Flight.{position}
-use Rattle.response.specs.Flown.{Flight, changed, first_advised, flight_of, has_advice, motion_since, moved_twice, response_to}
+use Rattle.response.specs.Flown.{Flight, changed, first_advised, flight_of, motion_since, moved_twice, response_to}
 use Rattle.response.specs.declared.advice.Advised.{Advised}
 use Rattle.response.specs.declared.motion.Motion.{Motion}
 

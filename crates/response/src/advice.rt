@@ -2,11 +2,10 @@
 ghost use Rattle.std.specs.Prelude.{◌≡◌, ℕ, ◌+◌};
 ghost use Rattle.advisory_report.specs.Composite.{clear};
 ghost use Rattle.craft_view.specs.Separations.{IsResponse};
-ghost use Rattle.response.specs.Flown.{Flight, going_back, has_advice, is_same_advice, is_same_side, response_to};
+ghost use Rattle.response.specs.Flown.{Flight, advise_same, going_back, response_to};
 ghost use Rattle.response.specs.Flying.{IsAdvised};
 
-use acas_base::Strength;
-use advisory_report::Composite;
+use advisory_report::{Composite, has_advice};
 use craft_view::{FIRST_RESPONSE, LATER_RESPONSE, Response};
 
 // Without advice the rate goes back at once.
@@ -15,28 +14,11 @@ const GOING_BACK: Response = Response {
     step: FIRST_RESPONSE.step,
 };
 
-pub(crate) fn has_advice(composite: &Composite) -> bool
-    ensures { result ≡ has_advice composite.now }
-{
-    composite.up.is_some() || composite.down.is_some()
-}
-
-fn is_same_side(one: Option<Strength>, other: Option<Strength>) -> bool
-    ensures { result ≡ is_same_side one other }
-{
-    match (one, other) {
-        (None, None) => true,
-        (None, Some(_)) => false,
-        (Some(_), None) => false,
-        (Some(one), Some(other)) => one.place() == other.place(),
-    }
-}
-
 // Whether two composites advise the same.
-pub(crate) fn is_same_advice(one: &Composite, other: &Composite) -> bool
-    ensures { result ≡ is_same_advice one.now other.now }
+pub(crate) fn advise_same(one: &Composite, other: &Composite) -> bool
+    ensures { result ≡ advise_same one.now other.now }
 {
-    is_same_side(one.up, other.up) && is_same_side(one.down, other.down)
+    one.up == other.up && one.down == other.down
 }
 
 // The response to what is shown now, by what was shown before the advice changed last.
@@ -78,7 +60,7 @@ impl Advised {
     pub fn with(&self, cycle: u16, now: Composite) -> Advised
         ensures { (flight : Flight) (n : ℕ) → IsAdvised flight n self.now → cycle ≡ n + 1 → now ≡ flight.shown cycle → IsAdvised flight cycle result }
     {
-        if is_same_advice(&self.shown, &now) {
+        if advise_same(&self.shown, &now) {
             return Advised {
                 shown: now,
                 changed: self.changed,

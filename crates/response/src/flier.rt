@@ -5,10 +5,10 @@ ghost use Rattle.flight.specs.Flight.{position};
 ghost use Rattle.response.specs.Flown.{altitude_units, first_advised, flown_from, rate_units};
 ghost use Rattle.response.specs.Flying.{IsMotion, begun, flight_in, flying, highest, moved_on, responded};
 
-use crate::advice::{Advised, has_advice, response_to};
+use crate::advice::{Advised, response_to};
 use crate::motion::Motion;
 use acas_num::floor_div;
-use advisory_report::{Composite, shown};
+use advisory_report::{Composite, has_advice, shown};
 use air_journal::AirState;
 use flight::position;
 use std::marker::Model;

@@ -1,31 +1,11 @@
 // How an aircraft flies with the modelled response.
 ghost use Rattle.std.specs.Prelude.{◌≡◌, ◌<◌, ◌≤◌, ◌^◌, unsigned_abs, length};
-ghost use Rattle.air_journal.specs.Airs.{air_of};
-ghost use Rattle.air_rules.specs.Air.{is_ra, is_ra_kind};
 ghost use Rattle.response.specs.Flown.{first_advised, flown, flown_from};
 ghost use Rattle.response.specs.Flying.{flight_in, flying};
 
 use crate::flier::{Flier, altitude_units};
-use acas_base::Kind;
-use air_journal::AirState;
+use air_journal::{AirState, is_ra};
 use flight::position;
-
-fn resolves(kind: Kind) -> bool
-    ensures { result ≡ is_ra_kind kind }
-{
-    match kind {
-        Kind::Ra => true,
-        Kind::Ta | Kind::Xpdr => false,
-    }
-}
-
-// Whether an aircraft gives resolution advisories.
-fn is_ra(state: &AirState, craft: u8) -> bool
-    requires { craft < length state.now.encounter.crafts }
-    ensures { result ≡ is_ra (air_of state.now.encounter) craft }
-{
-    resolves(state.enc().crafts()[usize::from(craft)].kind)
-}
 
 // The altitude of an aircraft that flies from cycle to cycle.
 fn after_cycles(state: &AirState, craft: u8, cycle: u16) -> i64
@@ -57,7 +37,7 @@ pub fn flown(state: &AirState, craft: u8, cycle: u16) -> i64
     ensures value { result ≡ flown state.now.encounter state.now.journal craft cycle }
     ensures bound { unsigned_abs result ≤ 2 ^ 30 }
 {
-    if is_ra(state, craft) {
+    if is_ra(state.enc(), craft) {
         return after_cycles(state, craft, cycle);
     }
     state.legal_law();

@@ -1,6 +1,6 @@
 use Rattle.std.proofs.Common.{◌≡◌, ◌∙◌, pos, sym, subst, Option, None}
 use Rattle.std.specs.Prelude.{IsSome}
-use Rattle.acas_base.specs.Encounter.{IsEncounter, Parts, encounter_of}
+use Rattle.acas_base.specs.Encounter.{IsEncounter, Parts, encounter_of, usual_altitude_gains, usual_range_gains}
 use Rattle.enc_gen.proofs.Parts.{made-inside, made-valid, parts-made}
 use Rattle.enc_gen.specs.Generated.{generated}
 use Rattle.flight.specs.Inside.{IsInside}
@@ -9,7 +9,7 @@ use Rattle.enc_gen.proofs.making.make.Goals.{After-make}
 
 -- The lists make up the encounter.
 whole : (c : After-make)
-    → encounter_of c.version_of-version.result c.args.cycles (pos 0) (record { alpha = 683; beta = 256 }) (record { alpha = 512; beta = 128 })
+    → encounter_of c.version_of-version.result c.args.cycles (pos 0) usual_range_gains usual_altitude_gains
     c.in_ok-list.list.items c.in_ok-legs.legs.items c.in_ok-misses.misses.items c.new-plans.result.items c.in_ok-fates.fates.items
     ≡ generated c.args.number c.args.crafts c.args.cycles
 whole c =

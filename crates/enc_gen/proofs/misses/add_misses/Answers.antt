@@ -1,7 +1,8 @@
 use Rattle.std.proofs.Common.{◌≡◌, ◌∙◌, sym, subst, arith, length, true, false, ℕ}
 use Rattle.enc_gen.proofs.Steps.{next-made, none-made, skip-made, where-made}
 use Rattle.enc_gen.specs.Making.{Makes, each}
-use Rattle.enc_gen.specs.Misses.{is_active_at, pair_miss}
+use Rattle.acas_base.specs.Encounter.{is_active_at}
+use Rattle.enc_gen.specs.Misses.{pair_miss}
 use Rattle.enc_gen.proofs.misses.add_misses.Goals as goal
 
 pub returns-then-not-is_active_at : goal.returns-then-not-is_active_at
