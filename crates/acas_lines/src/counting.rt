@@ -26,8 +26,8 @@ impl LineSink for LineCount {
     ghost then = { λ a b c xs ys g h. h ∙ ap (λ n. counted n ys) g ∙ counted-append a.lines xs ys };
 }
 
-/// How many lines a text has, where 32 bits can tell it, for a text that begins with that. It makes all lines, and takes
-/// no memory.
+/// How many lines a text has, where they are fewer than 2^32: a text that begins with their number asks for it before its
+/// first line. It makes all lines, and takes no memory.
 pub fn count_lines<T: Text>(text: &T) -> u32
     ensures { length (T.lines text.now) < 2 ^ 32 → result ≡ length (T.lines text.now) }
 {

@@ -5,13 +5,14 @@ ghost use Rattle.acas_top.specs.Statuses.{status_number};
 /// How a run ended.
 #[derive(Clone, Copy, Debug, PartialEq, Eq)]
 pub enum Status {
-    /// The whole output was written, and the input was read to its end.
+    /// The whole output was written, and the input was read to its end, where the command reads one.
     Done,
     /// The words are no command. Nothing was read or written.
     Usage,
     /// The input was read to its end, it is no encounter, and the line of the refusal was written.
     Refused,
-    /// The input was read to its end, it is no right recording, and the line that says so was written.
+    /// The input was read to its end, it is no right recording (for `resume`, no beginning of one), and the line that
+    /// says so was written.
     Wrong,
     /// A read failed. Nothing was written.
     ReadFault,

@@ -19,12 +19,12 @@ pub enum Tool {
     Why,
 }
 
-/// What runs an encounter in threads, one for each of its aircraft.
+/// What runs an encounter in threads, one for each of its active aircraft.
 #[derive(Clone, Copy, Debug, PartialEq, Eq)]
 pub enum Threaded {
     /// `play`: writes the recording of the run.
     Play,
-    /// `sum`: compares the run with the serial one, in two lines.
+    /// `sum`: writes how many commits the run has, and the counts of the serial run.
     Sum,
 }
 

@@ -144,7 +144,7 @@ fn starting_cell(view: &View, rac: Vrc) -> Cell
     }
 }
 
-/// Whether an advisory ends: own aircraft doesn't resolve any more, or the advisory is five cycles old and there is no
+/// Whether an advisory ends: own aircraft doesn't resolve any more, or the advisory is at least five cycles old and there is no
 /// threat.
 pub fn ends(prev: &Intent, view: &View) -> bool
     ensures { result ≡ ends prev.now view.now }
@@ -172,8 +172,8 @@ fn cell_after(prev: &Cell, view: &View, rac: Vrc, rank: Rank) -> Cell
 /// IV, 4.3; with the details of this project's profile).
 ///
 /// It follows from the cell before, the present view, the complement in force from the other one (`Nil`
-/// where none is) and the rank against it. A longest run has 600 cycles, so an advisory in it that goes
-/// on is younger.
+/// where none is) and the rank against it. An advisory before has to be younger than the 600 cycles of a
+/// longest run.
 ///
 /// - Without tracks it is Clear.
 /// - A threat begins an advisory. A complement in force binds its sense, whatever the rank; else the

@@ -21,7 +21,7 @@ pub enum Rule {
     Quiet,
     /// The advisory ends: own aircraft doesn't resolve any more.
     EndsBelowLevel,
-    /// The advisory ends: it is five cycles old, and there is no threat.
+    /// The advisory ends: it is at least five cycles old, and there is no threat.
     EndsWithoutThreat,
     /// The advisory changes its sense as the complement in force asks.
     Obeys,
@@ -31,7 +31,7 @@ pub enum Rule {
     Strengthens,
     /// The advisory keeps its strength.
     Keeps,
-    /// The advisory weakens to Level: it is five cycles old, and its sense has ALIM already.
+    /// The advisory weakens to Level: it is at least five cycles old, and its sense has ALIM already.
     Weakens,
     /// The advisory grows weaker: its strength isn't allowed any more.
     Capped,
