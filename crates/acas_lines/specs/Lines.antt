@@ -1,5 +1,6 @@
 -- Lines of a text.
 use Rattle.std.specs.Prelude.{ℕ, List, [], ◌∷◌, ◌++◌}
+use Rattle.std.specs.Fmt.{decimal}
 use Rattle.std.specs.List.{flat_map, join_with_byte}
 
 -- The text of lines, one after the other.
@@ -9,3 +10,7 @@ joined lines = flat_map (λ line. line) lines
 -- The line of some fields, each but the first after a comma, with its line feed.
 abbrev pub line_of : List (List ℕ) → List ℕ
 line_of fields = join_with_byte 44 fields ++ 10 ∷ []
+
+-- A word and how many there are, as a line.
+abbrev pub count_line : List ℕ → ℕ → List ℕ
+count_line word count = line_of (word ∷ decimal count ∷ [])

@@ -126,6 +126,69 @@ impl Line {
         self.add(piece.as_bytes());
     }
 
+    /// Adds a comma and a number as a plain decimal.
+    pub fn u16_field(&mut self, value: u16)
+        requires { length self.old + 1 + U16_BYTES ≤ LINE_BYTES }
+        ensures added { self.new ≡ self.old ++ 44 ∷ decimal value }
+        ensures short { length self.new ≤ length self.old + 1 + U16_BYTES }
+    {
+        self.push(b',');
+        self.u16(value);
+    }
+
+    /// Adds a comma and a number as a plain decimal.
+    pub fn u32_field(&mut self, value: u32)
+        requires { length self.old + 1 + U32_BYTES ≤ LINE_BYTES }
+        ensures added { self.new ≡ self.old ++ 44 ∷ decimal value }
+        ensures short { length self.new ≤ length self.old + 1 + U32_BYTES }
+    {
+        self.push(b',');
+        self.u32(value);
+    }
+
+    /// Adds a comma and a number as a plain decimal.
+    pub fn i32_field(&mut self, value: i32)
+        requires { length self.old + 1 + I32_BYTES ≤ LINE_BYTES }
+        ensures added { self.new ≡ self.old ++ 44 ∷ signed_decimal value }
+        ensures short { length self.new ≤ length self.old + 1 + I32_BYTES }
+    {
+        self.push(b',');
+        self.i32(value);
+    }
+
+    /// Adds a comma and the number of an address, in six hexadecimal digits 0-9A-F.
+    pub fn address_field(&mut self, value: u32)
+        requires fits { value < 2 ^ 24 }
+        requires room { length self.old + 1 + ADDRESS_BYTES ≤ LINE_BYTES }
+        ensures added { self.new ≡ self.old ++ 44 ∷ hex 6 value }
+        ensures short { length self.new ≤ length self.old + 1 + ADDRESS_BYTES }
+    {
+        self.push(b',');
+        self.address(value);
+    }
+
+    /// Adds a comma and a number in so many hexadecimal digits, as `hex` does.
+    pub fn hex_field(&mut self, value: u64, digits: u8)
+        requires few { digits ≤ 16 }
+        requires fits { value < 16 ^ digits }
+        requires room { length self.old + 1 + digits ≤ LINE_BYTES }
+        ensures added { self.new ≡ self.old ++ 44 ∷ hex digits value }
+        ensures longer { length self.new ≡ length self.old + 1 + digits }
+    {
+        self.push(b',');
+        self.hex(value, digits);
+    }
+
+    /// Adds a comma and a text.
+    pub fn text_field(&mut self, piece: &str)
+        requires { length self.old + 1 + length piece.now ≤ LINE_BYTES }
+        ensures added { self.new ≡ self.old ++ 44 ∷ piece.now }
+        ensures longer { length self.new ≡ length self.old + 1 + length piece.now }
+    {
+        self.push(b',');
+        self.text(piece);
+    }
+
     /// What was added, in order.
     pub fn bytes(&self) -> &[u8]
         ensures bytes { result.now ≡ self.now }

@@ -3,7 +3,7 @@ use Rattle.std.specs.Prelude.{◌≡◌, ℕ, List, ◌++◌, Err, codes}
 use Rattle.std.specs.Fmt.{decimal}
 use Rattle.acas_base.specs.Encounter.{Parts}
 use Rattle.acas_base.specs.declared.entry.Entry.{Entry}
-use Rattle.acas_lines.specs.Lines.{joined}
+use Rattle.acas_lines.specs.Lines.{count_line, joined}
 use Rattle.acas_top.specs.Counted.{AreSerial, counts_of}
 use Rattle.acas_top.specs.Summing.{summed_lines}
 use Rattle.acas_top.specs.declared.status.Status.{Status}
@@ -78,7 +78,7 @@ reason_text reason = decimal (reason_number reason)
 
 -- The line of a verdict.
 abbrev pub verdict_line : Verdict → List ℕ
-verdict_line (verdicts.Legal entries) = codes "legal," ++ decimal entries ++ codes "\n"
+verdict_line (verdicts.Legal entries) = count_line (codes "legal") entries
 verdict_line (verdicts.Wrong line reason) = codes "wrong," ++ decimal line ++ codes "," ++ reason_text reason ++ codes "\n"
 
 -- The bytes are the recording of a legal and complete journal, and the text tells how many entries it has.

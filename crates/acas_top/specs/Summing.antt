@@ -1,11 +1,11 @@
 -- The text of `sum`: the commits of a run in threads, and the counts of the serial run.
 use Rattle.std.specs.Prelude.{ℕ, List, [], ◌∷◌, ◌++◌, codes}
-use Rattle.std.specs.Fmt.{decimal}
+use Rattle.acas_lines.specs.Lines.{count_line}
 use Rattle.acas_top.specs.Counted.{counts_text}
 use Rattle.sweep.specs.declared.counts.Counts.{Counts}
 
 abbrev pub played_line : ℕ → List ℕ
-played_line commits = codes "play," ++ decimal commits ++ codes "\n"
+played_line commits = count_line (codes "play") commits
 
 abbrev pub serial_line : Counts → List ℕ
 serial_line counts = codes "serial," ++ counts_text counts

@@ -2,7 +2,7 @@
 use Rattle.std.specs.Prelude.{◌≡◌, ℕ, List, [], ◌∷◌, ◌++◌, length, map, slice_index_or, codes}
 use Rattle.std.specs.Fmt.{decimal}
 use Rattle.std.specs.List.{AllZip, range_with_len}
-use Rattle.acas_lines.specs.Lines.{joined}
+use Rattle.acas_lines.specs.Lines.{count_line, joined}
 use Rattle.acas_top.specs.Counted.{AreSerial, counts_text}
 use Rattle.enc_gen.specs.Generated.{generated}
 use Rattle.sweep.specs.Numbers.{number_at, numbers}
@@ -21,7 +21,7 @@ HasCounted sizes number counts = AreSerial (generated number sizes.crafts sizes.
 -- ---- the text
 
 abbrev pub sweep_count_line : ℕ → List ℕ
-sweep_count_line count = codes "sweep," ++ decimal count ++ codes "\n"
+sweep_count_line count = count_line (codes "sweep") count
 
 abbrev pub number_line : ℕ → Counts → List ℕ
 number_line number counts = codes "e," ++ decimal number ++ codes "," ++ counts_text counts

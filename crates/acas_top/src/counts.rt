@@ -44,11 +44,8 @@ pub(crate) fn add_counts(line: &mut Line, counts: &Counts)
     ensures { line.new ≡ line.old ++ counts_text counts.now }
 {
     line.u32(counts.commits);
-    line.text(",");
-    line.u32(counts.sends);
-    line.text(",");
-    line.u32(counts.takes);
-    line.text(",");
-    line.u32(counts.lines);
+    line.u32_field(counts.sends);
+    line.u32_field(counts.takes);
+    line.u32_field(counts.lines);
     line.text("\n");
 }

@@ -9,10 +9,9 @@ pub(crate) fn refusal_line(at: u32, code: u8) -> Line
     ensures { result ≡ refused_line at code }
 {
     let mut line = Line::new();
-    line.text("refused,");
-    line.u32(at);
-    line.text(",");
-    line.u16(u16::from(code));
+    line.text("refused");
+    line.u32_field(at);
+    line.u16_field(u16::from(code));
     line.text("\n");
     line
 }

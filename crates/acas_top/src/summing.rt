@@ -1,21 +1,11 @@
 // The text of `sum`.
 ghost use Rattle.std.specs.Prelude.{◌≡◌};
-ghost use Rattle.acas_top.specs.Summing.{played_line, serial_line, summed_lines};
+ghost use Rattle.acas_top.specs.Summing.{serial_line, summed_lines};
 
 use crate::counts::add_counts;
-use acas_lines::LineSink;
+use acas_lines::{LineSink, count_line};
 use acas_text::Line;
 use sweep::Counts;
-
-fn played_line(commits: u32) -> Line
-    ensures { result ≡ played_line commits }
-{
-    let mut line = Line::new();
-    line.text("play,");
-    line.u32(commits);
-    line.text("\n");
-    line
-}
 
 fn serial_line(counts: &Counts) -> Line
     ensures { result ≡ serial_line counts.now }
@@ -30,6 +20,6 @@ fn serial_line(counts: &Counts) -> Line
 pub(crate) fn put_summed<S: LineSink>(commits: u32, counts: &Counts, sink: &mut S)
     ensures { S.took sink.old sink.new (summed_lines commits counts.now) }
 {
-    sink.line(&played_line(commits));
+    sink.line(&count_line("play", commits));
     sink.line(&serial_line(counts));
 }

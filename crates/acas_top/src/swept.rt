@@ -1,29 +1,19 @@
 // The text of a sweep.
 ghost use Rattle.std.specs.Prelude.{◌≡◌, ◌++◌, ◌∷◌, []};
-ghost use Rattle.acas_top.specs.Sweeping.{number_line, number_lines, sweep_count_line, total_line};
+ghost use Rattle.acas_top.specs.Sweeping.{number_line, number_lines, total_line};
 
 use crate::counts::add_counts;
 use crate::sweeping::Swept;
-use acas_lines::{LineSink, Text};
+use acas_lines::{LineSink, Text, count_line};
 use acas_text::Line;
 use sweep::Counts;
-
-fn count_line(count: u16) -> Line
-    ensures { result ≡ sweep_count_line count }
-{
-    let mut line = Line::new();
-    line.text("sweep,");
-    line.u16(count);
-    line.text("\n");
-    line
-}
 
 fn number_line(number: u32, counts: &Counts) -> Line
     ensures { result ≡ number_line number counts.now }
 {
     let mut line = Line::new();
-    line.text("e,");
-    line.u32(number);
+    line.text("e");
+    line.u32_field(number);
     line.text(",");
     add_counts(&mut line, counts);
     line
@@ -55,7 +45,7 @@ impl Text for Swept {
     ghost lines = { λ swept. swept_lines swept.first swept.count swept.list.items swept.total };
 
     fn put<S: LineSink>(&self, sink: &mut S) {
-        sink.line(&count_line(self.count));
+        sink.line(&count_line("sweep", u32::from(self.count)));
         put_numbers(self.first, &self.list, sink);
         sink.line(&total_line(&self.total));
     }

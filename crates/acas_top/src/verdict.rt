@@ -4,6 +4,7 @@ ghost use Rattle.acas_text.specs.declared.line.TheConstants.{LINE_BYTES};
 ghost use Rattle.acas_top.specs.Answers.{reason_text, verdict_line};
 ghost use Rattle.acas_top.specs.declared.verdict.TheConstants.{REASON_BYTES};
 
+use acas_lines::count_line;
 use acas_text::{Line, U16_BYTES};
 use rec_audit::{Reason, Verdict};
 
@@ -29,20 +30,10 @@ fn wrong_line(number: u32, reason: Reason) -> Line
     ensures { result ≡ verdict_line (Verdict.Wrong number reason) }
 {
     let mut line = Line::new();
-    line.text("wrong,");
-    line.u32(number);
+    line.text("wrong");
+    line.u32_field(number);
     line.text(",");
     add_reason(&mut line, reason);
-    line.text("\n");
-    line
-}
-
-fn legal_line(entries: u32) -> Line
-    ensures { result ≡ verdict_line (Verdict.Legal entries) }
-{
-    let mut line = Line::new();
-    line.text("legal,");
-    line.u32(entries);
     line.text("\n");
     line
 }
@@ -52,7 +43,7 @@ pub(crate) fn verdict_line(verdict: Verdict) -> Line
     ensures { result ≡ verdict_line verdict }
 {
     match verdict {
-        Verdict::Legal(entries) => legal_line(entries),
+        Verdict::Legal(entries) => count_line("legal", entries),
         Verdict::Wrong(number, reason) => wrong_line(number, reason),
     }
 }

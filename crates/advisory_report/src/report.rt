@@ -27,14 +27,11 @@ fn line_text(cycle: u16, own: Address, before: &Composite, after: &Composite) ->
     ensures { result ≡ line_text cycle own before.now after.now }
 {
     let mut line = Line::new();
-    line.text("r,");
-    line.u16(cycle);
-    line.text(",");
-    line.address(own.value());
-    line.text(",");
-    line.text(word(after));
-    line.text(",");
-    line.text(phrase(aural_of(before, after)));
+    line.text("r");
+    line.u16_field(cycle);
+    line.address_field(own.value());
+    line.text_field(word(after));
+    line.text_field(phrase(aural_of(before, after)));
     line.text("\n");
     line
 }

@@ -1,5 +1,5 @@
 -- The active aircraft of an encounter.
-use Rattle.std.proofs.Common.{◌≡◌, ℕ, zero, suc, ◌+◌, ◌-◌, ◌<◌, ◌≤◌, Bool, true, false, ◌||◌, List, [], ◌∷◌, ◌++◌, filter, length, Option, Some, None, refl, ap, sym, ◌∙◌, inl, inr, arith, append_assoc, append-nil, lt_of_not-le, le_refl, true≢false}
+use Rattle.std.proofs.Common.{◌≡◌, ℕ, zero, suc, ◌+◌, ◌-◌, ◌<◌, ◌≤◌, Bool, true, false, ◌||◌, List, [], ◌∷◌, ◌++◌, filter, length, Option, Some, refl, ap, sym, ◌∙◌, inl, inr, arith, append_assoc, append-nil, lt_of_not-le, le_refl, true≢false}
 use Rattle.std.specs.Prelude.{IsTrue, ◌==◌, if◌then◌else◌, option_map, slice_get}
 use Rattle.std.specs.List.{list_any, range_with_len}
 use Rattle.std.specs.Option.{option_map_or}

@@ -5,7 +5,7 @@ use Rattle.acas_base.specs.declared.entry.Entry.{Entry}
 use Rattle.air_journal.specs.Airs.{air_of}
 use Rattle.air_rules.specs.Journal.{commits}
 use Rattle.air_rules.specs.Rules.{IsComplete, IsDone, IsLegal}
-use Rattle.air_turn.specs.Seats.{FrontsFit, IsSameSeat, SeatState, SharedAir, active_of, owns_of}
+use Rattle.air_turn.specs.Seats.{FrontsFit, IsSameSeat, SeatState, active_of, owns_of}
 use Rattle.atomic_table.specs.Seated.{TableId}
 use Rattle.craft_view.specs.Kept.{Belongs}
 use Rattle.craft_view.specs.Views.{picture_of}

@@ -12,7 +12,7 @@ use Rattle.acas_base.specs.declared.advisory.Rank.TheVariants.{First, Second, Fr
 use Rattle.acas_base.specs.declared.advisory.Sense.{Sense}
 use Rattle.acas_base.specs.declared.entry.Entry.{Entry}
 use Rattle.acas_base.specs.declared.entry.Entry.TheVariants.{Commit, Send, Take}
-use Rattle.acas_lines.specs.Lines.{joined, line_of}
+use Rattle.acas_lines.specs.Lines.{count_line, joined, line_of}
 use Rattle.acas_text.specs.Hex.{hex}
 use Rattle.advisory_report.specs.Cells.{sense_letter}
 use Rattle.air_journal.specs.Airs.{address_of, air_of}
@@ -148,11 +148,8 @@ begun_lines e journal (entry ∷ earlier) = begun_lines e journal earlier ++ lin
 abbrev pub interval_lines : Parts → List Entry → List (List ℕ)
 interval_lines e journal = begun_lines e journal journal
 
-abbrev pub count_line : ℕ → List ℕ
-count_line count = line_of (codes "watch" ∷ decimal count ∷ [])
-
 abbrev pub watch_lines : Parts → List Entry → List (List ℕ)
-watch_lines e journal = count_line (length (interval_lines e journal)) ∷ interval_lines e journal
+watch_lines e journal = count_line (codes "watch") (length (interval_lines e journal)) ∷ interval_lines e journal
 
 abbrev pub watch_text : Parts → List Entry → List ℕ
 watch_text e journal = joined (watch_lines e journal)

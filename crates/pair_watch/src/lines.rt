@@ -2,13 +2,13 @@
 ghost use Rattle.std.specs.Prelude.{◌≡◌, ◌+◌, ◌≤◌, ◌++◌, length};
 ghost use Rattle.acas_io.specs.Stream.{Puts};
 ghost use Rattle.acas_text.specs.declared.line.TheConstants.{LINE_BYTES, U32_BYTES};
-ghost use Rattle.pair_watch.specs.Watching.{cause_letter, count_line, interval_line, next_text, watch_text};
+ghost use Rattle.pair_watch.specs.Watching.{cause_letter, interval_line, next_text, watch_text};
 
 use crate::intervals::Intervals;
 use crate::pair::Cause;
 use acas_base::{Address, Sense};
 use acas_io::{Failed, Sink};
-use acas_lines::{LineSink, Text, count_lines, write_text};
+use acas_lines::{LineSink, Text, count_line, count_lines, write_text};
 use acas_text::Line;
 use advisory_report::sense_letter;
 use air_journal::AirState;
@@ -51,30 +51,15 @@ pub(crate) fn interval_line(low: Address, high: Address, it: &Interval) -> Line
     ensures { result ≡ interval_line low high it.now.sense it.now.from it.now.to it.now.cause it.now.next }
 {
     let mut line = Line::new();
-    line.text("w,");
-    line.address(low.value());
-    line.text(",");
-    line.address(high.value());
-    line.text(",");
-    line.text(sense_letter(it.sense));
-    line.text(",");
-    line.u32(it.from);
-    line.text(",");
-    line.u32(it.to);
-    line.text(",");
-    line.text(cause_letter(it.cause));
+    line.text("w");
+    line.address_field(low.value());
+    line.address_field(high.value());
+    line.text_field(sense_letter(it.sense));
+    line.u32_field(it.from);
+    line.u32_field(it.to);
+    line.text_field(cause_letter(it.cause));
     line.text(",");
     add_next(&mut line, it.next);
-    line.text("\n");
-    line
-}
-
-fn count_line(count: u32) -> Line
-    ensures { result ≡ count_line count }
-{
-    let mut line = Line::new();
-    line.text("watch,");
-    line.u32(count);
     line.text("\n");
     line
 }
@@ -92,7 +77,7 @@ impl Text for Watch<'_> {
     fn put<S: LineSink>(&self, sink: &mut S) {
         self.0.legal_law();
         let intervals = Intervals(self.0);
-        sink.line(&count_line(count_lines(&intervals)));
+        sink.line(&count_line("watch", count_lines(&intervals)));
         intervals.put(sink);
     }
 }

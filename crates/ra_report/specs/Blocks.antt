@@ -17,7 +17,7 @@ use Rattle.acas_base.specs.declared.advisory.Strength.TheVariants.{Limit2000, Li
 use Rattle.acas_base.specs.declared.advisory.Vrc.{Vrc}
 use Rattle.acas_base.specs.declared.entry.Entry.{Entry}
 use Rattle.acas_base.specs.declared.entry.Entry.TheVariants.{Commit, Send, Take}
-use Rattle.acas_lines.specs.Lines.{joined, line_of}
+use Rattle.acas_lines.specs.Lines.{count_line, joined, line_of}
 use Rattle.acas_text.specs.Hex.{hex}
 use Rattle.air_journal.specs.Airs.{address_of, air_of}
 use Rattle.air_rules.specs.Air.{is_ra}
@@ -174,11 +174,8 @@ lines_in e journal cycle = flat_map (lines_of e journal cycle) (range_with_len 0
 unfoldable pub block_lines : Parts → List Entry → List (List ℕ)
 block_lines e journal = flat_map (lines_in e journal) (range_with_len 1 e.cycles)
 
-abbrev pub count_line : ℕ → List ℕ
-count_line count = line_of (codes "blocks" ∷ decimal count ∷ [])
-
 abbrev pub report_lines : Parts → List Entry → List (List ℕ)
-report_lines e journal = count_line (length (block_lines e journal)) ∷ block_lines e journal
+report_lines e journal = count_line (codes "blocks") (length (block_lines e journal)) ∷ block_lines e journal
 
 abbrev pub report_text : Parts → List Entry → List ℕ
 report_text e journal = joined (report_lines e journal)

@@ -2,13 +2,13 @@
 ghost use Rattle.std.specs.Prelude.{◌≡◌, ◌<◌, ◌≤◌, ◌^◌, length};
 ghost use Rattle.acas_base.specs.Ranges.{IsCycle};
 ghost use Rattle.acas_io.specs.Stream.{Puts};
-ghost use Rattle.ra_report.specs.Blocks.{block_line, block_lines, count_line, lines_in, report_text};
+ghost use Rattle.ra_report.specs.Blocks.{block_line, block_lines, lines_in, report_text};
 
 use crate::block::{RaBlock, encode};
 use crate::table::Table;
 use acas_base::Address;
 use acas_io::{Failed, Sink};
-use acas_lines::{LineSink, Text, count_lines, write_text};
+use acas_lines::{LineSink, Text, count_line, count_lines, write_text};
 use acas_text::Line;
 use air_journal::AirState;
 
@@ -19,22 +19,10 @@ fn block_line(cycle: u16, address: Address, block: &RaBlock) -> Line
     ensures { result ≡ block_line cycle address block.now }
 {
     let mut line = Line::new();
-    line.text("b,");
-    line.u16(cycle);
-    line.text(",");
-    line.address(address.value());
-    line.text(",");
-    line.hex(encode(block), WORD_DIGITS);
-    line.text("\n");
-    line
-}
-
-fn count_line(count: u32) -> Line
-    ensures { result ≡ count_line count }
-{
-    let mut line = Line::new();
-    line.text("blocks,");
-    line.u32(count);
+    line.text("b");
+    line.u16_field(cycle);
+    line.address_field(address.value());
+    line.hex_field(encode(block), WORD_DIGITS);
     line.text("\n");
     line
 }
@@ -77,7 +65,7 @@ impl Text for Reports<'_> {
     fn put<S: LineSink>(&self, sink: &mut S) {
         self.0.legal_law();
         let table = Table::new(self.0);
-        sink.line(&count_line(count_lines(&table)));
+        sink.line(&count_line("blocks", count_lines(&table)));
         table.put(sink);
     }
 }

@@ -9,7 +9,7 @@ use Rattle.acas_base.specs.declared.advisory.Vrc.{Vrc}
 use Rattle.acas_base.specs.declared.advisory.Vrc.TheVariants.{Nil, NotBelow, NotAbove}
 use Rattle.acas_base.specs.declared.entry.Entry.{Entry}
 use Rattle.acas_base.specs.declared.entry.Entry.TheVariants.{Commit, Send, Take}
-use Rattle.acas_lines.specs.Lines.{joined, line_of}
+use Rattle.acas_lines.specs.Lines.{count_line, joined}
 use Rattle.air_journal.specs.Airs.{address_of, air_of}
 use Rattle.air_rules.specs.Air.{Air}
 use Rattle.air_rules.specs.Journal.{cell_at, commits, last_cell}
@@ -71,7 +71,7 @@ reason_rows e (entry ∷ earlier) = reason_rows e earlier ++ entry_rows e earlie
 
 -- How many lines follow that with the names of the columns.
 abbrev pub head_line : Parts → List Entry → List ℕ
-head_line e journal = line_of (codes "why" ∷ decimal (length (reason_rows e journal)) ∷ [])
+head_line e journal = count_line (codes "why") (length (reason_rows e journal))
 
 -- The head, the names of the columns, and the lines.
 abbrev pub reasons_text : Parts → List Entry → List ℕ

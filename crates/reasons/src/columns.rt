@@ -12,9 +12,7 @@ ghost use Rattle.reasons.specs.Columns.{advised_fields, best_fields, chosen_fiel
 ghost use Rattle.reasons.specs.Fields.{if_any, tenths, with_field, with_fields};
 ghost use Rattle.sens_table.specs.Levels.{IsTableRow};
 
-use crate::fields::{
-    add_address, add_i32, add_mark, add_tenths, add_tenths_a_minute, add_text, add_u16, add_u32,
-};
+use crate::fields::{add_mark, add_tenths, add_tenths_a_minute};
 use crate::rules::Rule;
 use crate::seconds::{altitude_seconds, range_seconds};
 use crate::told::Told;
@@ -54,10 +52,10 @@ pub(crate) fn add_named(line: &mut Line, cycle: u16, own: Address, other: Addres
     ensures added { line.new ≡ with_fields line.old (named_fields cycle own other rank) }
     ensures short { length line.new ≤ length line.old + 27 }
 {
-    add_u16(line, cycle);
-    add_address(line, own.value());
-    add_address(line, other.value());
-    add_text(line, rank_text(rank));
+    line.u16_field(cycle);
+    line.address_field(own.value());
+    line.address_field(other.value());
+    line.text_field(rank_text(rank));
 }
 
 /// Adds what was measured of the other aircraft.
@@ -69,8 +67,8 @@ pub(crate) fn add_reply(line: &mut Line, reply: Option<Meas>)
     match reply {
         None => add_nothing(line, ",,"),
         Some(meas) => {
-            add_u32(line, meas.range);
-            add_i32(line, meas.alt);
+            line.u32_field(meas.range);
+            line.i32_field(meas.alt);
         }
     }
 }
@@ -81,9 +79,9 @@ pub(crate) fn add_own(line: &mut Line, altitude: i32, own: &OwnAircraft, level: 
     ensures added { line.new ≡ with_fields line.old (own_fields altitude own.now level) }
     ensures short { length line.new ≤ length line.old + 32 }
 {
-    add_i32(line, altitude);
-    add_i32(line, own.height);
-    add_u16(line, u16::from(level));
+    line.i32_field(altitude);
+    line.i32_field(own.height);
+    line.u16_field(u16::from(level));
     add_mark(line, own.climbs);
 }
 
@@ -140,7 +138,7 @@ fn add_seconds(line: &mut Line, seconds: Option<u64>)
 {
     match seconds {
         None => line.text(","),
-        Some(seconds) => add_u32(line, seconds as u32),
+        Some(seconds) => line.u32_field(seconds as u32),
     }
 }
 
@@ -183,7 +181,7 @@ fn add_tau(line: &mut Line, row: &Row)
     ensures added { line.new ≡ with_field line.old (tau_text row.now) }
     ensures short { length line.new ≤ length line.old + 6 }
 {
-    add_u16(line, row.tau.unsigned_abs() as u16);
+    line.u16_field(row.tau.unsigned_abs() as u16);
 }
 
 // Adds the tau of a row, where there is one.
@@ -256,7 +254,7 @@ fn add_best(line: &mut Line, view: &View, sense: Sense)
     ensures short { length line.new ≤ length line.old + 20 }
 {
     let strength = strongest(view, sense, true);
-    add_text(line, strength_digit(strength));
+    line.text_field(strength_digit(strength));
     add_separation(line, view, sense, strength, true);
 }
 
@@ -267,9 +265,9 @@ fn add_projection(line: &mut Line, view: &View)
     ensures added { line.new ≡ with_fields line.old (projected_fields view.now) }
     ensures short { length line.new ≤ length line.old + 57 }
 {
-    add_u16(line, view.halves);
-    add_u16(line, (view.alim.unsigned_abs() / 1_024) as u16);
-    add_text(line, sense_text(view.side));
+    line.u16_field(view.halves);
+    line.u16_field((view.alim.unsigned_abs() / 1_024) as u16);
+    line.text_field(sense_text(view.side));
     add_best(line, view, Sense::Up);
     add_best(line, view, Sense::Down);
 }
@@ -305,7 +303,7 @@ fn add_advised(line: &mut Line, view: &View, before: &Intent)
     let sense = before.sense;
     let need = least(view, sense, fresh);
     add_mark(line, fresh);
-    add_text(line, strength_digit(need));
+    line.text_field(strength_digit(need));
     add_separation(line, view, sense, need, fresh);
     add_separation(line, view, sense, strongest(view, sense, false), false);
     let other = sense.other();
@@ -351,10 +349,10 @@ pub(crate) fn add_told(line: &mut Line, told: &Option<Told>)
     match told {
         None => add_nothing(line, ",,,,"),
         Some(told) => {
-            add_text(line, complement_text(told.complement));
-            add_u32(line, told.sent_at);
-            add_u32(line, told.taken_at);
-            add_u16(line, told.commits_since);
+            line.text_field(complement_text(told.complement));
+            line.u32_field(told.sent_at);
+            line.u32_field(told.taken_at);
+            line.u16_field(told.commits_since);
         }
     }
 }
@@ -398,5 +396,5 @@ pub(crate) fn add_decided(line: &mut Line, before: &Cell, cell: &Cell, rule: Rul
 {
     add_cell_field(line, before);
     add_cell_field(line, cell);
-    add_text(line, rule_text(rule));
+    line.text_field(rule_text(rule));
 }

@@ -1,67 +1,14 @@
 // Fields of a line, each after a comma.
-ghost use Rattle.std.specs.Prelude.{◌≡◌, ◌+◌, ◌≤◌, ◌<◌, ◌^◌, ◌*◌, ◌/◌, ◌%◌, ◌++◌, ◌∷◌, [], length, pos, ◌*ℤ◌, unsigned_abs};
-ghost use Rattle.std.specs.Fmt.{decimal, signed_decimal};
+ghost use Rattle.std.specs.Prelude.{◌≡◌, ◌+◌, ◌≤◌, ◌^◌, ◌*◌, ◌/◌, ◌%◌, ◌++◌, ◌∷◌, [], length, pos, ◌*ℤ◌, unsigned_abs};
 ghost use Rattle.std.specs.Int.{int_div_euclid};
-ghost use Rattle.acas_text.specs.Hex.{hex};
-ghost use Rattle.acas_text.specs.declared.line.TheConstants.{ADDRESS_BYTES, I32_BYTES, LINE_BYTES, U16_BYTES, U32_BYTES};
+ghost use Rattle.acas_text.specs.declared.line.TheConstants.{LINE_BYTES, U16_BYTES, U32_BYTES};
 ghost use Rattle.reasons.specs.Fields.{mark, tenths, tenths_a_minute, tenths_of, with_field, with_point};
 
 use acas_num::floor_div;
-use acas_text::{ADDRESS_BYTES, I32_BYTES, Line, U16_BYTES, U32_BYTES};
+use acas_text::{Line, U16_BYTES, U32_BYTES};
 
 /// The most bytes of a field with one digit after the point: a sign, a number, the point and a digit.
 pub(crate) const TENTHS_BYTES: usize = 2 + U32_BYTES + U16_BYTES;
-
-/// Adds a field with a text.
-pub(crate) fn add_text(line: &mut Line, text: &str)
-    requires { length line.old + 1 + length text.now ≤ LINE_BYTES }
-    ensures added { line.new ≡ with_field line.old text.now }
-    ensures longer { length line.new ≡ length line.old + 1 + length text.now }
-{
-    line.text(",");
-    line.text(text);
-}
-
-/// Adds a field with a number.
-pub(crate) fn add_u16(line: &mut Line, value: u16)
-    requires { length line.old + 1 + U16_BYTES ≤ LINE_BYTES }
-    ensures added { line.new ≡ with_field line.old (decimal value) }
-    ensures short { length line.new ≤ length line.old + 1 + U16_BYTES }
-{
-    line.text(",");
-    line.u16(value);
-}
-
-/// Adds a field with a number.
-pub(crate) fn add_u32(line: &mut Line, value: u32)
-    requires { length line.old + 1 + U32_BYTES ≤ LINE_BYTES }
-    ensures added { line.new ≡ with_field line.old (decimal value) }
-    ensures short { length line.new ≤ length line.old + 1 + U32_BYTES }
-{
-    line.text(",");
-    line.u32(value);
-}
-
-/// Adds a field with a number.
-pub(crate) fn add_i32(line: &mut Line, value: i32)
-    requires { length line.old + 1 + I32_BYTES ≤ LINE_BYTES }
-    ensures added { line.new ≡ with_field line.old (signed_decimal value) }
-    ensures short { length line.new ≤ length line.old + 1 + I32_BYTES }
-{
-    line.text(",");
-    line.i32(value);
-}
-
-/// Adds a field with an address.
-pub(crate) fn add_address(line: &mut Line, value: u32)
-    requires fits { value < 2 ^ 24 }
-    requires room { length line.old + 1 + ADDRESS_BYTES ≤ LINE_BYTES }
-    ensures added { line.new ≡ with_field line.old (hex 6 value) }
-    ensures short { length line.new ≤ length line.old + 1 + ADDRESS_BYTES }
-{
-    line.text(",");
-    line.address(value);
-}
 
 fn mark(holds: bool) -> &'static str
     ensures text { result.now ≡ mark holds }
@@ -76,7 +23,7 @@ pub(crate) fn add_mark(line: &mut Line, holds: bool)
     ensures added { line.new ≡ with_field line.old (mark holds) }
     ensures short { length line.new ≤ length line.old + 2 }
 {
-    add_text(line, mark(holds));
+    line.text_field(mark(holds));
 }
 
 // The tenths in a number of 1/1024, rounded down.

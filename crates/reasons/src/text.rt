@@ -1,46 +1,31 @@
 // The text of the reasons of a state.
-ghost use Rattle.std.specs.Prelude.{◌≡◌, ◌≤◌, length};
+ghost use Rattle.std.specs.Prelude.{◌≡◌};
 ghost use Rattle.std.specs.List.{join_with_byte};
 ghost use Rattle.acas_io.specs.Stream.{Puts};
-ghost use Rattle.acas_text.specs.declared.line.TheConstants.{LINE_BYTES};
 ghost use Rattle.reasons.specs.Reasons.{head_line, reason_rows, reasons_text};
 ghost use Rattle.reasons.specs.Rows.{columns, row_parts};
 
 use crate::commits::{put_commits, row_count};
 use acas_io::{Failed, Sink};
-use acas_lines::{LineSink, Text, write_text};
+use acas_lines::{LineSink, Text, count_line, fixed_line, write_text};
 use acas_text::Line;
 use air_journal::AirState;
-
-// A line of fixed text, or a part of one.
-fn fixed(text: &str) -> Line
-    requires { length text.now ≤ LINE_BYTES }
-    ensures { result ≡ text.now }
-{
-    let mut line = Line::new();
-    line.text(text);
-    line
-}
 
 // The line that tells how many lines follow the names of the columns.
 fn head_line(state: &AirState) -> Line
     ensures { result ≡ head_line state.now.encounter state.now.journal }
 {
-    let mut line = Line::new();
-    line.text("why,");
-    line.u32(row_count(state));
-    line.text("\n");
-    line
+    count_line("why", row_count(state))
 }
 
 // Puts the names of the columns.
 fn put_columns<S: LineSink>(sink: &mut S)
     ensures { S.took sink.old sink.new (row_parts columns) }
 {
-    sink.line(&fixed(
+    sink.line(&fixed_line(
         "position,cycle,own,other,rank,measured_range_ft,reported_alt_ft,own_alt_ft,agl_ft,level,climbs,range_ft,range_rate_fps,alt_diff_ft,alt_diff_rate_fpm,own_rate_fpm,ta_range_s,ta_alt_s,ra_range_s,ra_alt_s,ta_tau_s,ra_tau_s,traffic,threat",
     ));
-    sink.line(&fixed(
+    sink.line(&fixed_line(
         ",halves,alim_ft,side,up_strength,up_ft,down_strength,down_ft,fresh,need,need_ft,same_later_ft,other_later_ft,complement,sent_at,taken_at,commits_since,before,cell,rule\n",
     ));
 }

@@ -18,15 +18,15 @@ flat-cells : (cells : List Cell) → flat_map (λ next. 44 ∷ next) (map cell_t
 flat-cells [] = refl
 flat-cells (cell ∷ cells) = ap (λ t. (44 ∷ cell_text cell) ++ t) (flat-cells cells)
 
-regroup : (a own b cycle cells end : List ℕ) → ((((a ++ own) ++ b) ++ cycle) ++ cells) ++ end ≡ (a ++ (own ++ (b ++ (cycle ++ cells)))) ++ end
-regroup a own b cycle cells end = simp append_assoc
+regroup : (a own cycle cells end : List ℕ) → (((a ++ 44 ∷ own) ++ 44 ∷ cycle) ++ cells) ++ end ≡ (a ++ 44 ∷ (own ++ 44 ∷ (cycle ++ cells))) ++ end
+regroup a own cycle cells end = simp append_assoc
 
-spelled : (own cycle cells tail : List ℕ) → tail ≡ cycle ++ cells → ((((codes "c," ++ own) ++ codes ",") ++ cycle) ++ cells) ++ codes "\n" ≡ (codes "c" ++ 44 ∷ (own ++ 44 ∷ tail)) ++ 10 ∷ []
-spelled own cycle cells tail e = regroup (codes "c,") own (codes ",") cycle cells (codes "\n") ∙ ap (λ t. (codes "c" ++ 44 ∷ (own ++ 44 ∷ t)) ++ 10 ∷ []) (sym e)
+spelled : (own cycle cells tail : List ℕ) → tail ≡ cycle ++ cells → (((codes "c" ++ 44 ∷ own) ++ 44 ∷ cycle) ++ cells) ++ codes "\n" ≡ (codes "c" ++ 44 ∷ (own ++ 44 ∷ tail)) ++ 10 ∷ []
+spelled own cycle cells tail e = regroup (codes "c") own cycle cells (codes "\n") ∙ ap (λ t. (codes "c" ++ 44 ∷ (own ++ 44 ∷ t)) ++ 10 ∷ []) (sym e)
 
 -- The line of a commit, part by part.
 pub commit-spelled : (own cycle count : ℕ) (cells : Cells) →
-    ((((codes "c," ++ decimal own) ++ codes ",") ++ decimal cycle) ++ flat_map (λ cell. 44 ∷ cell_text cell) (take count cells.list)) ++ codes "\n" ≡ entry_line count (Commit own cycle cells)
+    (((codes "c" ++ 44 ∷ decimal own) ++ 44 ∷ decimal cycle) ++ flat_map (λ cell. 44 ∷ cell_text cell) (take count cells.list)) ++ codes "\n" ≡ entry_line count (Commit own cycle cells)
 commit-spelled own cycle count cells =
     let rest = joined-flat (decimal cycle) (map cell_text (take count cells.list)) ∙ ap (λ t. decimal cycle ++ t) (flat-cells (take count cells.list)) in
     spelled (decimal own) (decimal cycle) (flat_map (λ cell. 44 ∷ cell_text cell) (take count cells.list)) (join_with_byte 44 (decimal cycle ∷ map cell_text (take count cells.list))) rest

@@ -34,7 +34,8 @@ use Rattle.rec_text.proofs.Letters.{Lacks, lacks-decimal}
 use Rattle.rec_text.proofs.Putting.{all-back}
 use Rattle.rec_text.proofs.Reporting.{few-lines}
 use Rattle.rec_text.specs.Entries.{entry_line, entry_lines}
-use Rattle.rec_text.specs.Recording.{close_line, closing_lines, count_line, head_line, journal_line, recording_lines}
+use Rattle.acas_lines.specs.Lines.{count_line}
+use Rattle.rec_text.specs.Recording.{close_line, closing_lines, head_line, journal_line, recording_lines}
 use Rattle.rec_text.specs.Report.{commit_report, report_in, report_lines, report_of}
 
 abbrev pub AreWhole : List (List ℕ) → Type 0

@@ -1,11 +1,9 @@
 -- The text of a recording: the encounter, the journal and the report. The newest entry of a journal stands first.
 use Rattle.std.specs.Prelude.{ℕ, List, [], ◌∷◌, ◌++◌, length, codes}
-use Rattle.std.specs.Fmt.{decimal}
 use Rattle.acas_base.specs.Encounter.{Parts}
 use Rattle.acas_base.specs.declared.entry.Entry.{Entry}
-use Rattle.acas_lines.specs.Lines.{joined}
+use Rattle.acas_lines.specs.Lines.{count_line, joined}
 use Rattle.enc_file.specs.Canonical.{canonical_lines}
-use Rattle.enc_file.specs.Spelling.{line_of}
 use Rattle.rec_text.specs.Entries.{entry_lines}
 use Rattle.rec_text.specs.Report.{report_lines}
 
@@ -13,10 +11,7 @@ use Rattle.rec_text.specs.Report.{report_lines}
 abbrev pub head_line : List ℕ
 head_line = codes "recording,1\n"
 
--- A line that tells how many lines follow.
-abbrev pub count_line : List ℕ → ℕ → List ℕ
-count_line word count = line_of (word ∷ decimal count ∷ [])
-
+-- Lines that tell how many lines follow.
 abbrev pub journal_line : ℕ → List ℕ
 journal_line count = count_line (codes "journal") count
 

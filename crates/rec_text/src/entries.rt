@@ -43,10 +43,9 @@ fn add_commit(line: &mut Line, own: u8, cycle: u16, cells: &Cells, count: u8)
     requires count { count ≤ CRAFTS }
     ensures { line.new ≡ entry_line count (Entry.Commit own cycle cells.now) }
 {
-    line.text("c,");
-    line.u16(u16::from(own));
-    line.text(",");
-    line.u16(cycle);
+    line.text("c");
+    line.u16_field(u16::from(own));
+    line.u16_field(cycle);
     add_cells(line, cells, count);
     line.text("\n");
 }
@@ -56,14 +55,11 @@ fn add_send(line: &mut Line, own: u8, target: u8, number: u16, word: u64, count:
     requires word { word < 2 ^ 56 }
     ensures { line.new ≡ entry_line count (Entry.Send own target number word) }
 {
-    line.text("s,");
-    line.u16(u16::from(own));
-    line.text(",");
-    line.u16(u16::from(target));
-    line.text(",");
-    line.u16(number);
-    line.text(",");
-    line.hex(word, 14);
+    line.text("s");
+    line.u16_field(u16::from(own));
+    line.u16_field(u16::from(target));
+    line.u16_field(number);
+    line.hex_field(word, 14);
     line.text("\n");
 }
 
@@ -71,14 +67,11 @@ fn add_take(line: &mut Line, own: u8, send: u32, copy: u8, good: bool, count: u8
     requires { line.old ≡ [] }
     ensures { line.new ≡ entry_line count (Entry.Take own send copy good) }
 {
-    line.text("t,");
-    line.u16(u16::from(own));
-    line.text(",");
-    line.u32(send);
-    line.text(",");
-    line.u16(u16::from(copy));
-    line.text(",");
-    line.text(outcome_letter(good));
+    line.text("t");
+    line.u16_field(u16::from(own));
+    line.u32_field(send);
+    line.u16_field(u16::from(copy));
+    line.text_field(outcome_letter(good));
     line.text("\n");
 }
 

@@ -1,39 +1,14 @@
 // Whole recordings.
-ghost use Rattle.std.specs.Prelude.{◌≡◌, ◌≤◌, length};
+ghost use Rattle.std.specs.Prelude.{◌≡◌};
 ghost use Rattle.acas_io.specs.Stream.{Puts};
-ghost use Rattle.acas_text.specs.declared.line.TheConstants.{LINE_BYTES};
-ghost use Rattle.rec_text.specs.Recording.{count_line, recording};
+ghost use Rattle.rec_text.specs.Recording.{recording};
 
 use crate::entries::put_entries;
 use crate::report::{put_report, report_count};
 use acas_io::{Failed, Sink};
-use acas_lines::{LineSink, Text, write_text};
-use acas_text::Line;
+use acas_lines::{LineSink, Text, count_line, fixed_line, write_text};
 use air_journal::AirState;
 use enc_file::CanonicalText;
-
-// A line of fixed text.
-fn fixed(text: &str) -> Line
-    requires { length text.now ≤ LINE_BYTES }
-    ensures { result ≡ text.now }
-{
-    let mut line = Line::new();
-    line.text(text);
-    line
-}
-
-// A word and a count, on a line.
-fn count_line(word: &str, count: u32) -> Line
-    requires { length word.now ≤ 20 }
-    ensures { result ≡ count_line word.now count }
-{
-    let mut line = Line::new();
-    line.text(word);
-    line.text(",");
-    line.u32(count);
-    line.text("\n");
-    line
-}
 
 /// What follows the entries in the recording of a state: how many lines the report has, these lines, and the close.
 #[derive(Drop)]
@@ -47,7 +22,7 @@ impl Text for Closing<'_> {
     fn put<S: LineSink>(&self, sink: &mut S) {
         sink.line(&count_line("report", report_count(self.0)));
         put_report(self.0, sink);
-        sink.line(&fixed("close\n"));
+        sink.line(&fixed_line("close\n"));
     }
 }
 
@@ -62,7 +37,7 @@ impl Text for Recording<'_> {
     ghost lines = { λ r. recording_lines r.0.now.encounter r.0.now.journal };
 
     fn put<S: LineSink>(&self, sink: &mut S) {
-        sink.line(&fixed("recording,1\n"));
+        sink.line(&fixed_line("recording,1\n"));
         CanonicalText(self.0.enc()).put(sink);
         sink.line(&count_line("journal", self.0.count()));
         put_entries(self.0, sink);

@@ -9,7 +9,7 @@ use Rattle.acas_base.specs.declared.advisory.Cell.{Cell}
 use Rattle.acas_base.specs.declared.advisory.Cell.TheVariants.{Clear, Traffic, Ra}
 use Rattle.acas_base.specs.declared.advisory.Cells.{Cells}
 use Rattle.acas_base.specs.declared.entry.Entry.{Entry}
-use Rattle.acas_lines.specs.Lines.{joined, line_of}
+use Rattle.acas_lines.specs.Lines.{count_line, joined, line_of}
 use Rattle.acas_text.specs.Hex.{hex}
 use Rattle.air_journal.specs.Airs.{address_of}
 use Rattle.air_journal.specs.Cells.{commit_cells}
@@ -79,12 +79,9 @@ lines_with e journal a = flat_map (pair_lines e journal a) (range_with_len (a + 
 unfoldable pub all_lines : Parts → List Entry → List (List ℕ)
 all_lines e journal = flat_map (lines_with e journal) (range_with_len 0 (length e.crafts))
 
--- How many pairs there are.
-abbrev pub count_line : ℕ → List ℕ
-count_line count = line_of (codes "response" ∷ decimal count ∷ [])
-
+-- How many pairs there are, and the line of each.
 abbrev pub response_lines : Parts → List Entry → List (List ℕ)
-response_lines e journal = count_line (length (all_lines e journal)) ∷ all_lines e journal
+response_lines e journal = count_line (codes "response") (length (all_lines e journal)) ∷ all_lines e journal
 
 abbrev pub response_text : Parts → List Entry → List ℕ
 response_text e journal = joined (response_lines e journal)

@@ -1,23 +1,12 @@
 // The text of the modelled response.
 ghost use Rattle.std.specs.Prelude.{◌≡◌};
 ghost use Rattle.acas_io.specs.Stream.{Puts};
-ghost use Rattle.response.specs.Response.{count_line, response_text};
+ghost use Rattle.response.specs.Response.{response_text};
 
 use crate::pairs::Pairs;
 use acas_io::{Failed, Sink};
-use acas_lines::{LineSink, Text, count_lines, write_text};
-use acas_text::Line;
+use acas_lines::{LineSink, Text, count_line, count_lines, write_text};
 use air_journal::AirState;
-
-fn count_line(count: u32) -> Line
-    ensures { result ≡ count_line count }
-{
-    let mut line = Line::new();
-    line.text("response,");
-    line.u32(count);
-    line.text("\n");
-    line
-}
 
 /// The modelled response of a state: how many pairs of aircraft there are of which one has a resolution advisory against
 /// the other in some commit, and a line for each, by lower and by higher index: `p,ADDRESS,ADDRESS,CYCLE,PLANNED,FLOWN`.
@@ -34,7 +23,7 @@ impl Text for Response<'_> {
     fn put<S: LineSink>(&self, sink: &mut S) {
         self.0.legal_law();
         let pairs = Pairs(self.0);
-        sink.line(&count_line(count_lines(&pairs)));
+        sink.line(&count_line("response", count_lines(&pairs)));
         pairs.put(sink);
     }
 }

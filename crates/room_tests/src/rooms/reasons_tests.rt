@@ -47,6 +47,44 @@ const NEAR: View = View {
     ..FAR
 };
 
+// Near, and not tested.
+const UNTESTED: View = View {
+    tested: false,
+    ..NEAR
+};
+
+// A traffic advisory is due, and no more.
+const TRAFFIC: View = View {
+    traffic: true,
+    ..FAR
+};
+
+// Near, and too low for an advisory.
+const LOW: View = View {
+    resolves: false,
+    ..NEAR
+};
+
+// Near, and down serves.
+const DOWN: View = View {
+    later: DOWN_SERVES,
+    ..NEAR
+};
+
+// Near, and up serves.
+const UP: View = View {
+    later: UP_SERVES,
+    ..NEAR
+};
+
+// Near, and as far above as ALIM asks.
+const PARTED: View = View { gap: ALIM, ..NEAR };
+
+// Near. An increased descent goes on down to 1,550 ft above ground, and no further.
+const AT_1550_FT: View = View { agl: 1_550, ..NEAR };
+
+const AT_1549_FT: View = View { agl: 1_549, ..NEAR };
+
 // An advisory that didn't turn.
 fn advised(sense: Sense, strength: Strength, age: u16) -> Cell {
     Cell::Ra(Intent {
@@ -59,103 +97,48 @@ fn advised(sense: Sense, strength: Strength, age: u16) -> Cell {
     })
 }
 
-#[test]
-fn names_each_rule(rt: HostRuntime) -> Result<(), Fail> {
+// The cell before, the view, the complement and the rank, and the rule of the cell that follows.
+type Row = (Cell, View, Vrc, Rank, Rule);
+
+fn rows() -> [Row; 14] {
+    let clear = Cell::Clear;
+    let traffic = Cell::Traffic;
     let climb = advised(Sense::Up, Strength::Positive, 1);
-    let old_climb = advised(Sense::Up, Strength::Positive, 5);
-    let fast_descent = advised(Sense::Down, Strength::Increase, 2);
-    for (before, view, complement, rank, rule) in [
+    let old = advised(Sense::Up, Strength::Positive, 5);
+    let descent = advised(Sense::Down, Strength::Increase, 2);
+    [
+        (climb, UNTESTED, Vrc::Nil, Rank::First, Rule::Untested),
+        (clear, NEAR, Vrc::Nil, Rank::Second, Rule::Starts),
         (
-            climb,
-            View {
-                tested: false,
-                ..NEAR
-            },
-            Vrc::Nil,
-            Rank::First,
-            Rule::Untested,
-        ),
-        (Cell::Clear, NEAR, Vrc::Nil, Rank::Second, Rule::Starts),
-        (
-            Cell::Traffic,
+            traffic,
             NEAR,
             Vrc::NotAbove,
             Rank::First,
             Rule::StartsAsTold,
         ),
+        (clear, TRAFFIC, Vrc::NotAbove, Rank::First, Rule::Traffic),
+        (traffic, FAR, Vrc::Nil, Rank::First, Rule::Quiet),
+        (climb, LOW, Vrc::Nil, Rank::First, Rule::EndsBelowLevel),
         (
-            Cell::Clear,
-            View {
-                traffic: true,
-                ..FAR
-            },
-            Vrc::NotAbove,
-            Rank::First,
-            Rule::Traffic,
-        ),
-        (Cell::Traffic, FAR, Vrc::Nil, Rank::First, Rule::Quiet),
-        (
-            climb,
-            View {
-                resolves: false,
-                ..NEAR
-            },
-            Vrc::Nil,
-            Rank::First,
-            Rule::EndsBelowLevel,
-        ),
-        (
-            old_climb,
+            old,
             FAR,
             Vrc::NotAbove,
             Rank::Second,
             Rule::EndsWithoutThreat,
         ),
         (climb, NEAR, Vrc::NotAbove, Rank::Second, Rule::Obeys),
-        (
-            climb,
-            View {
-                later: DOWN_SERVES,
-                ..NEAR
-            },
-            Vrc::NotAbove,
-            Rank::First,
-            Rule::Reverses,
-        ),
+        (climb, DOWN, Vrc::NotAbove, Rank::First, Rule::Reverses),
         (climb, NEAR, Vrc::NotAbove, Rank::First, Rule::Strengthens),
-        (
-            climb,
-            View {
-                later: UP_SERVES,
-                ..NEAR
-            },
-            Vrc::Nil,
-            Rank::Free,
-            Rule::Keeps,
-        ),
-        (
-            old_climb,
-            View { gap: ALIM, ..NEAR },
-            Vrc::Nil,
-            Rank::First,
-            Rule::Weakens,
-        ),
-        // An increased descent goes on down to 1,550 ft above ground, and no further.
-        (
-            fast_descent,
-            View { agl: 1_550, ..NEAR },
-            Vrc::Nil,
-            Rank::First,
-            Rule::Keeps,
-        ),
-        (
-            fast_descent,
-            View { agl: 1_549, ..NEAR },
-            Vrc::Nil,
-            Rank::First,
-            Rule::Capped,
-        ),
-    ] {
+        (climb, UP, Vrc::Nil, Rank::Free, Rule::Keeps),
+        (old, PARTED, Vrc::Nil, Rank::First, Rule::Weakens),
+        (descent, AT_1550_FT, Vrc::Nil, Rank::First, Rule::Keeps),
+        (descent, AT_1549_FT, Vrc::Nil, Rank::First, Rule::Capped),
+    ]
+}
+
+#[test]
+fn names_each_rule(rt: HostRuntime) -> Result<(), Fail> {
+    for (before, view, complement, rank, rule) in rows() {
         assert_eq!(rt; rule_of(&before, &view, complement, rank), rule);
     }
     Ok(())

@@ -9,7 +9,7 @@ returns c =
     let x_fits : FitsSigned w32 craft.x = search rules in
     let y_fits : FitsSigned w32 craft.y = search rules in
     let alt_fits : FitsSigned w32 craft.alt = search rules in
-    let x = c.add_number.ensures.added ∙ ap (λ z. c.text-3.new.self ++ 44 ∷ signed_decimal z) (to_z-of_z w32 craft.x x_fits) in
-    let y = c.add_number-2.ensures.added ∙ ap (λ z. c.add_number.new.line ++ 44 ∷ signed_decimal z) (to_z-of_z w32 craft.y y_fits) in
-    let alt = c.add_number-3.ensures.added ∙ ap (λ z. c.add_number-2.new.line ++ 44 ∷ signed_decimal z) (to_z-of_z w32 craft.alt alt_fits) in
-    rw (c.text-4.ensures.added, alt, y, x, c.text-3.ensures.added, c.kind_name.ensures.name, c.text-2.ensures.added, c.add_address.ensures.added, c.value.ensures.value, c.text.ensures.added, c.requires) (simp append_assoc)
+    let x = c.i32_field.ensures.added ∙ ap (λ z. c.text_field.new.self ++ 44 ∷ signed_decimal z) (to_z-of_z w32 craft.x x_fits) in
+    let y = c.i32_field-2.ensures.added ∙ ap (λ z. c.i32_field.new.self ++ 44 ∷ signed_decimal z) (to_z-of_z w32 craft.y y_fits) in
+    let alt = c.i32_field-3.ensures.added ∙ ap (λ z. c.i32_field-2.new.self ++ 44 ∷ signed_decimal z) (to_z-of_z w32 craft.alt alt_fits) in
+    rw (c.text-2.ensures.added, alt, y, x, c.text_field.ensures.added, c.kind_name.ensures.name, c.address_field.ensures.added, c.value.ensures.value, c.text.ensures.added, c.requires) (simp append_assoc)

@@ -9,7 +9,7 @@ returns c =
     let vx_fits : FitsSigned w32 leg.vx = search rules in
     let vy_fits : FitsSigned w32 leg.vy = search rules in
     let vz_fits : FitsSigned w32 leg.vz = search rules in
-    let vx = c.add_number.ensures.added ∙ ap (λ z. c.add_count.new.line ++ 44 ∷ signed_decimal z) (to_z-of_z w32 leg.vx vx_fits) in
-    let vy = c.add_number-2.ensures.added ∙ ap (λ z. c.add_number.new.line ++ 44 ∷ signed_decimal z) (to_z-of_z w32 leg.vy vy_fits) in
-    let vz = c.add_number-3.ensures.added ∙ ap (λ z. c.add_number-2.new.line ++ 44 ∷ signed_decimal z) (to_z-of_z w32 leg.vz vz_fits) in
-    rw (c.text-2.ensures.added, vz, vy, vx, c.add_count.ensures.added, c.add_address.ensures.added, c.address_in.ensures.value, c.text.ensures.added, c.requires) (simp append_assoc)
+    let vx = c.i32_field.ensures.added ∙ ap (λ z. c.u16_field.new.self ++ 44 ∷ signed_decimal z) (to_z-of_z w32 leg.vx vx_fits) in
+    let vy = c.i32_field-2.ensures.added ∙ ap (λ z. c.i32_field.new.self ++ 44 ∷ signed_decimal z) (to_z-of_z w32 leg.vy vy_fits) in
+    let vz = c.i32_field-3.ensures.added ∙ ap (λ z. c.i32_field-2.new.self ++ 44 ∷ signed_decimal z) (to_z-of_z w32 leg.vz vz_fits) in
+    rw (c.text-2.ensures.added, vz, vy, vx, c.u16_field.ensures.added, c.address_field.ensures.added, c.address_in.ensures.value, c.text.ensures.added, c.requires) (simp append_assoc)

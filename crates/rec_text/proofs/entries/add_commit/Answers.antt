@@ -4,11 +4,10 @@ use Rattle.rec_text.proofs.entries.add_commit.Goals as goal
 pub returns : goal.returns
 returns c =
     rw (
-      c.text-3.ensures.added,
-      c.add_cells.ensures.added,
-      c.u16-2.ensures.added,
       c.text-2.ensures.added,
-      c.u16.ensures.added,
+      c.add_cells.ensures.added,
+      c.u16_field-2.ensures.added,
+      c.u16_field.ensures.added,
       c.from.ensures,
       c.text.ensures.added,
       c.requires.empty,

@@ -4,15 +4,12 @@ use Rattle.rec_text.proofs.entries.add_send.Goals as goal
 pub returns : goal.returns
 returns c =
     rw (
-      c.text-5.ensures.added,
-      c.hex.ensures.added,
-      c.text-4.ensures.added,
-      c.u16-3.ensures.added,
-      c.text-3.ensures.added,
-      c.u16-2.ensures.added,
-      c.from-2.ensures,
       c.text-2.ensures.added,
-      c.u16.ensures.added,
+      c.hex_field.ensures.added,
+      c.u16_field-3.ensures.added,
+      c.u16_field-2.ensures.added,
+      c.from-2.ensures,
+      c.u16_field.ensures.added,
       c.from.ensures,
       c.text.ensures.added,
       c.requires.empty,

@@ -1,5 +1,6 @@
-use Rattle.std.proofs.Common.{◌≡◌, ◌∷◌, ℕ, List, length, ap, ◌∙◌, subst}
-use Rattle.pair_watch.specs.Watching.{count_line, interval_lines}
+use Rattle.std.proofs.Common.{◌≡◌, ◌∷◌, ℕ, List, codes, length, ap, ◌∙◌, subst}
+use Rattle.acas_lines.specs.Lines.{count_line}
+use Rattle.pair_watch.specs.Watching.{interval_lines}
 use Rattle.pair_watch.proofs.Putting.{few-lines}
 use Rattle.pair_watch.proofs.lines.WatchText.put.Goals as goal
 
@@ -9,5 +10,5 @@ returns g c =
     let J = c.args.self.now.0.now.journal in
     let lines = interval_lines e J in
     let count : c.count_lines.result ≡ length lines = c.count_lines.ensures (few-lines e J c.legal_law.ensures.valid c.legal_law.ensures.legal) in
-    let head : c.count_line.result ≡ count_line (length lines) = c.count_line.ensures ∙ ap count_line count in
+    let head : c.count_line.result ≡ count_line (codes "watch") (length lines) = c.count_line.ensures ∙ ap (count_line (codes "watch")) count in
     subst (g.S.LineSink.took c.args.sink.now c.put.new.sink) (ap (λ (l : List ℕ). l ∷ lines) head) (g.met.S.LineSink.then _ _ _ _ _ c.line.ensures c.put.ensures)
