@@ -20,3 +20,4 @@ pub mod WellFormed
 pub mod Usually
 pub mod Addresses
 pub mod Activity
+pub mod Looked

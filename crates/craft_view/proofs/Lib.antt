@@ -3,3 +3,4 @@ pub mod Viewing
 pub mod Resolving
 pub mod Keeping
 pub mod Alike
+pub mod Looking

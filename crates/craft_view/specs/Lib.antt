@@ -6,6 +6,7 @@ pub mod Separations
 pub mod Views
 pub mod Kept
 pub mod Facts
+pub mod Looking
 pub use Rattle.acas_base.specs.Encounter
 pub use Rattle.acas_num.specs.Tracks
 pub use Rattle.flight.specs.Inside

@@ -9,6 +9,7 @@ mod others;
 mod own;
 mod pair;
 mod separations;
+mod surveillance;
 mod tracks;
 
 pub use craft::Craft;
@@ -17,3 +18,4 @@ pub use motion::{Estimate, Motion};
 pub use own::{OwnAircraft, is_active, own_of};
 pub use pair::no_picture;
 pub use separations::{FIRST_RESPONSE, LATER_RESPONSE, Response, asked_rate};
+pub use surveillance::Surveillance;

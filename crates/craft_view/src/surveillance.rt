@@ -1,0 +1,61 @@
+// The aircraft of an encounter look at each other.
+ghost use Rattle.std.specs.Prelude.{◌≡◌, ◌<◌, ◌≤◌, None, IsSome, slice_index_or};
+ghost use Rattle.acas_base.specs.declared.TheConstants.{CRAFTS};
+ghost use Rattle.craft_view.specs.Looking.{AreReady, IsReady, LookedOn, MayLook};
+ghost use Rattle.flight.specs.Inside.{IsInside};
+
+use crate::craft::Craft;
+use crate::own::is_active;
+use crate::pair::no_picture;
+use acas_base::{CRAFTS, Encounter, Picture};
+use flight::Places;
+use std::array::from_fn;
+
+/// The active aircraft of an encounter, each at its index, and the picture of the one that looked last.
+#[derive(Drop)]
+pub struct Surveillance {
+    pub crafts: [Option<Craft>; CRAFTS],
+    pub picture: Picture,
+}
+
+impl Surveillance {
+    /// The active aircraft of an encounter before their first look. The encounter has to be inside the box, as
+    /// `flight::inside` tells.
+    pub fn new(encounter: &Encounter) -> Surveillance
+        requires { IsInside encounter.now }
+        ensures { AreReady encounter.now (λ _. 0) result.crafts }
+    {
+        Surveillance {
+            crafts: from_fn(|own| { craft_at(encounter, own) }),
+            picture: no_picture(),
+        }
+    }
+
+    /// The aircraft at an index, which is active, looks in the next cycle. The places are those of that cycle.
+    pub fn look(&mut self, own: u8, places: &Places)
+        requires own { own < CRAFTS }
+        requires there { IsSome (slice_index_or self.old.crafts own None) }
+        requires left { places.now.cycle ≤ places.now.encounter.cycles }
+        requires ready { MayLook places.now own (slice_index_or self.old.crafts own None) }
+        ensures { LookedOn places.now own self.old.crafts self.new.crafts self.new.picture }
+    {
+        match &mut self.crafts[usize::from(own)] {
+            Some(craft) => craft.look_into(places, &mut self.picture),
+            None => unreachable!(),
+        }
+    }
+}
+
+// The aircraft at an index, where it is active, before its first look.
+#[tactic(auto, unfolding(crate::specs::Looking::IsReady))]
+fn craft_at(encounter: &Encounter, own: usize) -> Option<Craft>
+    requires own { own < CRAFTS }
+    requires inside { IsInside encounter.now }
+    ensures { IsReady encounter.now own 0 result }
+{
+    let own = own as u8;
+    if !is_active(encounter, own) {
+        return None;
+    }
+    Some(Craft::new(encounter, own))
+}
