@@ -4,10 +4,10 @@ use Rattle.std.proofs.lemmas.Bool.{cases_lt, cases_eq}
 use Rattle.acas_base.specs.declared.advisory.Cells.{Cells}
 use Rattle.acas_base.specs.declared.entry.Entry.{Entry}
 use Rattle.acas_base.specs.declared.entry.Entry.TheVariants.{Commit, Send, Take}
-use Rattle.air_rules.specs.Air.{Air}
-use Rattle.air_rules.specs.Due.{is_due}
+use Rattle.air_rules.specs.Air.{Air, is_active}
+use Rattle.air_rules.specs.Due.{NothingDue, is_due}
 use Rattle.air_rules.specs.Journal.{Begins, commits, more, sends, sent_at, whole}
-use Rattle.air_rules.specs.Owed.{owed}
+use Rattle.air_rules.specs.Owed.{OwesNothing, owed}
 use Rattle.air_rules.specs.Rules.{MaySend, MayTake, cells_for}
 use Rattle.air_rules.specs.Serial.{ComesNext, CommitsNext, IsInOrder, IsSerial, IsSlowest, IsTimeToCommit, SendsNext, TakesNext, followed}
 use Rattle.air_rules.specs.Takes.{read_copy}
@@ -15,7 +15,7 @@ use Rattle.air_rules.specs.Takes.{read_copy}
 -- ---- at most one entry comes next
 
 -- Of two numbers neither of which is below the other.
-neither : (a b : ℕ) → (a < b → ⊥) → (b < a → ⊥) → a ≡ b
+pub neither : (a b : ℕ) → (a < b → ⊥) → (b < a → ⊥) → a ≡ b
 neither a b f g = elim (cases_lt a b) [ inl h ↦ absurd (f h) | inr h ↦ elim (cases_lt b a) [ inl k ↦ absurd (g k) | inr k ↦ omega arith ] ]
 
 slower : (air : Air) (K : List Entry) (i j : ℕ) → IsSlowest air K i → IsSlowest air K j → i < j → ⊥
@@ -24,7 +24,7 @@ slower air K i j one two h =
     let b : commits K i ≤ commits K j = one.fewest j two.active in
     omega arith
 
-owes-then : (air : Air) (K : List Entry) (i j number word : ℕ) → MaySend air K i j number word → owed air K i j ≡ None → ⊥
+pub owes-then : (air : Air) (K : List Entry) (i j number word : ℕ) → MaySend air K i j number word → owed air K i j ≡ None → ⊥
 owes-then air K i j number word may none = let e : None ≡ Some may.message = sym none ∙ may.first_owed.owes in cc
 
 due-then : (air : Air) (K : List Entry) (i p c : ℕ) (good : Bool) → MayTake air K i p c good → is_due air K i p c ≡ false → ⊥
@@ -54,30 +54,50 @@ commit-once air K i j b d cells others one two =
     let same : cells ≡ others = one.cells_are ∙ ap (cells_for air K) own ∙ sym two.cells_are in
     λ t. Commit (own t) (cycle t) (same t)
 
-send-once : (air : Air) (K : List Entry) (i j n w k l m v : ℕ) → SendsNext air K i j n w → SendsNext air K k l m v → Send i j n w ≡ Send k l m v
-send-once air K i j n w k l m v one two =
-    let own : i ≡ k = neither i k (λ h. owes-then air K i j n w one.allowed (two.first i h j)) (λ h. owes-then air K k l m v two.allowed (one.first k h l)) in
-    let f = one.allowed.first_owed in
-    let g = two.allowed.first_owed in
+-- Nobody before this aircraft owes a message.
+abbrev NoneOwesBefore : Air → List Entry → ℕ → Type 0
+NoneOwesBefore air K i = (before : ℕ) → before < i → OwesNothing air K before
+
+-- Nothing is due to an active aircraft before this one.
+abbrev NoneDueBefore : Air → List Entry → ℕ → Type 0
+NoneDueBefore air K i = (before : ℕ) → before < i → is_active air before ≡ true → NothingDue air K before
+
+-- At most one message is the first that is owed, by sender and receiver.
+pub first-send-once : (air : Air) (K : List Entry) (i j n w k l m v : ℕ) → MaySend air K i j n w → NoneOwesBefore air K i → MaySend air K k l m v → NoneOwesBefore air K k → Send i j n w ≡ Send k l m v
+first-send-once air K i j n w k l m v one first two second =
+    let own : i ≡ k = neither i k (λ h. owes-then air K i j n w one (second i h j)) (λ h. owes-then air K k l m v two (first k h l)) in
+    let f = one.first_owed in
+    let g = two.first_owed in
     let to : j ≡ l = neither j l
-    (λ h. owes-then air K i j n w one.allowed (subst (λ (x : ℕ). owed air K x j ≡ None) (sym own) (g.first j h)))
-    (λ h. owes-then air K k l m v two.allowed (subst (λ (x : ℕ). owed air K x l ≡ None) own (f.first l h))) in
-    let message : Some one.allowed.message ≡ Some two.allowed.message = sym f.owes ∙ ap₂ (λ (x y : ℕ). owed air K x y) own to ∙ g.owes in
-    let what : one.allowed.message ≡ two.allowed.message = cc in
-    let number : n ≡ m = one.allowed.number_is ∙ ap₂ (λ (x y : ℕ). sends K x y + 1) own to ∙ sym two.allowed.number_is in
-    let word : w ≡ v = one.allowed.word_is ∙ ap air.word what ∙ sym two.allowed.word_is in
+    (λ h. owes-then air K i j n w one (subst (λ (x : ℕ). owed air K x j ≡ None) (sym own) (g.first j h)))
+    (λ h. owes-then air K k l m v two (subst (λ (x : ℕ). owed air K x l ≡ None) own (f.first l h))) in
+    let message : Some one.message ≡ Some two.message = sym f.owes ∙ ap₂ (λ (x y : ℕ). owed air K x y) own to ∙ g.owes in
+    let what : one.message ≡ two.message = cc in
+    let number : n ≡ m = one.number_is ∙ ap₂ (λ (x y : ℕ). sends K x y + 1) own to ∙ sym two.number_is in
+    let word : w ≡ v = one.word_is ∙ ap air.word what ∙ sym two.word_is in
     λ t. Send (own t) (to t) (number t) (word t)
 
-take-once : (air : Air) (K : List Entry) (i p c k q d : ℕ) (good fine : Bool) → TakesNext air K i p c good → TakesNext air K k q d fine → Take i p c good ≡ Take k q d fine
-take-once air K i p c k q d good fine one two =
-    let own : i ≡ k = neither i k (λ h. due-then air K i p c good one.allowed (two.first i h one.allowed.active p c)) (λ h. due-then air K k q d fine two.allowed (one.first k h two.allowed.active q d)) in
+-- Of what is due to an aircraft nothing was sent before this position, and of this message no earlier copy is due.
+abbrev NoneSentBefore : Air → List Entry → ℕ → ℕ → Type 0
+NoneSentBefore air K i p = (before : ℕ) → before < p → (copy : ℕ) → is_due air K i before copy ≡ false
+
+abbrev NoCopyBefore : Air → List Entry → ℕ → ℕ → ℕ → Type 0
+NoCopyBefore air K i p c = (before : ℕ) → before < c → is_due air K i p before ≡ false
+
+-- At most one copy is the first that is due, by receiver, position and copy.
+pub first-take-once : (air : Air) (K : List Entry) (i p c k q d : ℕ) (good fine : Bool)
+    → MayTake air K i p c good → NoneDueBefore air K i → NoneSentBefore air K i p → NoCopyBefore air K i p c
+    → MayTake air K k q d fine → NoneDueBefore air K k → NoneSentBefore air K k q → NoCopyBefore air K k q d
+    → Take i p c good ≡ Take k q d fine
+first-take-once air K i p c k q d good fine one none_one sent_one copy_one two none_two sent_two copy_two =
+    let own : i ≡ k = neither i k (λ h. due-then air K i p c good one (none_two i h one.active p c)) (λ h. due-then air K k q d fine two (none_one k h two.active q d)) in
     let send : p ≡ q = neither p q
-    (λ h. due-then air K i p c good one.allowed (subst (λ (x : ℕ). is_due air K x p c ≡ false) (sym own) (two.first_send p h c)))
-    (λ h. due-then air K k q d fine two.allowed (subst (λ (x : ℕ). is_due air K x q d ≡ false) own (one.first_send q h d))) in
+    (λ h. due-then air K i p c good one (subst (λ (x : ℕ). is_due air K x p c ≡ false) (sym own) (sent_two p h c)))
+    (λ h. due-then air K k q d fine two (subst (λ (x : ℕ). is_due air K x q d ≡ false) own (sent_one q h d))) in
     let copy : c ≡ d = neither c d
-    (λ h. due-then air K i p c good one.allowed (ap₂ (λ (x y : ℕ). is_due air K x y c) own send ∙ two.first_copy c h))
-    (λ h. due-then air K k q d fine two.allowed (ap₂ (λ (x y : ℕ). is_due air K x y d) (sym own) (sym send) ∙ one.first_copy d h)) in
-    let is : good ≡ fine = one.allowed.good_is ∙ ap₂ (λ (x y : ℕ). is_some (read_copy air (sent_at K x) y)) send copy ∙ sym two.allowed.good_is in
+    (λ h. due-then air K i p c good one (ap₂ (λ (x y : ℕ). is_due air K x y c) own send ∙ copy_two c h))
+    (λ h. due-then air K k q d fine two (ap₂ (λ (x y : ℕ). is_due air K x y d) (sym own) (sym send) ∙ copy_one d h)) in
+    let is : good ≡ fine = one.good_is ∙ ap₂ (λ (x y : ℕ). is_some (read_copy air (sent_at K x) y)) send copy ∙ sym two.good_is in
     λ t. Take (own t) (send t) (copy t) (is t)
 
 pub comes-once : (air : Air) (K : List Entry) (x y : Entry) → ComesNext air K x → ComesNext air K y → x ≡ y
@@ -85,11 +105,12 @@ comes-once air K (Commit i b cells) (Commit j d others) one two = commit-once ai
 comes-once air K (Commit a b cells) (Send i j n w) one two = absurd (commit-send air K a b cells i j n w one two)
 comes-once air K (Commit a b cells) (Take i p c good) one two = absurd (commit-take air K a b cells i p c good one two)
 comes-once air K (Send i j n w) (Commit a b cells) one two = absurd (commit-send air K a b cells i j n w two one)
-comes-once air K (Send i j n w) (Send k l m v) one two = send-once air K i j n w k l m v one two
+comes-once air K (Send i j n w) (Send k l m v) one two = first-send-once air K i j n w k l m v one.allowed one.first two.allowed two.first
 comes-once air K (Send i j n w) (Take a p c good) one two = absurd (send-take air K i j n w a p c good one two)
 comes-once air K (Take i p c good) (Commit a b cells) one two = absurd (commit-take air K a b cells i p c good two one)
 comes-once air K (Take i p c good) (Send k l m v) one two = absurd (send-take air K k l m v i p c good two one)
-comes-once air K (Take i p c good) (Take k q d fine) one two = take-once air K i p c k q d good fine one two
+comes-once air K (Take i p c good) (Take k q d fine) one two =
+    first-take-once air K i p c k q d good fine one.allowed one.first one.first_send one.first_copy two.allowed two.first two.first_send two.first_copy
 
 -- ---- so journals in order differ by their length alone
 

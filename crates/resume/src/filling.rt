@@ -68,12 +68,13 @@ pub fn fill(state: &mut AirState, enc: &Encounter)
     state.legal_law();
 }
 
-/// A law: what a legal journal is filled to is legal, complete, and begins with it; the empty journal
-/// is filled to the serial one; and so is each beginning of that.
+/// A law: a legal journal is filled to a legal and complete one that begins with it. From one journal at most one
+/// journal is filled. The empty journal is filled to the serial one, and so is each beginning of the serial one.
 pub fn filled_law()
     ensures legal { (air : Air) (first : List Entry) (journal : List Entry) → IsSound air → IsLegal air first → IsFilled air first journal → IsLegal air journal }
     ensures complete { (air : Air) (first : List Entry) (journal : List Entry) → IsSound air → IsLegal air first → IsFilled air first journal → IsComplete air journal }
     ensures begins { (air : Air) (first : List Entry) (journal : List Entry) → IsFilled air first journal → Begins first journal }
+    ensures only { (air : Air) (begun one other : List Entry) → IsFilled air begun one → IsFilled air begun other → one ≡ other }
     ensures serial { (air : Air) (journal : List Entry) → IsSound air → IsFilled air [] journal → IsSerial air journal }
     ensures begun { (air : Air) (first whole journal : List Entry) → IsSound air → IsSerial air whole → Begins first whole → IsFilled air first journal → journal ≡ whole }
 {}

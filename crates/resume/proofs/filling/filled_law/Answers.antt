@@ -1,4 +1,5 @@
 use Rattle.resume.proofs.Filled.{ended-complete, filled-begun, filled-serial, fills-begins, fills-legal}
+use Rattle.resume.proofs.OnlyFilled.{only-filled}
 use Rattle.resume.proofs.filling.filled_law.Goals as goal
 
 pub returns-clause-legal : goal.returns-clause-legal
@@ -15,3 +16,6 @@ returns-clause-serial c = λ air journal sound f. filled-serial air journal soun
 
 pub returns-clause-begun : goal.returns-clause-begun
 returns-clause-begun c = λ air first whole journal sound s b f. filled-begun air first whole journal sound s b f
+
+pub returns-clause-only : goal.returns-clause-only
+returns-clause-only c = λ air begun one other f g. only-filled air begun one other f g
