@@ -1,10 +1,11 @@
 // What the choices of a strength are.
-ghost use Rattle.std.specs.Prelude.{◌≡◌, Bool, IsTrue, not};
+ghost use Rattle.std.specs.Prelude.{◌≡◌, Bool, IsTrue, false, not};
 ghost use Rattle.acas_base.specs.Choice.{least_strength, strength_after, strongest, weakens};
 ghost use Rattle.acas_base.specs.declared.advisory.Intent.{Intent};
 ghost use Rattle.acas_base.specs.declared.advisory.Sense.{Sense};
 ghost use Rattle.acas_base.specs.declared.view.View.{View};
 ghost use Rattle.strength_pick.specs.Extremes.{IsLeast, IsNext, IsStrongestAllowed};
+ghost use Rattle.strength_pick.specs.Limits.{LimitsAskForOwnRate, is_stricter_limit};
 
 use acas_base::Strength;
 
@@ -25,4 +26,12 @@ pub fn least_law()
 pub fn next_law()
     ensures weakens { (before : Intent) (view : View) → IsTrue (weakens before view) → strength_after before view ≡ Strength.Level }
     ensures goes_on { (before : Intent) (view : View) → IsTrue (not (weakens before view)) → IsNext before view (strength_after before view) }
+{}
+
+/// A law: no choice is a limit to 1,000 or to 500 ft/min. Where one of these is allowed the limit to 2,000 ft/min is allowed too,
+/// and separates the two aircraft alike, as all of them ask for own rate. So it is taken first.
+pub fn limits_law()
+    ensures strongest { (view : View) (sense : Sense) (fresh : Bool) → is_stricter_limit (strongest view sense fresh) ≡ false }
+    ensures least { (view : View) (sense : Sense) (fresh : Bool) → LimitsAskForOwnRate view → is_stricter_limit (least_strength view sense fresh) ≡ false }
+    ensures next { (before : Intent) (view : View) → LimitsAskForOwnRate view → is_stricter_limit before.strength ≡ false → is_stricter_limit (strength_after before view) ≡ false }
 {}

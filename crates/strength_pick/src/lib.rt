@@ -6,6 +6,6 @@ mod next;
 mod weakest;
 
 pub use acas_base::allowed;
-pub use laws::{least_law, next_law, strongest_law};
+pub use laws::{least_law, limits_law, next_law, strongest_law};
 pub use next::{next_strength, weakens};
 pub use weakest::least;
