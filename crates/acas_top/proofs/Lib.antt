@@ -4,4 +4,3 @@ pub mod FewEach
 pub mod FiveWords
 pub mod OneWord
 pub mod Tools
-pub mod Seated

@@ -12,8 +12,8 @@ use Rattle.air_turn.specs.declared.view.Knowledge.{Knowledge}
 use Rattle.air_turn.specs.declared.view.Seen.{Seen}
 use Rattle.air_turn.specs.declared.view.Stage.TheVariants.{Idle}
 use Rattle.air_turn.specs.Rule.{Grows, HoldsThroughout, IsState, Speaks, knowledge, serving_word, state_of}
-use Rattle.air_turn.specs.Told.{Sitting, TurnStep, cut_left, cut_right, drew, first, gave, glued, holding, learned, looked, note_of, raised, resting, settled, spent, told, waiting}
-use Rattle.air_turn.proofs.Passing.{cuts, glues, notes-down, settles, tells}
+use Rattle.air_turn.specs.Told.{Sitting, TurnStep, confirmed, drew, first, first_alone, gave, holding, joined, learned, looked, note_of, raised, resting, spent, told, waiting, without_first}
+use Rattle.air_turn.proofs.Passing.{confirms, joins, notes-down, splits, tells}
 use Rattle.air_turn.proofs.Raising.{raises}
 use Rattle.air_turn.proofs.Turns.{draws, gives-on, looks}
 
@@ -63,11 +63,11 @@ pub gives-along : (e : Parts) (slots id : ℕ) (m : Sitting) (e' : Parts) (c : C
 gives-along e slots id m e' c k n journal i next st where_is next_is is = subst (λ (x : ℕ × ℕ). Allows (HoldsThroughout e) slots id m x.0 (λ _. x.1) (λ _. gave st m x.1)) (λ j. (sym where_is j, sym next_is j))
     (along e slots id (serving_word (k + 1)) (λ _. (k + 1) % 18446744073709551616) (gave st) (λ z. holding z c k journal n (Some (state_of z journal))) m e' (λ _. (refl, omega arith)) is (λ _. gives-on e slots id c k n journal st))
 
-pub cuts-along : (e : Parts) (id : ℕ) (v : Knowledge) (e' : Parts) (c : Claim) (cs : List Claim) → v ≡ knowledge e' Idle (c ∷ cs) [] → Splits (HoldsThroughout e) id v (cut_left v) (cut_right v)
-cuts-along e id v e' c cs is = along-split e id cut_left cut_right (λ z. knowledge z Idle (c ∷ cs) []) v e' (λ _. (refl, omega arith)) is (cuts e id c cs)
+pub splits-along : (e : Parts) (id : ℕ) (v : Knowledge) (e' : Parts) (c : Claim) (cs : List Claim) → v ≡ knowledge e' Idle (c ∷ cs) [] → Splits (HoldsThroughout e) id v (without_first v) (first_alone v)
+splits-along e id v e' c cs is = along-split e id without_first first_alone (λ z. knowledge z Idle (c ∷ cs) []) v e' (λ _. (refl, omega arith)) is (splits e id c cs)
 
-pub glues-along : (e : Parts) (id other : ℕ) (v w : Knowledge) (e' e'' : Parts) (c d : Claim) (cs ds : List Claim) → v ≡ knowledge e' Idle (c ∷ cs) [] → w ≡ knowledge e'' Idle (d ∷ ds) [] → Joins (HoldsThroughout e) id v other w (glued v w) spent
-glues-along e id other v w e' e'' c d cs ds is is' = along-join e id other glued spent (λ z. knowledge z Idle (c ∷ cs) []) (λ z. knowledge z Idle (d ∷ ds) []) v w e' e'' (λ _. (refl, omega arith)) (λ _. (refl, omega arith)) is is' (glues e id other (c ∷ cs) (d ∷ ds))
+pub joins-along : (e : Parts) (id other : ℕ) (v w : Knowledge) (e' e'' : Parts) (c d : Claim) (cs ds : List Claim) → v ≡ knowledge e' Idle (c ∷ cs) [] → w ≡ knowledge e'' Idle (d ∷ ds) [] → Joins (HoldsThroughout e) id v other w (joined v w) spent
+joins-along e id other v w e' e'' c d cs ds is is' = along-join e id other joined spent (λ z. knowledge z Idle (c ∷ cs) []) (λ z. knowledge z Idle (d ∷ ds) []) v w e' e'' (λ _. (refl, omega arith)) (λ _. (refl, omega arith)) is is' (joins e id other (c ∷ cs) (d ∷ ds))
 
 pub notes-along : (e : Parts) (id : ℕ) (v : Knowledge) (e' : Parts) (c : Claim) → v ≡ knowledge e' Idle (c ∷ []) [] → Splits (HoldsThroughout e) id v v (note_of v)
 notes-along e id v e' c is = along-split e id (λ v. v) note_of (λ z. knowledge z Idle (c ∷ []) []) v e' (λ _. (refl, omega arith)) is (notes-down e id c)
@@ -75,5 +75,5 @@ notes-along e id v e' c is = along-split e id (λ v. v) note_of (λ z. knowledge
 pub tells-along : (e : Parts) (id other : ℕ) (v w : Knowledge) (e' e'' : Parts) (c : Claim) (b : Seen) → v ≡ knowledge e' Idle (c ∷ []) [] → w ≡ knowledge e'' Idle [] (b ∷ []) → Joins (HoldsThroughout e) id v other w (told v w) spent
 tells-along e id other v w e' e'' c b is is' = along-join e id other told spent (λ z. knowledge z Idle (c ∷ []) []) (λ z. knowledge z Idle [] (b ∷ [])) v w e' e'' (λ _. (refl, omega arith)) (λ _. (refl, omega arith)) is is' (tells e id other c b)
 
-pub settles-along : (e : Parts) (slots id : ℕ) (m : Sitting) (e' : Parts) (c : Claim) (b : Seen) → m ≡ (knowledge e' Idle (learned c b ∷ []) (c.seen ∷ b ∷ []), []) → Allows (HoldsThroughout e) slots id m SERVING (λ n. n) (settled none_said m)
-settles-along e slots id m e' c b is = along e slots id SERVING (λ n. n) (settled none_said) (λ z. (knowledge z Idle (learned c b ∷ []) (c.seen ∷ b ∷ []), [])) m e' (λ _. (refl, omega arith)) is (λ _. settles e slots id c b none_said)
+pub confirms-along : (e : Parts) (slots id : ℕ) (m : Sitting) (e' : Parts) (c : Claim) (b : Seen) → m ≡ (knowledge e' Idle (learned c b ∷ []) (c.seen ∷ b ∷ []), []) → Allows (HoldsThroughout e) slots id m SERVING (λ n. n) (confirmed none_said m)
+confirms-along e slots id m e' c b is = along e slots id SERVING (λ n. n) (confirmed none_said) (λ z. (knowledge z Idle (learned c b ∷ []) (c.seen ∷ b ∷ []), [])) m e' (λ _. (refl, omega arith)) is (λ _. confirms e slots id c b none_said)

@@ -1,6 +1,8 @@
 -- What the last state says, when all seats are joined into one.
 use Rattle.std.proofs.Common.{◌≡◌, ◌≢◌, ℕ, zero, suc, ◌≤◌, Bool, true, false, List, [], ◌∷◌, map, length, Option, Some, None, refl, sym, ap, ◌∙◌, subst, arith}
 use Rattle.std.specs.Prelude.{slice_get}
+use Rattle.std.specs.List.Sorted.{IsPermutation}
+use Rattle.std.proofs.lemmas.List.Sorted.{length_permutation}
 use mathlib.Core.Logic.{dite}
 use mathlib.Core.Option.{some, some-injective}
 use native.Mathlib.Decide.{ℕ_discrete}
@@ -54,7 +56,11 @@ holds-one journal calls reach serving away holder seat claims Idle f h = absurd 
 holds-one journal calls reach serving away holder seat claims (Waits k) f h = absurd h
 holds-one journal calls reach serving away holder seat claims (Holds k g n) f h = f.0
 
-pub closes : (e : Parts) (id : ℕ) (t : TableId) (m : Sitting) (ss : List SeatState) (ws : List ℕ) (xs : List (Option State)) → Final (TableSeen (HoldsThroughout e) id m.0) ws xs → m ≡ (knowledge m.0.encounter Idle m.0.claims [], []) → map (seat_of_claim t m.0.encounter) m.0.claims ≡ ss → owns_of ss ≡ active_of e
+-- There are as many seats as active aircraft.
+as-many : (e : Parts) (ss : List SeatState) → IsPermutation (owns_of ss) (active_of e) → total (λ x. 1) (owns_of ss) ≡ total (λ x. 1) (active_of e)
+as-many e ss same = total-ones (owns_of ss) ∙ (sym (length_permutation (owns_of ss) (active_of e) same) ∙ sym (total-ones (active_of e)))
+
+pub closes : (e : Parts) (id : ℕ) (t : TableId) (m : Sitting) (ss : List SeatState) (ws : List ℕ) (xs : List (Option State)) → Final (TableSeen (HoldsThroughout e) id m.0) ws xs → m ≡ (knowledge m.0.encounter Idle m.0.claims [], []) → map (seat_of_claim t m.0.encounter) m.0.claims ≡ ss → IsPermutation (owns_of ss) (active_of e)
     → (journal : List Entry) × (get_elem? xs 0 ≡ some (Some (state_of e journal))) × IsState e journal × Closes ss journal
 closes e id t m ss ws xs final shape all owns =
     let s = final.0 in
@@ -64,8 +70,8 @@ closes e id t m ss ws xs final shape all owns =
     let cs = v.claims in
     let fits = (r.each id v at).claims in
     let idle : v.stage ≡ Idle = ap (λ (x : Sitting). x.0.stage) shape in
-    let crafts : map (λ (c : Claim). c.own) cs ≡ active_of e = sym (owns-known t v.encounter cs) ∙ (ap owns_of all ∙ owns) in
-    let mine : weigh (λ _. 1) v ≡ total (λ x. 1) (active_of e) = sym (total-map (λ x. 1) (λ (c : Claim). c.own) cs) ∙ ap (total (λ x. 1)) crafts in
+    let crafts : map (λ (c : Claim). c.own) cs ≡ owns_of ss = sym (owns-known t v.encounter cs) ∙ ap owns_of all in
+    let mine : weigh (λ _. 1) v ≡ total (λ x. 1) (active_of e) = sym (total-map (λ x. 1) (λ (c : Claim). c.own) cs) ∙ (ap (total (λ x. 1)) crafts ∙ as-many e ss owns) in
     let rest : (j : ℕ) (u : Knowledge) → j ≢ id → get_elem? s.views j ≡ some u → u.claims ≡ [] = λ j u ne there. no-claims u.claims (let a = pair-le (weigh (λ _. 1)) s.views j id u v ne there at in let b = r.owned (λ _. 1) in omega arith) in
     let calls : made v ≡ r.calls = sym (total-only made s.views id v at (λ j u ne there. ap (total (λ (c : Claim). c.made)) (rest j u ne there))) ∙ r.made_all in
     let top : total (tops r.calls) s.views ≡ tops r.calls v = total-only (tops r.calls) s.views id v at (λ j u ne there. ap (total (λ (c : Claim). one r.calls c.seen.count)) (rest j u ne there)) in
@@ -91,7 +97,7 @@ closes e id t m ss ws xs final shape all owns =
     at-rest false _ h = refl
 
 -- the state that is taken out at the end
-pub closed-as : (e : Parts) (id : ℕ) (t : TableId) (m : Sitting) (ss : List SeatState) (ws : List ℕ) (xs : List (Option State)) (x : Option State) → Final (TableSeen (HoldsThroughout e) id m.0) ws xs → Gathers t m ss → owns_of ss ≡ active_of e → get_elem? xs 0 ≡ some x
+pub closed-as : (e : Parts) (id : ℕ) (t : TableId) (m : Sitting) (ss : List SeatState) (ws : List ℕ) (xs : List (Option State)) (x : Option State) → Final (TableSeen (HoldsThroughout e) id m.0) ws xs → Gathers t m ss → IsPermutation (owns_of ss) (active_of e) → get_elem? xs 0 ≡ some x
     → (journal : List Entry) × (x ≡ Some (state_of e journal)) × IsState e journal × Closes ss journal
 closed-as e id t m ss ws xs x final g owns taken =
     let c = closes e id t m ss ws xs final g.idle g.all owns in
@@ -110,9 +116,9 @@ pub closed-some : (e : Parts) (x : Option State) (ss : List SeatState) → (jour
 closed-some e x ss c none = cc (sym none ∙ c.1)
 
 -- There is some seat.
-pub some-seats : (e : Parts) (seats : List SeatState) → IsEncounter e → owns_of seats ≡ active_of e → (n : ℕ) → n ≡ length seats → 1 ≤ n
+pub some-seats : (e : Parts) (seats : List SeatState) → IsEncounter e → IsPermutation (owns_of seats) (active_of e) → (n : ℕ) → n ≡ length seats → 1 ≤ n
 some-seats e seats valid owns n is =
     let count : total (λ x. 1) (owns_of seats) ≡ length seats = total-map (λ x. 1) (λ (seat : SeatState). seat.own) seats ∙ total-ones seats in
-    let same : total (λ x. 1) (owns_of seats) ≡ total (λ x. 1) (active_of e) = ap (total (λ x. 1)) owns in
+    let same = as-many e seats owns in
     let some = some-active e valid in
     omega arith

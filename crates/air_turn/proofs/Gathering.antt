@@ -1,5 +1,7 @@
 -- All seats are joined into one.
-use Rattle.std.proofs.Common.{◌≡◌, List, [], ◌∷◌, ◌++◌, map, Option, sym, ap, ◌∙◌, subst, append_assoc}
+use Rattle.std.proofs.Common.{◌≡◌, List, [], ◌∷◌, ◌++◌, map, Option, Some, sym, ap, ◌∙◌, append_assoc}
+use Rattle.std.specs.Prelude.{All}
+use Rattle.std.proofs.lemmas.List.Elements.{All-pop}
 use Rattle.acas_base.specs.Encounter.{Parts}
 use Rattle.air_journal.specs.States.{State}
 use Rattle.atomic_table.specs.Seated.{TableId}
@@ -8,8 +10,8 @@ use Rattle.air_turn.specs.declared.view.Claim.{Claim}
 use Rattle.air_turn.specs.declared.view.Knowledge.{Knowledge}
 use Rattle.air_turn.specs.declared.view.Stage.TheVariants.{Idle}
 use Rattle.air_turn.specs.Rule.{knowledge}
-use Rattle.air_turn.specs.Seats.{AreSeatsOf, SeatState, SharedAir}
-use Rattle.air_turn.specs.Told.{Sitting, first, glued, resting}
+use Rattle.air_turn.specs.Seats.{IsSeatOf, SeatState, SharedAir}
+use Rattle.air_turn.specs.Told.{Sitting, first, joined, resting}
 use Rattle.air_turn.specs.Turns.{Gathers, seat_of, seat_of_claim}
 
 abbrev pub shared_air : TableId → Parts → SharedAir
@@ -23,12 +25,12 @@ pub record Bundle (t : TableId) (e : Parts) (p : TurnSeat) (rest whole : List Se
   pub table : p.table_id ≡ t
   pub me : p.me ≡ (knowledge e Idle p.me.0.claims [], [])
   pub some : (c : Claim) × (cs : List Claim) × (p.me.0.claims ≡ c ∷ cs)
-  pub of : AreSeatsOf (shared_air t e) rest
+  pub of : All (IsSeatOf (shared_air t e)) rest
   pub all : rest ++ map (seat_of_claim t e) p.me.0.claims ≡ whole
 
-of-front : (t : TableId) (e : Parts) (xs : List SeatState) (s : SeatState) → AreSeatsOf (shared_air t e) (xs ++ s ∷ []) → AreSeatsOf (shared_air t e) xs × ((s.table ≡ t) × (s.encounter ≡ e))
-of-front t e [] s h = (tt, (h.0, h.1))
-of-front t e (x ∷ xs) s h = let r = of-front t e xs s h.2 in ((h.0, h.1, r.0), r.1)
+-- the last seat, and those before it
+of-last : (t : TableId) (e : Parts) (all rest : List SeatState) (s : SeatState) → all ≡ rest ++ s ∷ [] → All (IsSeatOf (shared_air t e)) all → All (IsSeatOf (shared_air t e)) rest × IsSeatOf (shared_air t e) s
+of-last t e all rest s is of = All-pop (IsSeatOf (shared_air t e)) all rest (Some s) is of
 
 -- what a seat is
 pub record One (t : TableId) (e : Parts) (p : TurnSeat) (s : SeatState) : Type 0 where
@@ -42,10 +44,10 @@ one-seat t e p s table enc seen rests =
     let flown : p.me.0.encounter ≡ e = ap (λ (k : SeatState). k.encounter) seen ∙ enc in
     record { table = named; me = rests ∙ ap (λ z. resting z (first p.me.0.claims)) flown; known_as = (λ i. seat_of_claim (sym named i) (sym flown i) (first p.me.0.claims)) ∙ seen }
 
-pub bundle-first : (t : TableId) (e : Parts) (p : TurnSeat) (s : SeatState) (rest all : List SeatState) → AreSeatsOf (shared_air t e) all → all ≡ rest ++ s ∷ [] → seat_of p ≡ s → p.me ≡ resting p.me.0.encounter (first p.me.0.claims) → Bundle t e p rest all
+pub bundle-first : (t : TableId) (e : Parts) (p : TurnSeat) (s : SeatState) (rest all : List SeatState) → All (IsSeatOf (shared_air t e)) all → all ≡ rest ++ s ∷ [] → seat_of p ≡ s → p.me ≡ resting p.me.0.encounter (first p.me.0.claims) → Bundle t e p rest all
 bundle-first t e p s rest all of is seen rests =
-    let f = of-front t e rest s (subst (AreSeatsOf (shared_air t e)) is of) in
-    let o = one-seat t e p s f.1.0 f.1.1 seen rests in
+    let f = of-last t e all rest s is of in
+    let o = one-seat t e p s f.1.table f.1.encounter seen rests in
     let claims : p.me.0.claims ≡ first p.me.0.claims ∷ [] = ap (λ (m : Sitting). m.0.claims) o.me in
     record {
       table = o.table;
@@ -56,15 +58,15 @@ bundle-first t e p s rest all of is seen rests =
     }
 
 -- what a join of one seat more asks
-pub bundle-next : (t : TableId) (e : Parts) (p q : TurnSeat) (s : SeatState) (rest rest' all : List SeatState) → Bundle t e p rest all → rest ≡ rest' ++ s ∷ [] → seat_of q ≡ s → q.me ≡ resting q.me.0.encounter (first q.me.0.claims) → One t e q s × AreSeatsOf (shared_air t e) rest'
+pub bundle-next : (t : TableId) (e : Parts) (p q : TurnSeat) (s : SeatState) (rest rest' all : List SeatState) → Bundle t e p rest all → rest ≡ rest' ++ s ∷ [] → seat_of q ≡ s → q.me ≡ resting q.me.0.encounter (first q.me.0.claims) → One t e q s × All (IsSeatOf (shared_air t e)) rest'
 bundle-next t e p q s rest rest' all b is seen rests =
-    let f = of-front t e rest' s (subst (AreSeatsOf (shared_air t e)) is b.of) in
-    (one-seat t e q s f.1.0 f.1.1 seen rests, f.0)
+    let f = of-last t e rest rest' s is b.of in
+    (one-seat t e q s f.1.table f.1.encounter seen rests, f.0)
 
-pub bundle-more : (t : TableId) (e : Parts) (p q q' : TurnSeat) (s : SeatState) (rest rest' all : List SeatState) → Bundle t e p rest all → rest ≡ rest' ++ s ∷ [] → One t e q s → AreSeatsOf (shared_air t e) rest' → q'.table_id ≡ q.table_id → q'.me ≡ (glued q.me.0 p.me.0, q.me.1) → Bundle t e q' rest' all
+pub bundle-more : (t : TableId) (e : Parts) (p q q' : TurnSeat) (s : SeatState) (rest rest' all : List SeatState) → Bundle t e p rest all → rest ≡ rest' ++ s ∷ [] → One t e q s → All (IsSeatOf (shared_air t e)) rest' → q'.table_id ≡ q.table_id → q'.me ≡ (joined q.me.0 p.me.0, q.me.1) → Bundle t e q' rest' all
 bundle-more t e p q q' s rest rest' all b is o of table to =
     let c = first q.me.0.claims in
-    let me : q'.me ≡ (knowledge e Idle (c ∷ p.me.0.claims) [], []) = to ∙ ap (λ (m : Sitting). (glued m.0 p.me.0, m.1)) o.me in
+    let me : q'.me ≡ (knowledge e Idle (c ∷ p.me.0.claims) [], []) = to ∙ ap (λ (m : Sitting). (joined m.0 p.me.0, m.1)) o.me in
     let claims : q'.me.0.claims ≡ c ∷ p.me.0.claims = ap (λ (m : Sitting). m.0.claims) me in
     record {
       table = table ∙ o.table;

@@ -1,4 +1,4 @@
--- A seat is cut off, taken in, or told of what another one has seen, and the rule still holds.
+-- A seat is split off, joined to another one, or told of what another one has seen, and the rule still holds.
 use Rattle.std.proofs.Common.{◌≡◌, ℕ, ◌+◌, ◌<◌, ◌≤◌, Bool, true, false, List, [], ◌∷◌, ◌++◌, set, ⊎_elim, refl, sym, ap, ◌∙◌, subst, arith, ltb, if◌then◌else◌}
 use Rattle.std.proofs.lemmas.Bool.{ltb-true, ltb-false}
 use mathlib.Core.Option.{some}
@@ -18,7 +18,7 @@ use Rattle.air_turn.specs.declared.view.Knowledge.{Knowledge}
 use Rattle.air_turn.specs.declared.view.Seen.{Seen}
 use Rattle.air_turn.specs.declared.view.Stage.TheVariants.{Idle}
 use Rattle.air_turn.specs.Rule.{ClaimsFit, Fits, HoldsThroughout, IsHolding, OldFits, SeenFits, has, knowledge, made, tops, waits, weigh}
-use Rattle.air_turn.specs.Told.{TurnStep, learned, newer, settled, spent}
+use Rattle.air_turn.specs.Told.{TurnStep, learned, newer, confirmed, spent}
 use Rattle.air_turn.specs.Totals.{total, one}
 use Rattle.air_turn.proofs.Sums.{total-append, total-set}
 use Rattle.air_turn.proofs.Turns.{TurnState, each-set, gone-set}
@@ -75,8 +75,8 @@ join-gone : (views : List Knowledge) (holder id other : ℕ) (v w both spent : K
     → (u : Knowledge) × (get_elem? views holder ≡ some u) × IsHolding u.stage → (u : Knowledge) × (get_elem? (set (set views id both) other spent) holder ≡ some u) × IsHolding u.stage
 join-gone views holder id other v w both spent at there free idle held = gone-set (set views id both) holder other w spent there idle (gone-set views holder id v both at free held)
 
-pub cuts : (e : Parts) (id : ℕ) (c : Claim) (cs : List Claim) → Splits (HoldsThroughout e) id (knowledge e Idle (c ∷ cs) []) (knowledge e Idle cs []) (knowledge e Idle (c ∷ []) [])
-cuts e id c cs s r at =
+pub splits : (e : Parts) (id : ℕ) (c : Claim) (cs : List Claim) → Splits (HoldsThroughout e) id (knowledge e Idle (c ∷ cs) []) (knowledge e Idle cs []) (knowledge e Idle (c ∷ []) [])
+splits e id c cs s r at =
     let v = knowledge e Idle (c ∷ cs) [] in
     let left = knowledge e Idle cs [] in
     let right = knowledge e Idle (c ∷ []) [] in
@@ -109,8 +109,8 @@ old-none journal calls reach (c ∷ cs) = tt
 the-other : (e : Parts) (s : TurnState) (r : HoldsThroughout e s) (id other : ℕ) (both w : Knowledge) → ¬ (other ≡ id) → get_elem? (set s.views id both) other ≡ some w → Fits r.journal r.calls r.reach e r.serving r.away r.holder other w
 the-other e s r id other both w apart there = r.each other w (sym (set_else s.views id other both apart) ∙ there)
 
-pub glues : (e : Parts) (id other : ℕ) (cs ds : List Claim) → Joins (HoldsThroughout e) id (knowledge e Idle cs []) other (knowledge e Idle ds []) (knowledge e Idle (cs ++ ds) []) spent
-glues e id other cs ds s r at apart there =
+pub joins : (e : Parts) (id other : ℕ) (cs ds : List Claim) → Joins (HoldsThroughout e) id (knowledge e Idle cs []) other (knowledge e Idle ds []) (knowledge e Idle (cs ++ ds) []) spent
+joins e id other cs ds s r at apart there =
     let v = knowledge e Idle cs [] in
     let w = knowledge e Idle ds [] in
     let both = knowledge e Idle (cs ++ ds) [] in
@@ -194,9 +194,9 @@ tells e id other c b s r at apart there =
     (λ i x _. r.each i x) j u))
     (join-gone s.views r.holder id other v w both spent at there (λ x. x) (λ x. x))
 
-pub settles : (e : Parts) (slots id : ℕ) (c : Claim) (b : Seen) (st : TurnStep)
-    → Allows (HoldsThroughout e) slots id (knowledge e Idle (learned c b ∷ []) (c.seen ∷ b ∷ []), []) SERVING (λ n. n) (settled st (knowledge e Idle (learned c b ∷ []) (c.seen ∷ b ∷ []), []))
-settles e slots id c b st s r deep at small =
+pub confirms : (e : Parts) (slots id : ℕ) (c : Claim) (b : Seen) (st : TurnStep)
+    → Allows (HoldsThroughout e) slots id (knowledge e Idle (learned c b ∷ []) (c.seen ∷ b ∷ []), []) SERVING (λ n. n) (confirmed st (knowledge e Idle (learned c b ∷ []) (c.seen ∷ b ∷ []), []))
+confirms e slots id c b st s r deep at small =
     let v = knowledge e Idle (learned c b ∷ []) (c.seen ∷ b ∷ []) in
     let w = knowledge e Idle (learned c b ∷ []) [] in
     let mine = r.each id v at in

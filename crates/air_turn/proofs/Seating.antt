@@ -1,6 +1,9 @@
 -- Each active aircraft gets a seat.
 use Rattle.std.proofs.Common.{◌≡◌, ℕ, zero, suc, ◌≤◌, ◌+◌, ◌<◌, List, [], ◌∷◌, ◌++◌, length, drop, get_or, Option, refl, sym, ap, ◌∙◌, subst, arith, add-one, append_assoc, append-nil}
 use Rattle.std.proofs.Math.Seq.{drop-cons}
+use Rattle.std.proofs.lemmas.List.Sorted.{IsPermutation-refl}
+use Rattle.std.specs.List.Sorted.{IsPermutation}
+use Rattle.std.specs.Prelude.{All}
 use Rattle.acas_base.specs.Encounter.{Parts}
 use Rattle.acas_base.specs.declared.entry.Entry.{Entry}
 use Rattle.air_journal.specs.States.{State}
@@ -11,8 +14,8 @@ use Rattle.air_turn.specs.declared.view.Claim.{Claim}
 use Rattle.air_turn.specs.declared.view.Knowledge.{Knowledge}
 use Rattle.air_turn.specs.declared.view.Stage.TheVariants.{Idle}
 use Rattle.air_turn.specs.Rule.{IsState, active_of, claim, fresh, knowledge}
-use Rattle.air_turn.specs.Seats.{AreAllSeats, AreSeatsOf, IsSeat, SeatState, SharedAir, first_seats, owns_of}
-use Rattle.air_turn.specs.Told.{Sitting, cut_left, cut_right, first, resting}
+use Rattle.air_turn.specs.Seats.{AreAllSeats, IsSeat, IsSeatOf, SeatState, SharedAir, first_seats, owns_of}
+use Rattle.air_turn.specs.Told.{Sitting, first, first_alone, resting, without_first}
 use Rattle.air_turn.specs.Turns.{Rests, seat_of, seat_of_claim}
 
 -- A place with one claim is that of a seat.
@@ -37,11 +40,11 @@ module _ (t : TableId) (e : Parts) (journal : List Entry) where
   pub next-fresh : (m : Sitting) (owns : List ℕ) (i : ℕ) → m ≡ has_from owns i → i < length owns → m ≡ (knowledge e Idle (next_claim owns i ∷ fresh journal (drop (i + 1) owns)) [], [])
   next-fresh m owns i is inside = is ∙ ap (λ ys. (knowledge e Idle (fresh journal ys) [], [])) (drop-cons owns i 0 inside ∙ ap (λ n. get_or owns i 0 ∷ drop n owns) (sym (add-one i)))
 
-  pub left-fresh : (m m' : Sitting) (owns : List ℕ) (i : ℕ) → m ≡ (knowledge e Idle (next_claim owns i ∷ fresh journal (drop (i + 1) owns)) [], []) → m' ≡ (cut_left m.0, m.1) → m' ≡ has_from owns (i + 1)
-  left-fresh m m' owns i is to = to ∙ ap (λ (x : Sitting). (cut_left x.0, x.1)) is
+  pub left-fresh : (m m' : Sitting) (owns : List ℕ) (i : ℕ) → m ≡ (knowledge e Idle (next_claim owns i ∷ fresh journal (drop (i + 1) owns)) [], []) → m' ≡ (without_first m.0, m.1) → m' ≡ has_from owns (i + 1)
+  left-fresh m m' owns i is to = to ∙ ap (λ (x : Sitting). (without_first x.0, x.1)) is
 
-  pub right-fresh : (m m' : Sitting) (owns : List ℕ) (i : ℕ) → m ≡ (knowledge e Idle (next_claim owns i ∷ fresh journal (drop (i + 1) owns)) [], []) → m' ≡ (cut_right m.0, []) → m' ≡ resting e (next_claim owns i)
-  right-fresh m m' owns i is to = to ∙ ap (λ (x : Sitting). (cut_right x.0, [])) is
+  pub right-fresh : (m m' : Sitting) (owns : List ℕ) (i : ℕ) → m ≡ (knowledge e Idle (next_claim owns i ∷ fresh journal (drop (i + 1) owns)) [], []) → m' ≡ (first_alone m.0, []) → m' ≡ resting e (next_claim owns i)
+  right-fresh m m' owns i is to = to ∙ ap (λ (x : Sitting). (first_alone x.0, [])) is
 
   pub first-seat : (own : ℕ) → IsState e journal → IsActive e own → IsSeat (seat_of_claim t e (claim own 0 journal 0))
   first-seat own state active = record { valid = state.valid; inside = state.inside; active = active; legal = state.legal }
@@ -64,11 +67,12 @@ module _ (t : TableId) (e : Parts) (journal : List Entry) where
 
 -- The first seats are all of the shared journal.
 pub first-all : (a : SharedAir) (journal : List Entry) (seats : List SeatState) → seats ≡ first_seats a.table a.encounter journal (active_of a.encounter) → AreAllSeats a seats
-first-all a journal seats is = subst (AreAllSeats a) (sym is) (record { of = all_of (active_of a.encounter); owns = owns_are (active_of a.encounter) })
+first-all a journal seats is = subst (AreAllSeats a) (sym is) (record { of = all_of (active_of a.encounter); owns = subst (λ (l : List ℕ). IsPermutation l (active_of a.encounter)) (sym (owns_are (active_of a.encounter))) (IsPermutation-refl (active_of a.encounter)) })
   where
-    all_of : (owns : List ℕ) → AreSeatsOf a (first_seats a.table a.encounter journal owns)
-    all_of [] = tt
-    all_of (own ∷ owns) = (refl, refl, all_of owns)
+    all_of : (owns : List ℕ) → All (IsSeatOf a) (first_seats a.table a.encounter journal owns)
+    all_of [] k d l = absurd (omega arith)
+    all_of (own ∷ owns) zero d l = record { table = refl; encounter = refl }
+    all_of (own ∷ owns) (suc k) d l = all_of owns k d (omega arith)
 
     owns_are : (owns : List ℕ) → owns_of (first_seats a.table a.encounter journal owns) ≡ owns
     owns_are [] = refl

@@ -28,7 +28,7 @@ use Rattle.air_turn.specs.declared.view.Seen.{Seen}
 use Rattle.air_turn.specs.declared.view.Stage.TheVariants.{Idle, Waits, Holds}
 use Rattle.air_turn.specs.Rule.{Grows, IsState, adds, knowledge, state_of, stays}
 use Rattle.air_turn.specs.Seats.{Called, IsNextPicture, IsSeat, Learns, SeatState}
-use Rattle.air_turn.specs.Told.{Knows, Sees, Sitting, TurnStep, called, first, gave, holding, raised, holding, learned, looked, newer, resting, settled, staged, told, waiting}
+use Rattle.air_turn.specs.Told.{Knows, Sees, Sitting, TurnStep, called, first, gave, holding, raised, holding, learned, looked, newer, resting, confirmed, staged, told, waiting}
 use Rattle.air_turn.specs.Turns.{GoneOn, HasTicket, HasTurn, Rests, calls_of, claim_after, commit_growth, journal_of, seat_of, seat_of_claim, send_growth, take_growth, ticket_of}
 
 pub drawn-is : (m m' : Sitting) (k : ℕ) (e : Parts) (c : Claim) → m ≡ resting e c → m' ≡ (staged m.0 (Waits k), m.1) → m' ≡ waiting e c k
@@ -178,9 +178,9 @@ next-picture s p m1 drawn state own picture is turn mine next =
 pub told-is : (m m1 : Sitting) (w : Knowledge) (e e' : Parts) (c : Claim) (b : Seen) → m ≡ resting e c → w ≡ knowledge e' Idle [] (b ∷ []) → m1 ≡ (told m.0 w, m.1) → m1 ≡ (knowledge e Idle (learned c b ∷ []) (c.seen ∷ b ∷ []), [])
 told-is m m1 w e e' c b is note to = to ∙ (λ i. (told (is i).0 (note i), (is i).1))
 
-pub learned-is : (st : TurnStep) (m1 m2 : Sitting) (r : ℕ) (e : Parts) (c : Claim) (b : Seen) → m1 ≡ (knowledge e Idle (learned c b ∷ []) (c.seen ∷ b ∷ []), []) → settled st m1 r m2
+pub learned-is : (st : TurnStep) (m1 m2 : Sitting) (r : ℕ) (e : Parts) (c : Claim) (b : Seen) → m1 ≡ (knowledge e Idle (learned c b ∷ []) (c.seen ∷ b ∷ []), []) → confirmed st m1 r m2
     → (m2 ≡ resting e (learned c b)) × Knows e c.own (newer c.seen b).front c.seen.front b.front
-learned-is st m1 m2 r e c b is look = let Q : Sitting → Type 0 = λ y. settled st y r m2 in subst Q is look
+learned-is st m1 m2 r e c b is look = let Q : Sitting → Type 0 = λ y. confirmed st y r m2 in subst Q is look
 
 newer-one : (a b : Seen) → ((newer a b).front ≡ a.front) ⊎ ((newer a b).front ≡ b.front)
 newer-one a b = elim (ltb a.count b.count) as (λ x. ((if x then b else a).front ≡ a.front) ⊎ ((if x then b else a).front ≡ b.front)) [ true ↦ inr refl | false ↦ inl refl ]

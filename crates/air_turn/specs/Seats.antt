@@ -1,5 +1,6 @@
 -- What contracts see of the shared journal and of its seats.
-use Rattle.std.specs.Prelude.{◌≡◌, ℕ, ◌+◌, ◌<◌, ◌≤◌, ◌⊎◌, List, [], ◌∷◌, length, map, max, slice_get, Some}
+use Rattle.std.specs.Prelude.{◌≡◌, ℕ, ◌+◌, ◌<◌, ◌≤◌, ◌⊎◌, List, [], ◌∷◌, All, length, map, max, slice_get, Some}
+use Rattle.std.specs.List.Sorted.{IsPermutation}
 use Rattle.acas_base.specs.Encounter.{IsEncounter, Parts}
 use Rattle.acas_base.specs.declared.entry.Entry.{Entry}
 use Rattle.acas_base.specs.declared.view.Picture.{Picture}
@@ -90,18 +91,18 @@ pub record Learns (old other new : SeatState) : Type 0 where
   pub made : new.made ≡ old.made
   pub same : IsSameSeat old new
 
--- All are seats of this shared journal.
-abbrev pub AreSeatsOf : SharedAir → List SeatState → Type 0
-AreSeatsOf air [] = Unit {0}
-AreSeatsOf air (seat ∷ seats) = (seat.table ≡ air.table) × (seat.encounter ≡ air.encounter) × AreSeatsOf air seats
+-- This is a seat of this shared journal.
+pub record IsSeatOf (air : SharedAir) (seat : SeatState) : Type 0 where
+  pub table : seat.table ≡ air.table
+  pub encounter : seat.encounter ≡ air.encounter
 
 abbrev pub owns_of : List SeatState → List ℕ
 owns_of seats = map (λ (seat : SeatState). seat.own) seats
 
--- These are all its seats, one for each active aircraft, in order of index.
+-- These are all its seats: each active aircraft has exactly one among them, in whatever order they are.
 pub record AreAllSeats (air : SharedAir) (seats : List SeatState) : Type 0 where
-  pub of : AreSeatsOf air seats
-  pub owns : owns_of seats ≡ active_of air.encounter
+  pub of : All (IsSeatOf air) seats
+  pub owns : IsPermutation (owns_of seats) (active_of air.encounter)
 
 -- What each seat had seen begins the journal, and has all entries of its aircraft.
 abbrev pub FrontsFit : List Entry → List SeatState → Type 0

@@ -73,15 +73,15 @@ rest_of [] = []
 rest_of (c ∷ cs) = cs
 
 -- The first claim goes to a new seat.
-abbrev pub cut_left : Knowledge → Knowledge
-cut_left v = knowledge v.encounter v.stage (rest_of v.claims) v.notes
+abbrev pub without_first : Knowledge → Knowledge
+without_first v = knowledge v.encounter v.stage (rest_of v.claims) v.notes
 
-abbrev pub cut_right : Knowledge → Knowledge
-cut_right v = knowledge v.encounter Idle (first v.claims ∷ []) []
+abbrev pub first_alone : Knowledge → Knowledge
+first_alone v = knowledge v.encounter Idle (first v.claims ∷ []) []
 
 -- A seat keeps all claims of both.
-abbrev pub glued : Knowledge → Knowledge → Knowledge
-glued v w = knowledge v.encounter v.stage (v.claims ++ w.claims) v.notes
+abbrev pub joined : Knowledge → Knowledge → Knowledge
+joined v w = knowledge v.encounter v.stage (v.claims ++ w.claims) v.notes
 
 -- What is left of a seat that was joined to another one: it speaks for nobody.
 abbrev pub spent : Knowledge
@@ -118,6 +118,6 @@ pub record Knows (e : Parts) (craft : ℕ) (now a b : List Entry) : Type 0 where
   pub own : entries_of now craft ≡ entries_of a craft
 
 -- It was looked up that this is so.
-abbrev pub settled : TurnStep → Sitting → ℕ → Sitting → Type 0
-settled st m r m' = (m' ≡ (knowledge m.0.encounter m.0.stage m.0.claims [], m.1))
+abbrev pub confirmed : TurnStep → Sitting → ℕ → Sitting → Type 0
+confirmed st m r m' = (m' ≡ (knowledge m.0.encounter m.0.stage m.0.claims [], m.1))
     × Knows m.0.encounter (first m.0.claims).own (first m.0.claims).seen.front (first_note m.0.notes).front (first_note (rest_notes m.0.notes)).front

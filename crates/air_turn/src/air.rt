@@ -1,10 +1,10 @@
 // The shared journal, and the calls of its seats.
 ghost use Rattle.std.specs.Prelude.{◌≡◌};
-ghost use Rattle.air_turn.specs.Seats.{CommitsIn, IsNextPicture, Learns, SendsIn, TakesIn};
+ghost use Rattle.air_turn.specs.Seats.{CommitsIn, IsNextPicture, IsSeatOf, Learns, SendsIn, TakesIn};
 ghost use Rattle.air_turn.specs.Turns.{commit_growth, send_growth, take_growth};
 
 use crate::seat::Seat;
-use crate::steps::{Note, Settle};
+use crate::steps::{Confirm, Note};
 use crate::view::{SERVING, TurnTable};
 use acas_base::Picture;
 use air_journal::{Commit, Sent, Took};
@@ -61,7 +61,7 @@ impl Air {
     /// Commits the next cycle of the seat's aircraft, or says what hinders it, as `AirState::commit` does. The picture
     /// has to be that of its next cycle, where it has cycles left. It waits for its turn.
     pub fn commit<R: Wait>(&self, rt: &R, seat: &mut Seat, pic: &Picture) -> Commit
-        requires of { seat.old.table ≡ self.now.table }
+        requires of { IsSeatOf self.now seat.old }
         requires picture { IsNextPicture seat.old pic.now }
         ensures { CommitsIn seat.old result seat.new }
     {
@@ -75,7 +75,7 @@ impl Air {
     /// Sends the first message that the seat's aircraft owes, where it owes one, as `AirState::send` does. It waits for
     /// its turn.
     pub fn send<R: Wait>(&self, rt: &R, seat: &mut Seat) -> Sent
-        requires of { seat.old.table ≡ self.now.table }
+        requires of { IsSeatOf self.now seat.old }
         ensures { SendsIn seat.old result seat.new }
     {
         let own = seat.own();
@@ -88,7 +88,7 @@ impl Air {
     /// Takes the first copy that is due to the seat's aircraft, where one is, as `AirState::take` does. It waits for its
     /// turn.
     pub fn take<R: Wait>(&self, rt: &R, seat: &mut Seat) -> Took
-        requires of { seat.old.table ≡ self.now.table }
+        requires of { IsSeatOf self.now seat.old }
         ensures { TakesIn seat.old result seat.new }
     {
         let own = seat.own();
@@ -100,13 +100,13 @@ impl Air {
 
     /// Tells a seat what another one has seen. It waits for nobody, and makes no call.
     pub fn learn(&self, seat: &mut Seat, other: &mut Seat)
-        requires seat { seat.old.table ≡ self.now.table }
-        requires other { other.old.table ≡ self.now.table }
+        requires seat { IsSeatOf self.now seat.old }
+        requires other { IsSeatOf self.now other.old }
         ensures other { other.new ≡ other.old }
         ensures learns { Learns seat.old other.old seat.new }
     {
         let note = self.table.shared.split_seat::<Note>(&mut other.place);
         self.table.shared.join_seat::<Note>(&mut seat.place, note);
-        self.table.shared.load::<Settle>(&mut seat.place, SERVING);
+        self.table.shared.load::<Confirm>(&mut seat.place, SERVING);
     }
 }

@@ -1,21 +1,21 @@
 // The shared journal is closed.
-ghost use Rattle.std.specs.Prelude.{◌≡◌, ◌<◌, vec_len};
+ghost use Rattle.std.specs.Prelude.{◌≡◌, ◌<◌, All, vec_len};
 ghost use Rattle.air_journal.specs.Airs.{air_of};
 ghost use Rattle.air_rules.specs.Rules.{IsLegal};
-ghost use Rattle.air_turn.specs.Seats.{AreAllSeats, AreSeatsOf, Closes};
+ghost use Rattle.air_turn.specs.Seats.{AreAllSeats, Closes, IsSeatOf};
 ghost use Rattle.air_turn.specs.Turns.{Gathers};
 ghost use Rattle.air_turn.specs.declared.view.TheConstants.{WORDS};
 
 use crate::air::Air;
 use crate::seat::Seat;
-use crate::steps::Glue;
+use crate::steps::JoinSeats;
 use crate::view::{TurnSeat, TurnTable};
 use air_journal::AirState;
 
 // Joins all seats into one place, in their order.
 fn gather(table: &TurnTable, mut seats: Vec<Seat>) -> TurnSeat
     requires some { 0 < vec_len seats }
-    requires of { AreSeatsOf (record { table = table.now.shared.table_id; encounter = table.now.shared.key.value.encounter }) seats.items }
+    requires of { All (IsSeatOf (record { table = table.now.shared.table_id; encounter = table.now.shared.key.value.encounter })) seats.items }
     requires words { table.now.shared.table_id.words ≡ WORDS }
     ensures table { result.table_id ≡ table.now.shared.table_id }
     ensures gathers { Gathers table.now.shared.table_id result.me seats.items }
@@ -26,14 +26,14 @@ fn gather(table: &TurnTable, mut seats: Vec<Seat>) -> TurnSeat
     let mut place = last.into_place();
     while let Some(seat) = seats.pop() {
         let mut next = seat.into_place();
-        table.shared.join_seat::<Glue>(&mut next, place);
+        table.shared.join_seat::<JoinSeats>(&mut next, place);
         place = next;
     }
     place
 }
 
 impl Air {
-    /// Gives the state back, when all calls have ended.
+    /// Gives the state back, when all calls have ended. These have to be all seats of this shared journal, in any order.
     pub fn close(self, seats: Vec<Seat>) -> AirState
         requires { AreAllSeats self seats.items }
         ensures encounter { result.encounter ≡ self.encounter }

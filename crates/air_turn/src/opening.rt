@@ -7,7 +7,7 @@ ghost use Rattle.craft_view.specs.Kept.{IsActive};
 
 use crate::air::Air;
 use crate::seat::Seat;
-use crate::steps::Cut;
+use crate::steps::SplitFirst;
 use crate::view::{LENGTH, TurnSeat, TurnTable, WORDS};
 use acas_base::Encounter;
 use air_journal::AirState;
@@ -53,7 +53,7 @@ impl Air {
         Ok((air, seats))
     }
 
-    // Cuts a seat for each of the aircraft from the first place. No more than a place that speaks for none is left.
+    // Splits a seat for each of the aircraft off the first place. What is left of it speaks for none.
     fn seat_all(
         &self,
         alloc: Global,
@@ -70,7 +70,7 @@ impl Air {
     {
         let mut seats = Vec::with_capacity(alloc, owns.len())?;
         for i in 0..owns.len() {
-            let next = self.table.shared.split_seat::<Cut>(&mut place);
+            let next = self.table.shared.split_seat::<SplitFirst>(&mut place);
             seats.push_reserved(Seat::at(owns[i], next));
         }
         Ok(seats)

@@ -1,5 +1,5 @@
 // What each step on the table tells its seat.
-ghost use Rattle.air_turn.specs.Told.{cut_left, cut_right, drew, gave, glued, looked, note_of, raised, settled, spent, told};
+ghost use Rattle.air_turn.specs.Told.{confirmed, drew, first_alone, gave, joined, looked, note_of, raised, spent, told, without_first};
 
 use crate::view::Knowledge;
 use air_journal::AirState;
@@ -51,26 +51,26 @@ impl Play<Option<AirState>, Knowledge> for Give {
 }
 
 /// A look by which a seat that was told of a note knows what it now has seen.
-pub(crate) struct Settle;
+pub(crate) struct Confirm;
 
-impl Play<Option<AirState>, Knowledge> for Settle {
-    ghost then = { settled };
+impl Play<Option<AirState>, Knowledge> for Confirm {
+    ghost then = { confirmed };
 }
 
 /// The first aircraft gets a seat of its own.
-pub(crate) struct Cut;
+pub(crate) struct SplitFirst;
 
-impl Split<Knowledge> for Cut {
-    ghost left = { cut_left };
+impl Split<Knowledge> for SplitFirst {
+    ghost left = { without_first };
 
-    ghost right = { cut_right };
+    ghost right = { first_alone };
 }
 
 /// All aircraft of both are kept in one seat.
-pub(crate) struct Glue;
+pub(crate) struct JoinSeats;
 
-impl Join<Knowledge> for Glue {
-    ghost both = { glued };
+impl Join<Knowledge> for JoinSeats {
+    ghost both = { joined };
 
     ghost spent = { spent };
 }

@@ -4,6 +4,8 @@ use Rattle.std.specs.Prelude.{All, option_map}
 use Rattle.std.specs.List.{range_with_len}
 use Rattle.std.specs.Option.{option_map_or}
 use Rattle.std.proofs.lemmas.Bool.{cases_Bool, cond-false, cond-true}
+use Rattle.std.proofs.lemmas.List.Elements.{All-cons}
+use Rattle.std.proofs.lemmas.List.Sorted.{All-permutation}
 use Rattle.std.proofs.lemmas.Option.{slice_get_past}
 use mathlib.Core.Logic.{dite}
 use native.Mathlib.Decide.{dec_le}
@@ -43,17 +45,18 @@ in-active : (e : Parts) (own : ℕ) → own < length e.crafts → is_active (air
 unfolding active_of
 in-active e own less active = in-range (is_active (air_of e)) 0 (length e.crafts) own (omega arith) (omega arith) active
 
--- The seat of an aircraft is done in what it has seen.
-done-there : (e : Parts) (journal : List Entry) (own : ℕ) (seats : List SeatState) → All (λ (seat : SeatState). seat.encounter ≡ e) seats → All HasPlayed seats → FrontsFit journal seats → In own (owns_of seats) → IsDoneSomewhere (air_of e) journal own
-done-there e journal own [] are played fit ever = absurd (nobody ever)
-  where
-    nobody : In own [] → ⊥
-    nobody = elim [ ]
-done-there e journal _ (seat ∷ seats) are played fit here =
+-- The aircraft of each seat is done in what the seat has seen.
+done-each : (e : Parts) (journal : List Entry) (seats : List SeatState) → All (λ (seat : SeatState). seat.encounter ≡ e) seats → All HasPlayed seats → FrontsFit journal seats → All (IsDoneSomewhere (air_of e) journal) (owns_of seats)
+done-each e journal [] are played fit = λ k d l. absurd (omega arith)
+done-each e journal (seat ∷ seats) are played fit =
     let done = (played 0 seat (omega arith)).done in
-    record { front = seat.front; same = sym fit.0.1; done = subst (λ z. IsDone (air_of z) seat.front seat.own) (are 0 seat (omega arith)) done }
-done-there e journal own (seat ∷ seats) are played fit (there in_rest) =
-    done-there e journal own seats (λ k d l. are (suc k) d (omega arith)) (λ k d l. played (suc k) d (omega arith)) fit.1 in_rest
+    let here : IsDoneSomewhere (air_of e) journal seat.own = record { front = seat.front; same = sym fit.0.1; done = subst (λ z. IsDone (air_of z) seat.front seat.own) (are 0 seat (omega arith)) done } in
+    All-cons (IsDoneSomewhere (air_of e) journal) seat.own (owns_of seats) here (done-each e journal seats (λ k d l. are (suc k) d (omega arith)) (λ k d l. played (suc k) d (omega arith)) fit.1)
+
+-- What holds of all holds of one.
+of-one : (P : ℕ → Type 0) (n : ℕ) (ns : List ℕ) → All P ns → In n ns → P n
+of-one P n _ all here = all 0 n (omega arith)
+of-one P n _ all (there {ns = ns} in_rest) = of-one P n ns (λ k d l. all (suc k) d (omega arith)) in_rest
 
 below-count : (e : Parts) (own : ℕ) → is_active (air_of e) own ≡ true → own < length e.crafts
 below-count e own active = dite (dec_le (length e.crafts) own) (λ past. absurd (true≢false (sym active ∙ none past))) (λ beyond. lt_of_not-le beyond)
@@ -62,5 +65,8 @@ below-count e own active = dite (dec_le (length e.crafts) own) (λ past. absurd 
     none past = ap (λ (o : Option CraftSpec). option_map_or is_active_kind (option_map (λ (craft : CraftSpec). craft.kind) o) false) (slice_get_past e.crafts own past)
 
 pub completes-journal : CompletesJournal
-completes-journal e seats journal are owns played fit =
-    completes-by-own (air_of e) journal (λ own active. done-there e journal own seats are played fit (subst (In own) (sym owns) (in-active e own (below-count e own active) active)))
+completes-journal air seats journal all played fit =
+    let e = air.encounter in
+    let P : ℕ → Type 0 = IsDoneSomewhere (air_of e) journal in
+    let each : All P (active_of e) = All-permutation P (owns_of seats) (active_of e) all.owns (done-each e journal seats (λ k d l. (all.of k d l).encounter) played fit) in
+    completes-by-own (air_of e) journal (λ own active. of-one P own (active_of e) each (in-active e own (below-count e own active) active))

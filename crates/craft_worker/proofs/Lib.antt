@@ -1,4 +1,4 @@
 pub mod Counting
 pub mod Working
-pub mod Hiring
+pub mod AllWorkers
 pub mod Completing

@@ -5,8 +5,7 @@ use Rattle.acas_base.specs.declared.entry.Entry.{Entry}
 use Rattle.air_journal.specs.Airs.{air_of}
 use Rattle.air_rules.specs.Journal.{commits}
 use Rattle.air_rules.specs.Rules.{IsComplete, IsDone, IsLegal}
-use Rattle.air_turn.specs.Seats.{FrontsFit, IsSameSeat, SeatState, active_of, owns_of}
-use Rattle.atomic_table.specs.Seated.{TableId}
+use Rattle.air_turn.specs.Seats.{AreAllSeats, FrontsFit, IsSameSeat, IsSeatOf, SeatState, SharedAir}
 use Rattle.craft_view.specs.Kept.{Belongs}
 use Rattle.craft_view.specs.Views.{picture_of}
 use Rattle.craft_worker.specs.declared.worker.Worker.{Worker}
@@ -17,60 +16,60 @@ pub record HasPlayed (seat : SeatState) : Type 0 where
   pub legal : IsLegal (air_of seat.encounter) seat.front
   pub done : IsDone (air_of seat.encounter) seat.front seat.own
 
--- These seats, one for each active aircraft, make each journal complete that has all entries of each.
+-- Where all seats of a shared journal have played, each journal that has all entries of each is complete.
 abbrev pub CompletesJournal : Type 0
-CompletesJournal = (e : Parts) (seats : List SeatState) (journal : List Entry) →
-    All (λ (seat : SeatState). seat.encounter ≡ e) seats → owns_of seats ≡ active_of e → All HasPlayed seats → FrontsFit journal seats → IsComplete (air_of e) journal
+CompletesJournal = (air : SharedAir) (seats : List SeatState) (journal : List Entry) →
+    AreAllSeats air seats → All HasPlayed seats → FrontsFit journal seats → IsComplete (air_of air.encounter) journal
 
 -- The aircraft has looked in its next cycle, and kept the picture.
 pub record HasLookedOn (e : Parts) (worker : Worker) : Type 0 where
   pub cycle : worker.craft.cycle ≡ worker.made + 1
   pub picture : worker.picture ≡ picture_of e worker.seat.own (worker.made + 1)
 
--- The worker of an aircraft of this shared journal.
-pub record IsWorkerOf (table : TableId) (e : Parts) (worker : Worker) : Type 0 where
-  pub table_is : worker.seat.table ≡ table
+-- The worker of an aircraft of this shared journal and encounter.
+pub record IsWorkerOf (air : SharedAir) (e : Parts) (worker : Worker) : Type 0 where
+  pub seat : IsSeatOf air worker.seat
   pub encounter : worker.seat.encounter ≡ e
   pub belongs : Belongs e worker.craft
   pub own : worker.craft.own ≡ worker.seat.own
 
 -- It has counted its aircraft's commits, and has looked in the next cycle, where there is one.
-pub record IsReady (table : TableId) (e : Parts) (worker : Worker) : Type 0 where
-  pub is : IsWorkerOf table e worker
+pub record IsReady (air : SharedAir) (e : Parts) (worker : Worker) : Type 0 where
+  pub is : IsWorkerOf air e worker
   pub made : worker.made ≡ commits worker.seat.front worker.seat.own
   pub in_run : worker.made ≤ e.cycles
   pub looked : worker.made < e.cycles → HasLookedOn e worker
 
 -- Its aircraft has just committed the cycle in which it looked.
-pub record HasCommitted (table : TableId) (e : Parts) (worker : Worker) : Type 0 where
-  pub is : IsWorkerOf table e worker
+pub record HasCommitted (air : SharedAir) (e : Parts) (worker : Worker) : Type 0 where
+  pub is : IsWorkerOf air e worker
   pub made : worker.made + 1 ≡ commits worker.seat.front worker.seat.own
   pub left : worker.made < e.cycles
   pub cycle : worker.craft.cycle ≡ worker.made + 1
 
 -- The same seat went on, and its worker is ready again.
-pub record GoesOn (table : TableId) (e : Parts) (old new : Worker) : Type 0 where
+pub record GoesOn (air : SharedAir) (e : Parts) (old new : Worker) : Type 0 where
   pub same : IsSameSeat old.seat new.seat
-  pub ready : IsReady table e new
+  pub ready : IsReady air e new
   pub done : new.done ≡ old.done
 
 -- It made no commit.
-pub record MakesNoCommit (table : TableId) (e : Parts) (old new : Worker) : Type 0 where
-  pub goes_on : GoesOn table e old new
+pub record MakesNoCommit (air : SharedAir) (e : Parts) (old new : Worker) : Type 0 where
+  pub goes_on : GoesOn air e old new
   pub made : new.made ≡ old.made
 
 -- It worked: where it says that it is done, it is.
-pub record Worked (table : TableId) (e : Parts) (old new : Worker) : Type 0 where
+pub record Worked (air : SharedAir) (e : Parts) (old new : Worker) : Type 0 where
   pub same : IsSameSeat old.seat new.seat
-  pub ready : IsReady table e new
+  pub ready : IsReady air e new
   pub told : new.done ≡ true → HasPlayed new.seat
 
 -- Of each worker.
 abbrev pub EachSame : List Worker → List Worker → Type 0
 EachSame ws us = (k : ℕ) (d : Worker) → k < length ws → IsSameSeat (slice_index_or ws k d).seat (slice_index_or us k d).seat
 
-abbrev pub EachWorked : TableId → Parts → List Worker → List Worker → Type 0
-EachWorked table e ws us = (k : ℕ) (d : Worker) → k < length ws → Worked table e (slice_index_or ws k d) (slice_index_or us k d)
+abbrev pub EachWorked : SharedAir → Parts → List Worker → List Worker → Type 0
+EachWorked air e ws us = (k : ℕ) (d : Worker) → k < length ws → Worked air e (slice_index_or ws k d) (slice_index_or us k d)
 
 abbrev pub seat_of : Worker → SeatState
 seat_of worker = worker.seat

@@ -18,8 +18,8 @@ fn round<R: Threads + Wait + Sync, P: Pause + Sync>(
     enc: &Encounter,
     pause: &P,
 )
-    requires { All (λ worker. IsReady air.now.table enc.now worker) workers.old }
-    ensures { EachWorked air.now.table enc.now workers.old workers.new }
+    requires { All (λ worker. IsReady air.now enc.now worker) workers.old }
+    ensures { EachWorked air.now enc.now workers.old workers.new }
 {
     for_each_mut(
         rt,
@@ -43,7 +43,7 @@ pub(crate) fn rounds<R: Threads + Wait + Sync, P: Pause + Sync>(
     enc: &Encounter,
     pause: &P,
 )
-    requires { All (λ worker. IsReady air.now.table enc.now worker) workers.old }
+    requires { All (λ worker. IsReady air.now enc.now worker) workers.old }
     ensures same { EachSame workers.old workers.new }
     ensures played { All (λ worker. HasPlayed worker.seat) workers.new }
 {

@@ -1,6 +1,6 @@
 // The threaded run.
 ghost use Rattle.std.specs.Prelude.{◌≡◌, ◌≤◌, [], All, OnErr, OnOk, map, vec_capacity, vec_len};
-ghost use Rattle.air_turn.specs.Seats.{AreAllSeats};
+ghost use Rattle.air_turn.specs.Seats.{AreAllSeats, owns_of};
 ghost use Rattle.craft_worker.specs.Workers.{CompletesJournal, HasPlayed, IsReady, seat_of};
 
 use crate::rounds::rounds;
@@ -11,25 +11,24 @@ use std::alloc::{AllocError, Global};
 use std::sync::Wait;
 use std::thread::Threads;
 
-// A worker for each seat.
-fn hire(air: &Air, enc: &Encounter, seats: Vec<Seat>, workers: &mut Vec<Worker>)
+// Adds a worker for each seat.
+fn add_workers(air: &Air, enc: &Encounter, seats: Vec<Seat>, workers: &mut Vec<Worker>)
     requires workers { workers.old.items ≡ [] }
     requires room { vec_len seats ≤ vec_capacity workers.old }
     requires encounter { air.now.encounter ≡ enc.now }
     requires all { AreAllSeats air.now seats.items }
     requires fronts { All (λ seat. seat.front ≡ []) seats.items }
     ensures seats { map seat_of workers.new.items ≡ seats.items }
-    ensures ready { All (λ worker. IsReady air.now.table enc.now worker) workers.new.items }
+    ensures ready { All (λ worker. IsReady air.now enc.now worker) workers.new.items }
 {
     let mut waiting = seats.into_iter();
     while let Some(seat) = waiting.next() {
-        workers.push_reserved(Worker::new(enc, seat));
+        workers.push_reserved(Worker::new(air, enc, seat));
     }
-    let _ = air;
 }
 
-// The seats of all workers.
-fn dismiss(workers: Vec<Worker>, seats: &mut Vec<Seat>)
+// Takes the seats back from the workers, in their order.
+fn take_seats_back(workers: Vec<Worker>, seats: &mut Vec<Seat>)
     requires seats { seats.old.items ≡ [] }
     requires room { vec_len workers ≤ vec_capacity seats.old }
     ensures { seats.new.items ≡ map seat_of workers.items }
@@ -42,8 +41,8 @@ fn dismiss(workers: Vec<Worker>, seats: &mut Vec<Seat>)
 
 /// Plays an encounter over a shared journal that is empty: each active aircraft has a worker of its own, which sends what
 /// the aircraft owes, takes what is due to it and commits, and all work at once, in rounds, until all are done. In what
-/// order their entries fall is nobody's choice. These have to be all seats of the shared journal. Where memory is
-/// wanting, no call was made.
+/// order their entries fall is nobody's choice. These have to be all seats of the shared journal; they come back in the
+/// order in which they were. Where memory is wanting, no call was made.
 pub fn play<R: Threads + Wait + Sync, P: Pause + Sync>(
     rt: &R,
     alloc: Global,
@@ -56,20 +55,21 @@ pub fn play<R: Threads + Wait + Sync, P: Pause + Sync>(
     requires encounter { air.now.encounter ≡ enc.now }
     requires fronts { All (λ seat. seat.front ≡ []) seats.old.items }
     ensures all { OnOk result (AreAllSeats air.now seats.new.items) }
+    ensures order { OnOk result (owns_of seats.new.items ≡ owns_of seats.old.items) }
     ensures played { OnOk result (All HasPlayed seats.new.items) }
     ensures err { OnErr result (seats.new.items ≡ seats.old.items) }
 {
     let mut back = Vec::with_capacity(alloc, seats.len())?;
     let mut workers = Vec::with_capacity(alloc, seats.len())?;
     let taken = std::mem::replace(seats, Vec::new(alloc));
-    hire(air, enc, taken, &mut workers);
+    add_workers(air, enc, taken, &mut workers);
     rounds(rt, air, workers.as_mut_slice(), enc, pause);
-    dismiss(workers, &mut back);
+    take_seats_back(workers, &mut back);
     *seats = back;
     Ok(())
 }
 
-/// A law: where every active aircraft's seat has played, the journal that the seats close with is complete.
+/// A law: where all seats of a shared journal have played, the journal that they close with is complete.
 pub fn played_law()
     ensures { CompletesJournal }
 {}

@@ -2,6 +2,7 @@
 ghost use Rattle.std.specs.Prelude.{◌≡◌, ◌<◌, ◌+◌, []};
 ghost use Rattle.air_journal.specs.Airs.{air_of};
 ghost use Rattle.air_rules.specs.Owed.{OwesNothing};
+ghost use Rattle.air_turn.specs.Seats.{IsSeatOf};
 ghost use Rattle.craft_worker.specs.Workers.{GoesOn, HasCommitted, IsReady, MakesNoCommit, Worked};
 
 use acas_base::{Encounter, Picture};
@@ -32,16 +33,18 @@ const TRIES: u32 = 64;
 
 impl Worker {
     /// The worker of a seat that has seen nothing yet.
-    pub(crate) fn new(enc: &Encounter, seat: Seat) -> Worker
+    pub(crate) fn new(air: &Air, enc: &Encounter, seat: Seat) -> Worker
+        requires of { IsSeatOf air.now seat }
         requires encounter { seat.encounter ≡ enc.now }
         requires front { seat.front ≡ [] }
         ensures seat { result.seat ≡ seat }
-        ensures ready { IsReady seat.table enc.now result }
+        ensures ready { IsReady air.now enc.now result }
     {
         enc.valid_law();
         seat.seat_law();
         let mut craft = Craft::new(enc, seat.own());
         let picture = craft.look(enc);
+        let _ = air;
         Worker {
             seat,
             craft,
@@ -53,8 +56,8 @@ impl Worker {
 
     // Sends all that the aircraft owes.
     fn send_all<R: Wait>(&mut self, rt: &R, air: &Air, enc: &Encounter)
-        requires { IsReady air.now.table enc.now self.old }
-        ensures same { MakesNoCommit air.now.table enc.now self.old self.new }
+        requires { IsReady air.now enc.now self.old }
+        ensures same { MakesNoCommit air.now enc.now self.old self.new }
         ensures owes_nothing { OwesNothing (air_of enc.now) self.new.seat.front self.new.seat.own }
     {
         for _call in rt.forever() {
@@ -67,8 +70,8 @@ impl Worker {
 
     // Takes all that is due to the aircraft.
     fn take_all<R: Wait>(&mut self, rt: &R, air: &Air, enc: &Encounter)
-        requires { IsReady air.now.table enc.now self.old }
-        ensures { MakesNoCommit air.now.table enc.now self.old self.new }
+        requires { IsReady air.now enc.now self.old }
+        ensures { MakesNoCommit air.now enc.now self.old self.new }
     {
         for _call in rt.forever() {
             if let Took::Nothing = air.take(rt, &mut self.seat) {
@@ -80,9 +83,9 @@ impl Worker {
 
     // Counts a commit, and looks in the next cycle, where there is one.
     fn look_on(&mut self, air: &Air, enc: &Encounter)
-        requires { HasCommitted air.now.table enc.now self.old }
+        requires { HasCommitted air.now enc.now self.old }
         ensures seat { self.new.seat ≡ self.old.seat }
-        ensures ready { IsReady air.now.table enc.now self.new }
+        ensures ready { IsReady air.now enc.now self.new }
         ensures done { self.new.done ≡ self.old.done }
     {
         enc.valid_law();
@@ -95,9 +98,9 @@ impl Worker {
 
     // Tries to commit the next cycle, of which there has to be one.
     fn commit<R: Wait, P: Pause>(&mut self, rt: &R, air: &Air, enc: &Encounter, pause: &P) -> Commit
-        requires ready { IsReady air.now.table enc.now self.old }
+        requires ready { IsReady air.now enc.now self.old }
         requires left { self.old.made < enc.now.cycles }
-        ensures { GoesOn air.now.table enc.now self.old self.new }
+        ensures { GoesOn air.now enc.now self.old self.new }
     {
         enc.valid_law();
         pause.pause(self.seat.own(), self.made + 1);
@@ -111,8 +114,8 @@ impl Worker {
     /// Sends what the aircraft owes, takes what is due to it and commits, until all its cycles are over and it owes
     /// nothing, or until so many tries in a row found others behind.
     pub(crate) fn work<R: Wait, P: Pause>(&mut self, rt: &R, air: &Air, enc: &Encounter, pause: &P)
-        requires { IsReady air.now.table enc.now self.old }
-        ensures { Worked air.now.table enc.now self.old self.new }
+        requires { IsReady air.now enc.now self.old }
+        ensures { Worked air.now enc.now self.old self.new }
     {
         self.done = false;
         let mut tries = 0;

@@ -1,6 +1,6 @@
 use Rattle.std.proofs.Common.{◌≡◌, map, vec_capacity}
 use Rattle.craft_worker.specs.Workers.{seat_of}
-use Rattle.craft_worker.proofs.threaded_run.dismiss.Given as goal
+use Rattle.craft_worker.proofs.threaded_run.take_seats_back.Given as goal
 
 abbrev pub invariant-loop-worker : goal.invariant-loop-worker
 invariant-loop-worker l = record {

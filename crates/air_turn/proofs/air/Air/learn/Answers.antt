@@ -1,6 +1,6 @@
 use Rattle.std.proofs.Common.{rules, ◌∙◌, ap}
 use Rattle.air_turn.specs.Told.{Sitting, first, note_of}
-use Rattle.air_turn.proofs.Along.{notes-along, settles-along, tells-along}
+use Rattle.air_turn.proofs.Along.{notes-along, confirms-along, tells-along}
 use Rattle.air_turn.proofs.Turning.{told-is}
 use Rattle.air_turn.proofs.air.Air.learn.Goals as goal
 
@@ -22,4 +22,4 @@ load-requires c =
     let m = c.seat.inside.place.me in
     let note = ap (λ (y : Sitting). y.0) c.split_seat-note.ensures.4 ∙ ap (λ (y : Sitting). note_of y.0) c.other.invariant.idle in
     let told = told-is m c.join_seat.new.seat.me _ m.0.encounter o.0.encounter (first m.0.claims) (first o.0.claims).seen c.seat.invariant.idle note c.join_seat.ensures.2 in
-    (search rules, search rules, settles-along _ _ _ _ m.0.encounter (first m.0.claims) (first o.0.claims).seen told)
+    (search rules, search rules, confirms-along _ _ _ _ m.0.encounter (first m.0.claims) (first o.0.claims).seen told)

@@ -1,4 +1,4 @@
-use Rattle.std.proofs.Common.{rules, subst}
+use Rattle.std.proofs.Common.{subst}
 use Rattle.air_journal.specs.declared.answers.Sent.{Sent}
 use Rattle.air_turn.specs.Seats.{SendsIn}
 use Rattle.craft_worker.proofs.Counting.{nothing-then, sends-then}
@@ -9,7 +9,7 @@ pub loop-call-init : goal.loop-call-init
 loop-call-init g c = goes-self _ _ _ c.requires
 
 pub send-requires : goal.send-requires
-send-requires g c = let table = c.loop-call.invariant.goes_on.ready.is.table_is in search rules
+send-requires g c = record { of = c.loop-call.invariant.goes_on.ready.is.seat }
 
 pub returns-in-Nothing-clause-same : goal.returns-in-Nothing-clause-same
 returns-in-Nothing-clause-same g c = goes-after _ _ _ c.loop-call.self c.send.new.seat c.loop-call.invariant c.send.ensures.same (sends-then _ _ _ c.send.ensures)
