@@ -78,14 +78,14 @@ moves (Take own send copy good) K low high cell sense ne e equal = absurd (cc)
 
 -- ---- the last commit of a row
 
-at-is : (n : ℕ) (o : Option ℕ) → o ≡ Some n → is_at n o ≡ true
+pub at-is : (n : ℕ) (o : Option ℕ) → o ≡ Some n → is_at n o ≡ true
 at-is n o e = ap (is_at n) e ∙ eq-eqb n n refl
 
 at-not : (n : ℕ) (o : Option ℕ) → (o ≡ Some n → ⊥) → is_at n o ≡ false
 at-not n None h = refl
 at-not n (Some b) h = ne_eqb b n (λ e. h (ap Some e))
 
-last-skips : (x : Entry) (K : List Entry) (low high from : ℕ) → (is_pair_commit low high x && is_at from (row_began (x ∷ K) low high)) ≡ false → last_of (x ∷ K) low high from ≡ last_of K low high from
+pub last-skips : (x : Entry) (K : List Entry) (low high from : ℕ) → (is_pair_commit low high x && is_at from (row_began (x ∷ K) low high)) ≡ false → last_of (x ∷ K) low high from ≡ last_of K low high from
 last-skips x K low high from e = cond-false (is_pair_commit low high x && is_at from (row_began (x ∷ K) low high)) (Some (length K)) (last_of K low high from) e
 
 pub record Lasts (K : List Entry) (low high from : ℕ) (sense : Sense) (last : ℕ) : Type 0 where

@@ -153,7 +153,7 @@ some-none None e = refl
 some-none (Some b) e = absurd (cc)
 
 -- The run of an aircraft in a sense, where its last cell has it.
-present-is : (K : List Entry) (own other : ℕ) (sense : Sense) → sense_of (last_cell K own other) ≡ Some sense → present_run K own other ≡ run_began K own other sense
+pub present-is : (K : List Entry) (own other : ℕ) (sense : Sense) → sense_of (last_cell K own other) ≡ Some sense → present_run K own other ≡ run_began K own other sense
 present-is K own other sense e = ap (option_and_then (λ s. run_began K own other s)) e
 
 -- At a commit of one of the two, the row begins exactly where its own run does.
@@ -276,7 +276,7 @@ row-by-runs (x ∷ K) low high at sense ne size equal = subst (Begins-by-runs (x
 
 -- ---- a row that begins
 
-at-true : (n : ℕ) (o : Option ℕ) → is_at n o ≡ true → o ≡ Some n
+pub at-true : (n : ℕ) (o : Option ℕ) → is_at n o ≡ true → o ≡ Some n
 at-true n None e = absurd (cc)
 at-true n (Some b) e = ap Some (eqb-true b n e)
 

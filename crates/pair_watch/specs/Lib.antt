@@ -1,1 +1,3 @@
 pub mod Watching
+pub mod Causes
+pub mod Intervals

@@ -37,7 +37,7 @@ is_second Free = false
 
 -- Both coordinate, and `high` gives way to `low`.
 abbrev pub is_watched : Air → ℕ → ℕ → Bool
-is_watched air low high = if low == high then false else is_second (rank_of air high low) && is_first (rank_of air low high)
+is_watched air low high = is_second (rank_of air high low) && is_first (rank_of air low high)
 
 -- ---- rows of equal senses
 

@@ -6,8 +6,10 @@
 #![tactic(auto)]
 
 mod intervals;
+mod laws;
 mod lines;
 mod pair;
 mod rows;
 
+pub use laws::{intervals_law, lapsed_law};
 pub use lines::{Watch, write};
