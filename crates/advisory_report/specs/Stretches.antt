@@ -4,7 +4,8 @@ use Rattle.advisory_report.specs.Composite.{word_of}
 use Rattle.advisory_report.specs.declared.composite.Composite.{Composite}
 use Rattle.advisory_report.specs.declared.stretches.Stretch.{Stretch}
 
--- Of all that is shown by cycle, from 1, this is the longest row of cycles up to its last one that have the word of that one.
+-- Of all that is shown by cycle, from 1, this is the longest row of cycles up to its last one that have the word of
+-- that one.
 pub record IsStretch (all : ℕ → Composite) (row : Stretch) : Type 0 where
   pub begun : 1 ≤ row.first
   pub in_order : row.first ≤ row.last

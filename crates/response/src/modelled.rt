@@ -7,8 +7,8 @@ use crate::flier::Flier;
 use air_journal::AirState;
 use std::marker::Model;
 
-/// How an aircraft would have flown with the modelled response, cycle by cycle: what [`crate::flown`] gives in each cycle of the
-/// run in turn, in one pass.
+/// How an aircraft would have flown with the modelled response, cycle by cycle: what [`crate::flown`] gives in each
+/// cycle of the run in turn, in one pass.
 #[derive(Drop)]
 pub struct ModelledFlight<'a> {
     flier: Flier<'a>,
