@@ -1,3 +1,4 @@
 pub mod Strongest
 pub mod Adding
 pub mod Steps
+pub mod Stretching

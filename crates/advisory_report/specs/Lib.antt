@@ -2,3 +2,4 @@ pub mod Cells
 pub mod Composite
 pub mod Phrases
 pub mod Report
+pub mod Stretches

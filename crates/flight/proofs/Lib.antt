@@ -8,3 +8,4 @@ pub mod Slants
 pub mod Staying
 pub mod Placing
 pub mod Boxed
+pub mod Nearest

@@ -1,6 +1,7 @@
 //! Where the aircraft of an encounter are, and what they measure of each other.
 #![tactic(auto)]
 
+mod approach;
 mod course;
 mod flying;
 mod measuring;
@@ -8,6 +9,7 @@ mod misses;
 mod place;
 mod places;
 
+pub use approach::{ClosestApproach, closest_approach, range_between};
 pub use flying::{inside, inside_law, position};
 pub use measuring::{Meas, measure, own_altitude, slant_range, slant_range_law};
 pub use place::Place;

@@ -10,7 +10,8 @@ use Rattle.pair_watch.specs.Watching.{cause_of, equal_sense, is_watched}
 use Rattle.pair_watch.specs.declared.pair.Cause.{Cause}
 use Rattle.pair_watch.specs.declared.pair.Cause.TheVariants.{Untold, Old, Lapsed}
 
--- The last good take of a message of `low` that `high` made before its last commit, and where the present run of `low` began.
+-- The last good take of a message of `low` that `high` made before its last commit, and where the present run of `low`
+-- began.
 pub record HasTaken (air : Air) (journal : List Entry) (low high : ℕ) (taken : Taken) (began : ℕ) : Type 0 where
   pub last : last_take air (before_last_commit journal high) high low ≡ Some taken
   pub run : present_run journal low high ≡ Some began
@@ -36,8 +37,8 @@ IsCause air journal low high Untold = last_take air (before_last_commit journal 
 IsCause air journal low high Old = IsOld air journal low high
 IsCause air journal low high Lapsed = HasLapsed air journal low high
 
--- After each beginning of a journal after which the senses of two aircraft that coordinate are equal, the cause that is told
--- holds.
+-- After each beginning of a journal after which the senses of two aircraft that coordinate are equal, the cause that is
+-- told holds.
 abbrev pub HasTrueCauses : Air → List Entry → Type 0
 HasTrueCauses air journal = (earlier : List Entry) (low high : ℕ) (sense : Sense) →
     Begins earlier journal → is_watched air low high ≡ true → equal_sense earlier low high ≡ Some sense →

@@ -5,8 +5,8 @@ use Rattle.acas_base.specs.declared.entry.Entry.{Entry}
 use Rattle.air_rules.specs.Journal.{Begins}
 use Rattle.pair_watch.specs.Watching.{begun_sense, equal_sense, is_pair_commit, last_of}
 
--- At this position one of two aircraft commits. After it both advise against each other in this sense, or there is no sense in
--- which they do.
+-- At this position one of two aircraft commits. After it both advise against each other in this sense, or there is no
+-- sense in which they do.
 pub record HasCommit (journal : List Entry) (low high at : ℕ) (sense : Option Sense) : Type 0 where
   pub before : List Entry
   pub entry : Entry

@@ -54,14 +54,6 @@ first-later p a m (suc n) is =
     subst (λ o. IsLater o (a + m)) (sym (ap (λ l. find p (range_with_len a l)) next ∙ first-more p a (m + n)))
     (later-more p (a + (m + n)) (a + m) (find p (range_with_len a (m + n))) (omega arith) (first-later p a m n is))
 
--- A number that passes, and before which none does, is the first one.
-pub first-is : (p : ℕ → Bool) (a n k : ℕ) → a ≤ k → k < a + n → p k ≡ true → ((j : ℕ) → a ≤ j → j < k → p j ≡ false) → find p (range_with_len a n) ≡ Some k
-first-is p a zero k low high passes before = absurd (omega arith)
-first-is p a (suc n) k low high passes before = elim (cases_lt a k) [
-  | inl h ↦ ap (λ b. cond b (Some a) (find p (range_with_len (a + 1) n))) (before a (omega arith) h) ∙ first-is p (a + 1) n k (omega arith) (omega arith) passes (λ j l g. before j (omega arith) g)
-  | inr h ↦ (let same : a ≡ k = omega arith in ap (λ b. cond b (Some a) (find p (range_with_len (a + 1) n))) (ap p same ∙ passes) ∙ ap Some same)
-]
-
 -- Some number passes.
 pub any-range : (p : ℕ → Bool) (a n k : ℕ) → a ≤ k → k < a + n → p k ≡ true → list_any p (range_with_len a n) ≡ true
 any-range p a zero k low high passes = absurd (omega arith)

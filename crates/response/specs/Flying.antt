@@ -1,9 +1,11 @@
 -- What is kept of an aircraft that flies with the modelled response.
-use Rattle.std.specs.Prelude.{◌≡◌, ℕ, ◌+◌, ◌-◌, ◌*◌, ◌<◌, ◌≤◌, ◌^◌, unsigned_abs, ℤ, if◌then◌else◌, List, Option, Some, None, IfSome, length, option_map}
+use Rattle.std.specs.Prelude.{◌≡◌, ℕ, ◌+◌, ◌-◌, ◌*◌, ◌<◌, ◌≤◌, ◌^◌, unsigned_abs, Bool, ℤ, if◌then◌else◌, List, Option, Some, None, IfSome, length, option_map}
 use Rattle.acas_base.specs.Encounter.{Parts}
 use Rattle.acas_base.specs.declared.entry.Entry.{Entry}
 use Rattle.advisory_report.specs.Phrases.{has_advice}
 use Rattle.advisory_report.specs.declared.composite.Composite.{Composite}
+use Rattle.air_journal.specs.Airs.{air_of}
+use Rattle.air_rules.specs.Air.{is_ra}
 use Rattle.flight.specs.Flight.{position}
 use Rattle.response.specs.Flown.{Flight, changed, first_advised, flight_of, motion_since, moved_twice, response_to}
 use Rattle.response.specs.declared.advice.Advised.{Advised}
@@ -53,10 +55,11 @@ moved_on motion advised cycle altitude rate = option_map (responded advised cycl
 abbrev pub highest : ℕ → ℕ
 highest cycle = 2 ^ 29 + cycle * 2 ^ 19
 
-pub record IsFlier (it : Flying) (planned : ℤ) (advised : Advised) (motion : Option Motion) : Type 0 where
+pub record IsFlier (it : Flying) (responds : Bool) (planned : ℤ) (advised : Advised) (motion : Option Motion) : Type 0 where
   pub own : it.own < length it.encounter.crafts
   pub begun : 1 ≤ it.cycle
   pub in_run : it.cycle ≤ it.encounter.cycles
+  pub responds_is : responds ≡ is_ra (air_of it.encounter) it.own
   pub planned_is : planned ≡ (position it.encounter it.own it.cycle).z
   pub advised_is : IsAdvised (flight_in it) (it.cycle - 1) advised
   pub motion_is : motion ≡ motion_at (flight_in it) it.cycle (it.cycle - 1)

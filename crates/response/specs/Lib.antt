@@ -1,3 +1,4 @@
 pub mod Flown
 pub mod Flying
 pub mod Response
+pub mod Modelled

@@ -1,9 +1,8 @@
--- The text of the modelled response: for each pair of aircraft of which one resolves against the other, how near they come as
--- planned and as flown (this project's profile).
-use Rattle.std.specs.Prelude.{ℕ, ◌+◌, ◌-◌, ◌/◌, Bool, true, false, ◌||◌, if◌then◌else◌, nat_le, ◌-ℤ◌, unsigned_abs, List, [], ◌∷◌, codes, find, length, Option, Some, None}
+-- The text of the modelled response: for each pair of aircraft of which one has a resolution advisory against the
+-- other, how near they come as planned and as flown (this project's profile).
+use Rattle.std.specs.Prelude.{ℕ, ◌+◌, ◌-◌, ◌/◌, Bool, true, false, ◌||◌, if◌then◌else◌, ◌-ℤ◌, unsigned_abs, List, [], ◌∷◌, codes, length, Option, Some, None}
 use Rattle.std.specs.Fmt.{decimal}
-use Rattle.std.specs.List.{flat_map, list_all, list_any, range_with_len}
-use Rattle.std.specs.Option.{option_map_or}
+use Rattle.std.specs.List.{flat_map, list_any, range_with_len}
 use Rattle.acas_base.specs.Encounter.{Parts}
 use Rattle.acas_base.specs.declared.advisory.Cell.{Cell}
 use Rattle.acas_base.specs.declared.advisory.Cell.TheVariants.{Clear, Traffic, Ra}
@@ -14,8 +13,8 @@ use Rattle.acas_text.specs.Hex.{hex}
 use Rattle.air_journal.specs.Airs.{address_of}
 use Rattle.air_journal.specs.Cells.{commit_cells}
 use Rattle.air_rules.specs.Journal.{cell_at}
+use Rattle.flight.specs.Approach.{closest_cycle}
 use Rattle.flight.specs.Flight.{position}
-use Rattle.flight.specs.Measurement.{slant_range}
 use Rattle.response.specs.Flown.{flown}
 
 -- ---- pairs
@@ -26,30 +25,20 @@ is_resolution Clear = false
 is_resolution Traffic = false
 is_resolution (Ra advisory) = true
 
-abbrev pub resolves_in : Option Cells → ℕ → Bool
-resolves_in None other = false
-resolves_in (Some cells) other = is_resolution (cell_at cells other)
+-- A commit has a resolution advisory against another aircraft.
+abbrev pub advises_against : Option Cells → ℕ → Bool
+advises_against None other = false
+advises_against (Some cells) other = is_resolution (cell_at cells other)
 
--- In some of so many commits an aircraft has a resolution advisory against another one.
-abbrev pub resolves : List Entry → ℕ → ℕ → ℕ → Bool
-resolves journal cycles own other = list_any (λ cycle. resolves_in (commit_cells journal own cycle) other) (range_with_len 1 cycles)
+-- Some of so many commits of an aircraft has one.
+abbrev pub ever_advises_against : List Entry → ℕ → ℕ → ℕ → Bool
+ever_advises_against journal cycles own other = list_any (λ cycle. advises_against (commit_cells journal own cycle) other) (range_with_len 1 cycles)
 
 -- One of two aircraft has a resolution advisory against the other, in some commit.
 abbrev pub is_pair : Parts → List Entry → ℕ → ℕ → Bool
-is_pair e journal a b = resolves journal e.cycles a b || resolves journal e.cycles b a
+is_pair e journal a b = ever_advises_against journal e.cycles a b || ever_advises_against journal e.cycles b a
 
 -- ---- how near they come
-
-abbrev pub range_in : Parts → ℕ → ℕ → ℕ → ℕ
-range_in e a b cycle = slant_range (position e a cycle) (position e b cycle)
-
--- In no cycle is the slant range less than in this one.
-abbrev pub is_least : Parts → ℕ → ℕ → ℕ → Bool
-is_least e a b cycle = list_all (λ other. nat_le (range_in e a b cycle) (range_in e a b other)) (range_with_len 1 e.cycles)
-
--- The first such cycle.
-unfoldable pub nearest : Parts → ℕ → ℕ → ℕ
-nearest e a b = option_map_or (λ cycle. cycle) (find (is_least e a b) (range_with_len 1 e.cycles)) 0
 
 -- How far two altitudes are apart, in ft, rounded down: as planned, from 1/60 ft, and as flown, from 1/2048 ft.
 abbrev pub planned_apart : Parts → ℕ → ℕ → ℕ → ℕ
@@ -66,7 +55,7 @@ approach_line one other cycle planned flown = line_of (codes "p" ∷ hex 6 one �
 
 abbrev pub pair_line : Parts → List Entry → ℕ → ℕ → List ℕ
 pair_line e journal a b =
-    let cycle = nearest e a b in
+    let cycle = closest_cycle e a b in
     approach_line (address_of e a) (address_of e b) cycle (planned_apart e a b cycle) (flown_apart e journal a b cycle)
 
 abbrev pub pair_lines : Parts → List Entry → ℕ → ℕ → List (List ℕ)

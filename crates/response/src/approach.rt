@@ -1,41 +1,12 @@
-// How near two aircraft come.
+// How far the altitudes of two aircraft are apart.
 ghost use Rattle.std.specs.Prelude.{◌≡◌, ◌<◌, ◌≤◌, ◌/◌, ◌^◌, ◌-ℤ◌, unsigned_abs, length};
 ghost use Rattle.acas_base.specs.Ranges.{IsCycle};
-ghost use Rattle.response.specs.Response.{flown_apart, nearest, planned_apart, range_in};
+ghost use Rattle.response.specs.Response.{flown_apart, planned_apart};
 
 use crate::flown;
 use acas_base::Encounter;
 use air_journal::AirState;
-use flight::{position, slant_range};
-
-fn range_in(encounter: &Encounter, a: u8, b: u8, cycle: u16) -> u64
-    requires a { a < length encounter.now.crafts }
-    requires b { b < length encounter.now.crafts }
-    requires cycle { IsCycle cycle }
-    ensures { result ≡ range_in encounter.now a b cycle }
-{
-    slant_range(position(encounter, a, cycle), position(encounter, b, cycle))
-}
-
-// The first cycle of the run in which their slant range is least.
-pub(crate) fn nearest(encounter: &Encounter, a: u8, b: u8) -> u16
-    requires a { a < length encounter.now.crafts }
-    requires b { b < length encounter.now.crafts }
-    ensures value { result ≡ nearest encounter.now a b }
-    ensures begun { 1 ≤ result }
-    ensures in_run { result ≤ encounter.now.cycles }
-{
-    let mut nearest = 1;
-    let mut least = range_in(encounter, a, b, 1);
-    for earlier in 1..encounter.cycles() {
-        let range = range_in(encounter, a, b, earlier + 1);
-        if range < least {
-            least = range;
-            nearest = earlier + 1;
-        }
-    }
-    nearest
-}
+use flight::position;
 
 fn distance(a: i64, b: i64) -> u64
     requires a { unsigned_abs a ≤ 2 ^ 30 }

@@ -2,14 +2,14 @@
 ghost use Rattle.std.specs.Prelude.{◌≡◌, ◌+◌, ◌<◌, ◌≤◌, ◌^◌, ◌-ℤ◌, unsigned_abs, IfSome, length};
 ghost use Rattle.acas_base.specs.Ranges.{IsCycle, IsWithin};
 ghost use Rattle.flight.specs.Flight.{position};
-ghost use Rattle.response.specs.Flown.{altitude_units, first_advised, flown_from, rate_units};
+ghost use Rattle.response.specs.Flown.{altitude_units, first_advised, flown, flown_from, rate_units};
 ghost use Rattle.response.specs.Flying.{IsMotion, begun, flight_in, flying, highest, moved_on, responded};
 
 use crate::advice::{Advised, response_to};
 use crate::motion::Motion;
 use acas_num::floor_div;
 use advisory_report::{Composite, has_advice, shown};
-use air_journal::AirState;
+use air_journal::{AirState, is_ra};
 use flight::position;
 use std::marker::Model;
 
@@ -105,6 +105,8 @@ fn moved_on(
 pub(crate) struct Flier<'a> {
     state: &'a AirState,
     own: u8,
+    // It is of kind RA. Any other aircraft flies as planned, whatever it shows.
+    responds: bool,
     cycle: u16,
     // Where it is planned to be, in 1/60 ft.
     planned: i64,
@@ -119,7 +121,7 @@ impl<'a> Model for Flier<'a> {
 
     ghost view = { λ f. flying f.state.now.encounter f.state.now.journal f.own f.cycle };
 
-    ghost invariant = { λ f. IsFlier (flying f.state.now.encounter f.state.now.journal f.own f.cycle) f.planned f.advised f.motion };
+    ghost invariant = { λ f. IsFlier (flying f.state.now.encounter f.state.now.journal f.own f.cycle) f.responds f.planned f.advised f.motion };
 }
 
 impl<'a> Flier<'a> {
@@ -132,6 +134,7 @@ impl<'a> Flier<'a> {
         Flier {
             state,
             own,
+            responds: is_ra(state.enc(), own),
             cycle: 1,
             planned: planned_z(state, own, 1),
             advised: Advised::nothing(),
@@ -157,7 +160,19 @@ impl<'a> Flier<'a> {
     }
 
     // Its altitude, in 1/2048 ft.
+    #[tactic(auto, unfolding(crate::specs::Flown::flown))]
     pub fn altitude(&self) -> i64
+        ensures value { result ≡ flown self.now.encounter self.now.journal self.now.own self.now.cycle }
+        ensures bound { unsigned_abs result ≤ 2 ^ 30 }
+    {
+        if self.responds {
+            return self.responding();
+        }
+        altitude_units(self.planned)
+    }
+
+    // The altitude that it has by what it shows.
+    fn responding(&self) -> i64
         ensures value { result ≡ flown_from (flight_in self.now) self.now.cycle (first_advised (flight_in self.now) self.now.encounter.cycles) }
         ensures bound { unsigned_abs result ≤ 2 ^ 30 }
     {

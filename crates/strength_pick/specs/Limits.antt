@@ -16,8 +16,8 @@ is_stricter_limit Level = false
 is_stricter_limit Positive = false
 is_stricter_limit Increase = false
 
--- A limit that own rate meets already asks for own rate, as the weakest one then does, too. So both separate the two aircraft
--- alike.
+-- A limit that own rate meets already asks for own rate, as the weakest one then does, too. So both separate the two
+-- aircraft alike.
 abbrev pub LimitsAskForOwnRate : View → Type 0
 LimitsAskForOwnRate view = (sense : Sense) (fresh : Bool) (limit : Strength) →
     is_stricter_limit limit ≡ true → meets_floor view sense limit ≡ true → separation_of view sense limit fresh ≡ separation_of view sense Limit2000 fresh

@@ -28,8 +28,9 @@ pub fn next_law()
     ensures goes_on { (before : Intent) (view : View) → IsTrue (not (weakens before view)) → IsNext before view (strength_after before view) }
 {}
 
-/// A law: no choice is a limit to 1,000 or to 500 ft/min. Where one of these is allowed the limit to 2,000 ft/min is allowed too,
-/// and separates the two aircraft alike, as all of them ask for own rate. So it is taken first.
+/// A law: no choice is a limit to 1,000 or to 500 ft/min, if in the view each limit that own rate meets separates the two
+/// aircraft alike, as each of them asks for own rate. Where such a limit is allowed and gives ALIM the limit to
+/// 2,000 ft/min does so, too, and is taken first.
 pub fn limits_law()
     ensures strongest { (view : View) (sense : Sense) (fresh : Bool) → is_stricter_limit (strongest view sense fresh) ≡ false }
     ensures least { (view : View) (sense : Sense) (fresh : Bool) → LimitsAskForOwnRate view → is_stricter_limit (least_strength view sense fresh) ≡ false }

@@ -1,6 +1,6 @@
 use Rattle.std.proofs.Common.{◌≡◌}
 use Rattle.response.specs.Flying.{flying}
-use Rattle.response.proofs.flying.after_cycles.Given as goal
+use Rattle.response.proofs.flying.flown.Given as goal
 
 -- The aircraft has come so far.
 abbrev pub invariant-loop-done : goal.invariant-loop-done

@@ -48,6 +48,7 @@ invariant_of-self c =
       own = v.own;
       begun = omega arith;
       in_run = search rules;
+      responds_is = v.responds_is;
       planned_is = z;
       advised_is = subst (λ n. IsAdvised flight n c.with-self-inside.result) back advised;
       motion_is = moved ∙ motion-next flight i.cycle c.with-self-inside.result i.motion v.begun advised v.motion_is;

@@ -3,7 +3,7 @@ use Rattle.std.proofs.lemmas.Int.{to_z-of_z}
 use Rattle.response.proofs.Flights.{altitude-few, height, height-is}
 use Rattle.response.specs.Flown.{altitude_units, first_advised, flown_from}
 use Rattle.response.specs.Flying.{Flying, flight_in, flying}
-use Rattle.response.proofs.flier.Flier.altitude.Goals as goal
+use Rattle.response.proofs.flier.Flier.responding.Goals as goal
 
 -- The altitude of an aircraft.
 abbrev IsAltitude : ℤ → Flying → Type 0
