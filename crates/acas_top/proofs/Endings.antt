@@ -1,23 +1,27 @@
 -- How calls end: what is within the limit is not too long, and what the answer of a word is.
 use Rattle.std.proofs.Common.{◌≡◌, ℕ, ◌≤◌, Bool, true, false, List, [], length, get_or, Option, Some, None, Result, Ok, Err, refl, ap, sym, ◌∙◌, subst, arith, inl, inr}
 use Rattle.std.proofs.lemmas.Bool.{eq-eqb, false≢true}
-use Rattle.std.specs.Prelude.{IsSomeAnd, codes, eqb}
+use Rattle.std.specs.Prelude.{IsSomeAnd, codes, eqb, if◌then◌else◌}
 use Rattle.std.specs.Option.{ForSome}
 use Rattle.std.specs.Str.{bytes_eq}
-use Rattle.acas_top.specs.Answers.{Answers}
+use Rattle.acas_top.specs.Answers.{Answers, Plays, PlaysSome}
+use Rattle.acas_io.specs.Faults.{Rose, one_more}
 use Rattle.acas_io.specs.Stream.{Grew, Puts}
-use Rattle.acas_top.specs.Ends.{Answered, Ended, IsAnswer, IsTooLong, IsUnread, PlaysInThreads, PlaysSerial, WasPut, WasRead, status_after}
+use Rattle.acas_top.specs.Ends.{Answered, Ended, IsAnswer, IsTooLong, IsUnread, Passed, WasPut, WasRead, status_after}
 use Rattle.acas_top.specs.Statuses.{status_number}
-use Rattle.acas_top.specs.Words.{AreNoCommand, AreNoPlainCommand, AreNoThreadedRun, IsCommand, limit_of, words_of}
+use Rattle.acas_top.specs.Words.{AreNoCommand, AreNoPlain, AreNoRun, IsCommand, Say, limit_of}
 use Rattle.acas_top.specs.Given.{answer_status, answer_text}
 use Rattle.acas_top.specs.declared.answers.Answer.{Answer}
-use Rattle.acas_top.specs.declared.answers.Answer.TheVariants.{Judged, Made, Recorded, Refused, Summed, Swept, Told}
+use Rattle.acas_top.specs.declared.answers.Answer.TheVariants.{Judged, Made, Recorded, Refused, Shown, Summed, Swept, Told}
 use Rattle.acas_top.specs.declared.status.Status.{Status}
 use Rattle.acas_top.specs.declared.status.Status.TheVariants as statuses
 use Rattle.rec_audit.specs.declared.verdict.Verdict.TheVariants.{Legal, Wrong}
 use Rattle.acas_top.specs.declared.status.Status.TheVariants.{Done, OutOfMemory, ReadFault, TooLong, Usage, WriteFault}
+use Rattle.acas_top.specs.declared.words.TheConstants.{ENCOUNTER_BYTES, RECORDING_BYTES}
 use Rattle.acas_top.specs.declared.words.Command.{Command}
-use Rattle.acas_top.specs.declared.words.Command.TheVariants.{Run, Serial, Tell}
+use Rattle.acas_top.specs.declared.words.Command.TheVariants as commands
+use Rattle.acas_top.specs.declared.words.Page.TheVariants.{Help, Version}
+use Rattle.acas_top.specs.declared.words.Plain.TheVariants.{Audit, Gen, Resume, Serial, Show, Sweep, Tell}
 use Rattle.acas_top.specs.declared.words.Threaded.{Threaded}
 use Rattle.acas_top.specs.declared.words.Threaded.TheVariants.{Play, Sum}
 use Rattle.acas_top.specs.declared.words.Tool.TheVariants.{Reports, Response, Watch, Why}
@@ -35,45 +39,92 @@ begins-with word words = bytes_eq (get_or words 0 []) word
 clash : (word : List ℕ) (words one other : List (List ℕ)) → words ≡ one → words ≡ other → begins-with word one ≡ false → begins-with word other ≡ true → ⊥
 clash word words one other is also unlike like = false≢true (sym unlike ∙ ap (begins-with word) (sym is ∙ also) ∙ like)
 
--- The answer Done to the word of the serial run is its recording.
-pub plays-serial : (command : Command) (words : List (List ℕ)) (old new : Option (List ℕ)) (bytes text : List ℕ) (IsPut : List ℕ → Type 0)
-    → words ≡ words_of command → words ≡ words_of Serial → Answers command bytes Done text → WasRead (limit_of command) old new bytes → IsPut text → PlaysSerial old new IsPut
-plays-serial Serial words old new bytes text IsPut said also plays read put = record {
-  bytes = bytes;
-  encounter = plays.encounter;
-  journal = plays.journal;
-  read = read;
-  says = plays.says;
-  serial = plays.serial;
-  run = plays.run;
-  put = subst IsPut plays.text_is put;
-}
-plays-serial (Tell Reports) words old new bytes text IsPut said also plays read put = absurd (clash (codes "serial") words _ _ said also refl refl)
-plays-serial (Tell Response) words old new bytes text IsPut said also plays read put = absurd (clash (codes "serial") words _ _ said also refl refl)
-plays-serial (Tell Watch) words old new bytes text IsPut said also plays read put = absurd (clash (codes "serial") words _ _ said also refl refl)
-plays-serial (Tell Why) words old new bytes text IsPut said also plays read put = absurd (clash (codes "serial") words _ _ said also refl refl)
-plays-serial (Run Play) words old new bytes text IsPut said also plays read put = absurd (clash (codes "serial") words _ _ said also refl refl)
-plays-serial (Run Sum) words old new bytes text IsPut said also plays read put = absurd (clash (codes "serial") words _ _ said also refl refl)
-plays-serial command words old new bytes text IsPut said also plays read put = absurd (clash (codes "serial") words _ _ said also refl refl)
+-- The limit of a command, from the first of the words that say it.
+abbrev limit-by : List (List ℕ) → Option ℕ
+limit-by words =
+    if begins-with (codes "gen") words then None
+    else if begins-with (codes "sweep") words then None
+    else if begins-with (codes "--help") words then None
+    else if begins-with (codes "-h") words then None
+    else if begins-with (codes "help") words then None
+    else if begins-with (codes "--version") words then None
+    else if begins-with (codes "serial") words then Some ENCOUNTER_BYTES
+    else if begins-with (codes "play") words then Some ENCOUNTER_BYTES
+    else if begins-with (codes "sum") words then Some ENCOUNTER_BYTES
+    else Some RECORDING_BYTES
 
--- The answer Done to the word `play` is the recording of a journal.
-pub plays-in-threads : (run : Threaded) (words : List (List ℕ)) (old new : Option (List ℕ)) (bytes text : List ℕ) (IsPut : List ℕ → Type 0)
-    → words ≡ words_of (Run run) → words ≡ words_of (Run Play) → Answers (Run run) bytes Done text → WasRead (limit_of (Run run)) old new bytes → IsPut text → PlaysInThreads old new IsPut
-plays-in-threads Play words old new bytes text IsPut said also plays read put = record {
+limit-said : (words : List (List ℕ)) (command : Command) → Say words command → limit_of command ≡ limit-by words
+limit-said words (commands.Plain Serial) said = sym (ap limit-by said)
+limit-said words (commands.Plain Audit) said = sym (ap limit-by said)
+limit-said words (commands.Plain (Gen number crafts cycles)) said = sym (ap limit-by said)
+limit-said words (commands.Plain (Tell Reports)) said = sym (ap limit-by said)
+limit-said words (commands.Plain (Tell Response)) said = sym (ap limit-by said)
+limit-said words (commands.Plain (Tell Watch)) said = sym (ap limit-by said)
+limit-said words (commands.Plain (Tell Why)) said = sym (ap limit-by said)
+limit-said words (commands.Plain (Sweep number count crafts cycles)) said = sym (ap limit-by said)
+limit-said words (commands.Plain Resume) said = sym (ap limit-by said)
+limit-said words (commands.Plain (Show Help)) (inl said) = sym (ap limit-by said)
+limit-said words (commands.Plain (Show Help)) (inr (inl said)) = sym (ap limit-by said)
+limit-said words (commands.Plain (Show Help)) (inr (inr said)) = sym (ap limit-by said)
+limit-said words (commands.Plain (Show Version)) said = sym (ap limit-by said)
+limit-said words (commands.Run Play) said = sym (ap limit-by said)
+limit-said words (commands.Run Sum) said = sym (ap limit-by said)
+
+-- Commands that the same words say have one limit.
+pub one-limit : (words : List (List ℕ)) (one other : Command) → Say words one → Say words other → limit_of one ≡ limit_of other
+one-limit words one other said also = limit-said words one said ∙ sym (limit-said words other also)
+
+-- The words of the serial run say no other command.
+only-serial : (words : List (List ℕ)) (bytes text : List ℕ) (command : Command) → Say words command → Say words (commands.Plain Serial) → Answers command bytes Done text → Plays bytes text
+only-serial words bytes text (commands.Plain Serial) said also plays = plays
+only-serial words bytes text (commands.Plain (Tell Reports)) said also plays = absurd (clash (codes "serial") words _ _ said also refl refl)
+only-serial words bytes text (commands.Plain (Tell Response)) said also plays = absurd (clash (codes "serial") words _ _ said also refl refl)
+only-serial words bytes text (commands.Plain (Tell Watch)) said also plays = absurd (clash (codes "serial") words _ _ said also refl refl)
+only-serial words bytes text (commands.Plain (Tell Why)) said also plays = absurd (clash (codes "serial") words _ _ said also refl refl)
+only-serial words bytes text (commands.Plain (Show Help)) (inl said) also plays = absurd (clash (codes "serial") words _ _ said also refl refl)
+only-serial words bytes text (commands.Plain (Show Help)) (inr (inl said)) also plays = absurd (clash (codes "serial") words _ _ said also refl refl)
+only-serial words bytes text (commands.Plain (Show Help)) (inr (inr said)) also plays = absurd (clash (codes "serial") words _ _ said also refl refl)
+only-serial words bytes text (commands.Plain (Show Version)) said also plays = absurd (clash (codes "serial") words _ _ said also refl refl)
+only-serial words bytes text (commands.Plain plain) said also plays = absurd (clash (codes "serial") words _ _ said also refl refl)
+only-serial words bytes text (commands.Run Play) said also plays = absurd (clash (codes "serial") words _ _ said also refl refl)
+only-serial words bytes text (commands.Run Sum) said also plays = absurd (clash (codes "serial") words _ _ said also refl refl)
+
+-- The words of `play` say no other run in threads.
+only-play : (words : List (List ℕ)) (bytes text : List ℕ) (run : Threaded) → Say words (commands.Run run) → Say words (commands.Run Play) → Answers (commands.Run run) bytes Done text → PlaysSome bytes text
+only-play words bytes text Play said also plays = plays
+only-play words bytes text Sum said also plays = absurd (clash (codes "play") words _ _ said also refl refl)
+
+-- A command was done, and its words are those of the serial run.
+pub done-serial : (command : Command) (words : List (List ℕ)) (old new : Option (List ℕ)) (bytes text : List ℕ) (IsPut : List ℕ → Type 0)
+    → Say words command → Answers command bytes Done text → WasRead (limit_of command) old new bytes → IsPut text → Say words (commands.Plain Serial) → Passed (limit_of (commands.Plain Serial)) Plays old new IsPut
+done-serial command words old new bytes text IsPut said answers read put also = record {
   bytes = bytes;
-  encounter = plays.encounter;
-  journal = plays.journal;
-  read = read;
-  says = plays.says;
-  run = plays.run;
-  put = subst IsPut plays.text_is put;
+  text = text;
+  read = subst (λ (limit : Option ℕ). WasRead limit old new bytes) (one-limit words command (commands.Plain Serial) said also) read;
+  relates = only-serial words bytes text command said also answers;
+  put = put;
 }
-plays-in-threads Sum words old new bytes text IsPut said also plays read put = absurd (clash (codes "play") words _ _ said also refl refl)
+
+-- A run in threads was done, and its words are those of `play`.
+pub done-play : (run : Threaded) (words : List (List ℕ)) (old new : Option (List ℕ)) (bytes text : List ℕ) (IsPut : List ℕ → Type 0)
+    → Say words (commands.Run run) → Answers (commands.Run run) bytes Done text → WasRead (limit_of (commands.Run run)) old new bytes → IsPut text → Say words (commands.Run Play)
+    → Passed (limit_of (commands.Run Play)) PlaysSome old new IsPut
+done-play run words old new bytes text IsPut said answers read put also = record {
+  bytes = bytes;
+  text = text;
+  read = read;
+  relates = only-play words bytes text run said also answers;
+  put = put;
+}
 
 -- Words that say neither a plain command nor a run in threads say none.
-pub none-at-all : (words : List (List ℕ)) → AreNoPlainCommand words → AreNoThreadedRun words → AreNoCommand words
-none-at-all words plain threaded (Run run) is = threaded run
-none-at-all words plain threaded command is = plain command is tt
+pub none-at-all : (words : List (List ℕ)) → AreNoPlain words → AreNoRun words → AreNoCommand words
+none-at-all words plain threaded (commands.Plain command) is = plain command is
+none-at-all words plain threaded (commands.Run run) is = threaded run
+
+-- A count that is one more rose.
+risen : (before now : ℕ) → now ≡ one_more before → Rose before now
+risen before now is = omega (arith, is)
 
 -- Statuses of different numbers are different.
 differ : (one other : Status) → eqb (status_number one) (status_number other) ≡ false → one ≡ other → ⊥
@@ -90,13 +141,39 @@ unsaid-ends none = record {
   write_fault = λ is. absurd (differ _ _ refl is);
   too_long = λ is. absurd (differ _ _ refl is);
   memory = λ is. absurd (differ _ _ refl is);
+  no_read_fault = λ _. refl;
+  no_write_fault = λ _. refl;
+  unread = λ _ _ _. refl;
   complete = λ some. absurd (some none);
 }
 
+-- What the plain call says of words that say no run in threads.
+pub plain-ends : {S K : Type 0} {words : List (List ℕ)} {status : Status} {left : S → Option (List ℕ)} {reads : S → ℕ} {source source_new : S} {written : K → Option (List ℕ)} {writes : K → ℕ} {sink sink_new : K}
+    → AreNoRun words → Ended (AreNoPlain words) words status left reads source source_new written writes sink sink_new → Ended (AreNoCommand words) words status left reads source source_new written writes sink sink_new
+plain-ends {words = words} no_run ended = record {
+  usage = (λ is. none-at-all words (ended.usage.0 is) no_run, λ none. ended.usage.1 (λ plain. none (commands.Plain plain)));
+  untouched = ended.untouched;
+  answered = ended.answered;
+  read_fault = ended.read_fault;
+  write_fault = ended.write_fault;
+  too_long = ended.too_long;
+  memory = ended.memory;
+  no_read_fault = ended.no_read_fault;
+  no_write_fault = ended.no_write_fault;
+  unread = ended.unread;
+  complete = λ some. ended.complete (λ no_plain. some (none-at-all words no_plain no_run));
+}
+
+-- Another command that the words say, and that reads nothing, leaves the source as it was, too.
+still-unread : {S : Type 0} (words : List (List ℕ)) (command : Command) {source source_new : S} → Say words command → (limit_of command ≡ None → source_new ≡ source)
+    → (other : Command) → Say words other → limit_of other ≡ None → source_new ≡ source
+still-unread words command said still other also none = still (one-limit words command other said also ∙ none)
+
 -- Memory was wanting.
 pub wanting-ends : {S K : Type 0} {IsNone : Type 0} {words : List (List ℕ)} {left : S → Option (List ℕ)} {reads : S → ℕ} {source source_new : S} {written : K → Option (List ℕ)} {writes : K → ℕ} {sink : K}
-    → (IsNone → ⊥) → Ended IsNone words OutOfMemory left reads source source_new written writes sink sink
-wanting-ends some = record {
+    → (command : Command) → Say words command → (IsNone → ⊥) → (limit_of command ≡ None → source_new ≡ source) → reads source_new ≡ reads source
+    → Ended IsNone words OutOfMemory left reads source source_new written writes sink sink
+wanting-ends {words = words} command said some still same = record {
   usage = (λ is. absurd (differ _ _ refl is), λ none. absurd (some none));
   untouched = λ is. absurd (differ _ _ refl is);
   answered = λ is. absurd is;
@@ -104,13 +181,17 @@ wanting-ends some = record {
   write_fault = λ is. absurd (differ _ _ refl is);
   too_long = λ is. absurd (differ _ _ refl is);
   memory = λ _. refl;
+  no_read_fault = λ _. same;
+  no_write_fault = λ _. refl;
+  unread = still-unread words command said still;
   complete = λ _ _ _ _. inr refl;
 }
 
 -- What a command reads couldn't be read.
 pub unread-ends : {S K : Type 0} {IsNone : Type 0} {words : List (List ℕ)} {left : S → Option (List ℕ)} {reads : S → ℕ} {source source_new : S} {written : K → Option (List ℕ)} {writes : K → ℕ} {sink : K}
-    → (command : Command) (status : Status) → words ≡ words_of command → (IsNone → ⊥) → IsUnread status (limit_of command) (left source) (reads source) (reads source_new) → Ended IsNone words status left reads source source_new written writes sink sink
-unread-ends command ReadFault said some rose = record {
+    → (command : Command) (status : Status) → Say words command → (IsNone → ⊥) → (limit_of command ≡ None → source_new ≡ source)
+    → IsUnread status (limit_of command) (left source) (reads source) (reads source_new) → Ended IsNone words status left reads source source_new written writes sink sink
+unread-ends {words = words} command ReadFault said some still rose = record {
   usage = (λ is. absurd (differ _ _ refl is), λ none. absurd (some none));
   untouched = λ is. absurd (differ _ _ refl is);
   answered = λ is. absurd is;
@@ -118,25 +199,33 @@ unread-ends command ReadFault said some rose = record {
   write_fault = λ is. absurd (differ _ _ refl is);
   too_long = λ is. absurd (differ _ _ refl is);
   memory = λ is. absurd (differ _ _ refl is);
-  complete = λ _ _ unrisen _. absurd (unrisen rose);
+  no_read_fault = λ other. absurd (other refl);
+  no_write_fault = λ _. refl;
+  unread = still-unread words command said still;
+  complete = λ _ _ unrisen _. absurd (unrisen (risen _ _ rose));
 }
-unread-ends command TooLong said some long = record {
+unread-ends {words = words} command TooLong said some still long = record {
   usage = (λ is. absurd (differ _ _ refl is), λ none. absurd (some none));
   untouched = λ is. absurd (differ _ _ refl is);
   answered = λ is. absurd is;
   read_fault = λ is. absurd (differ _ _ refl is);
   write_fault = λ is. absurd (differ _ _ refl is);
-  too_long = λ _. (refl, (command, said, long));
+  too_long = λ _. (refl, (command, said, long.0));
   memory = λ is. absurd (differ _ _ refl is);
-  complete = λ _ within _ _. absurd (within-long _ _ long (within command said));
+  no_read_fault = λ _. long.1;
+  no_write_fault = λ _. refl;
+  unread = still-unread words command said still;
+  complete = λ _ within _ _. absurd (within-long _ _ long.0 (within command said));
 }
-unread-ends command OutOfMemory said some unread = wanting-ends some
-unread-ends command status said some unread = absurd unread
+unread-ends command OutOfMemory said some still same = wanting-ends command said some still same
+unread-ends command status said some still unread = absurd unread
 
 -- An answer was put out, whole.
 whole-ends : {S K : Type 0} {IsNone : Type 0} {words : List (List ℕ)} {left : S → Option (List ℕ)} {reads : S → ℕ} {source source_new : S} {written : K → Option (List ℕ)} {writes : K → ℕ} {sink sink_new : K}
-    → (status : Status) → (IsNone → ⊥) → IsAnswer status → Answered words status (left source) (left source_new) (Grew (written sink) (written sink_new)) → Ended IsNone words status left reads source source_new written writes sink sink_new
-whole-ends status some answer answered = record {
+    → (status : Status) → (IsNone → ⊥) → IsAnswer status → Answered words status (left source) (left source_new) (Grew (written sink) (written sink_new))
+    → ((other : Command) → Say words other → limit_of other ≡ None → source_new ≡ source) → reads source_new ≡ reads source → writes sink_new ≡ writes sink
+    → Ended IsNone words status left reads source source_new written writes sink sink_new
+whole-ends status some answer answered still read_count write_count = record {
   usage = (λ is. absurd (subst IsAnswer is answer), λ none. absurd (some none));
   untouched = λ is. absurd (subst IsAnswer is answer);
   answered = λ _. answered;
@@ -144,15 +233,18 @@ whole-ends status some answer answered = record {
   write_fault = λ is. absurd (subst IsAnswer is answer);
   too_long = λ is. absurd (subst IsAnswer is answer);
   memory = λ is. absurd (subst IsAnswer is answer);
+  no_read_fault = λ _. read_count;
+  no_write_fault = λ _. write_count;
+  unread = still;
   complete = λ _ _ _ _. inl answer;
 }
 
 -- The answer to a command on the bytes that it read was put out, or a front of it.
 pub put-ends : {S K : Type 0} {IsNone : Type 0} {words : List (List ℕ)} {left : S → Option (List ℕ)} {reads : S → ℕ} {source source_new : S} {written : K → Option (List ℕ)} {writes : K → ℕ} {sink sink_new : K}
-    → (command : Command) (bytes text : List ℕ) (own status : Status) → words ≡ words_of command → IsCommand command → (IsNone → ⊥)
-    → WasRead (limit_of command) (left source) (left source_new) bytes → Answers command bytes own text
+    → (command : Command) (bytes text : List ℕ) (own status : Status) → Say words command → IsCommand command → (IsNone → ⊥)
+    → (limit_of command ≡ None → source_new ≡ source) → WasRead (limit_of command) (left source) (left source_new) bytes → reads source_new ≡ reads source → Answers command bytes own text
     → WasPut status own text (written sink) (written sink_new) (writes sink) (writes sink_new) → Ended IsNone words status left reads source source_new written writes sink sink_new
-put-ends command bytes text own WriteFault said is some read answers put = record {
+put-ends {words = words} command bytes text own WriteFault said is some still read read_count answers put = record {
   usage = (λ same. absurd (differ _ _ refl same), λ none. absurd (some none));
   untouched = λ same. absurd (differ _ _ refl same);
   answered = λ same. absurd same;
@@ -160,10 +252,14 @@ put-ends command bytes text own WriteFault said is some read answers put = recor
   write_fault = λ _. (put.1, (own, record { command = command; is = is; said = said; bytes = bytes; read = read; text = text; answers = answers; put = put.0 }));
   too_long = λ same. absurd (differ _ _ refl same);
   memory = λ same. absurd (differ _ _ refl same);
+  no_read_fault = λ _. read_count;
+  no_write_fault = λ other. absurd (other refl);
+  unread = still-unread words command said still;
   complete = λ _ _ _ unrisen. absurd (unrisen put.1);
 }
-put-ends command bytes text own status said is some read answers put =
+put-ends {words = words} command bytes text own status said is some still read read_count answers put =
     whole-ends status some put.1 (record { command = command; is = is; said = said; bytes = bytes; read = read; text = text; answers = subst (λ (s : Status). Answers command bytes s text) (sym put.0) answers; put = put.2 })
+    (still-unread words command said still) read_count put.3
 
 -- What was put out with the status Done is the whole text of an answer of this status.
 pub put-done : (own status : Status) (text : List ℕ) (old new : Option (List ℕ)) (faults now : ℕ) → status ≡ Done → WasPut status own text old new faults now → (own ≡ Done) × Grew old new text
@@ -177,19 +273,20 @@ is-answer (Made encounter) = tt
 is-answer (Told tool state) = tt
 is-answer (Swept swept) = tt
 is-answer (Summed commits counts) = tt
+is-answer (Shown page) = tt
 is-answer (Judged (Legal entries)) = tt
 is-answer (Judged (Wrong line reason)) = tt
 is-answer (Refused at code) = tt
 
-own-put : (own : Status) (text : List ℕ) (old new : Option (List ℕ)) (faults now : ℕ) → IsAnswer own → Grew old new text → WasPut own own text old new faults now
-own-put Done text old new faults now is grew = (refl, tt, grew)
-own-put statuses.Refused text old new faults now is grew = (refl, tt, grew)
-own-put statuses.Wrong text old new faults now is grew = (refl, tt, grew)
-own-put own text old new faults now is grew = absurd is
+own-put : (own : Status) (text : List ℕ) (old new : Option (List ℕ)) (faults now : ℕ) → IsAnswer own → Grew old new text → now ≡ faults → WasPut own own text old new faults now
+own-put Done text old new faults now is grew same = (refl, tt, grew, same)
+own-put statuses.Refused text old new faults now is grew same = (refl, tt, grew, same)
+own-put statuses.Wrong text old new faults now is grew same = (refl, tt, grew, same)
+own-put own text old new faults now is grew same = absurd is
 
 -- The whole text of an answer was put out and its status is given, or a write failed.
 pub was-put : {T E : Type 0} (answer : Answer) (own status : Status) (put : Result T E) (old new : Option (List ℕ)) (faults now : ℕ) → own ≡ answer_status answer → status ≡ status_after own put
     → Puts old new faults now (answer_text answer) put → WasPut status (answer_status answer) (answer_text answer) old new faults now
 was-put answer own status (Ok unit) old new faults now is same puts =
-    subst (λ (s : Status). WasPut s (answer_status answer) (answer_text answer) old new faults now) (sym (same ∙ is)) (own-put (answer_status answer) (answer_text answer) old new faults now (is-answer answer) puts.0)
+    subst (λ (s : Status). WasPut s (answer_status answer) (answer_text answer) old new faults now) (sym (same ∙ is)) (own-put (answer_status answer) (answer_text answer) old new faults now (is-answer answer) puts.0 puts.1)
 was-put answer own status (Err error) old new faults now is same puts = subst (λ (s : Status). WasPut s (answer_status answer) (answer_text answer) old new faults now) (sym same) puts

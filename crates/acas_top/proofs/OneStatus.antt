@@ -1,6 +1,6 @@
 -- At most one status answers a command on the bytes that it read.
 use Rattle.std.proofs.Common.{◌≡◌, List, ℕ, length, refl}
-use Rattle.acas_top.specs.Answers.{Answers, IsLegal, IsWrong, IsWrongPart, Plays, Refuses, Resumes, Runs}
+use Rattle.acas_top.specs.Answers.{Answers, AnswersPlain, IsLegal, IsWrong, IsWrongPart, Plays, Refuses, Resumes, Runs}
 use Rattle.rec_audit.specs.Judging.{IsPartLoaded, Judged}
 use Rattle.rec_audit.specs.declared.verdict.Loaded.{Loaded}
 use Rattle.rec_audit.specs.declared.verdict.Loaded.TheVariants as loaded
@@ -9,7 +9,9 @@ use Rattle.rec_audit.specs.declared.verdict.Verdict.TheVariants as verdicts
 use Rattle.acas_top.specs.declared.status.Status.{Status}
 use Rattle.acas_top.specs.declared.status.Status.TheVariants.{Done, Refused, Wrong}
 use Rattle.acas_top.specs.declared.words.Command.{Command}
-use Rattle.acas_top.specs.declared.words.Command.TheVariants.{Audit, Gen, Resume, Run, Serial, Sweep, Tell}
+use Rattle.acas_top.specs.declared.words.Command.TheVariants as commands
+use Rattle.acas_top.specs.declared.words.Plain.{Plain}
+use Rattle.acas_top.specs.declared.words.Plain.TheVariants.{Audit, Gen, Resume, Serial, Show, Sweep, Tell}
 use Rattle.acas_top.specs.declared.words.Threaded.{Threaded}
 use Rattle.acas_top.specs.declared.words.Threaded.TheVariants.{Play, Sum}
 use Rattle.acas_top.specs.Telling.{Tells}
@@ -19,12 +21,12 @@ use Rattle.acas_top.specs.declared.words.Tool.{Tool}
 not-both : (bytes text other : List ℕ) → Plays bytes text → Refuses bytes other → ⊥
 not-both bytes text other played refused = let one = played.says in let two = refused.is in cc
 
-done-only : (bytes text other : List ℕ) (also : Status) → Plays bytes text → Answers Serial bytes also other → Done ≡ also
+done-only : (bytes text other : List ℕ) (also : Status) → Plays bytes text → AnswersPlain Serial bytes also other → Done ≡ also
 done-only bytes text other Done played is = refl
 done-only bytes text other Refused played is = absurd (not-both bytes text other played is)
 done-only bytes text other also played is = absurd is
 
-refused-only : (bytes text other : List ℕ) (also : Status) → Refuses bytes text → Answers Serial bytes also other → Refused ≡ also
+refused-only : (bytes text other : List ℕ) (also : Status) → Refuses bytes text → AnswersPlain Serial bytes also other → Refused ≡ also
 refused-only bytes text other Done refused is = absurd (not-both bytes other text is refused)
 refused-only bytes text other Refused refused is = refl
 refused-only bytes text other also refused is = absurd is
@@ -39,12 +41,12 @@ not-wrong law bytes text other legal wrong =
     let same = law bytes (verdicts.Legal legal.entries) (verdicts.Wrong wrong.line wrong.reason) legal.is wrong.is in
     cc
 
-legal-only : HasOneVerdict → (bytes text other : List ℕ) (also : Status) → IsLegal bytes text → Answers Audit bytes also other → Done ≡ also
+legal-only : HasOneVerdict → (bytes text other : List ℕ) (also : Status) → IsLegal bytes text → AnswersPlain Audit bytes also other → Done ≡ also
 legal-only law bytes text other Done legal is = refl
 legal-only law bytes text other Wrong legal is = absurd (not-wrong law bytes text other legal is)
 legal-only law bytes text other also legal is = absurd is
 
-wrong-only : HasOneVerdict → (bytes text other : List ℕ) (also : Status) → IsWrong bytes text → Answers Audit bytes also other → Wrong ≡ also
+wrong-only : HasOneVerdict → (bytes text other : List ℕ) (also : Status) → IsWrong bytes text → AnswersPlain Audit bytes also other → Wrong ≡ also
 wrong-only law bytes text other Done wrong is = absurd (not-wrong law bytes other text is wrong)
 wrong-only law bytes text other Wrong wrong is = refl
 wrong-only law bytes text other also wrong is = absurd is
@@ -55,12 +57,12 @@ not-told law tool bytes text other told wrong =
     let same = law bytes (verdicts.Legal (length told.state.journal)) (verdicts.Wrong wrong.line wrong.reason) (record { state = told.state; recording = told.recording; count = refl }) wrong.is in
     cc
 
-told-only : HasOneVerdict → (tool : Tool) (bytes text other : List ℕ) (also : Status) → Tells tool bytes text → Answers (Tell tool) bytes also other → Done ≡ also
+told-only : HasOneVerdict → (tool : Tool) (bytes text other : List ℕ) (also : Status) → Tells tool bytes text → AnswersPlain (Tell tool) bytes also other → Done ≡ also
 told-only law tool bytes text other Done told is = refl
 told-only law tool bytes text other Wrong told is = absurd (not-told law tool bytes text other told is)
 told-only law tool bytes text other also told is = absurd is
 
-untold-only : HasOneVerdict → (tool : Tool) (bytes text other : List ℕ) (also : Status) → IsWrong bytes text → Answers (Tell tool) bytes also other → Wrong ≡ also
+untold-only : HasOneVerdict → (tool : Tool) (bytes text other : List ℕ) (also : Status) → IsWrong bytes text → AnswersPlain (Tell tool) bytes also other → Wrong ≡ also
 untold-only law tool bytes text other Done wrong is = absurd (not-told law tool bytes other text is wrong)
 untold-only law tool bytes text other Wrong wrong is = refl
 untold-only law tool bytes text other also wrong is = absurd is
@@ -75,12 +77,12 @@ not-wrong-part law bytes text other resumes wrong =
     let same = law bytes (loaded.Legal resumes.begun) (loaded.Wrong wrong.line wrong.reason) resumes.beginning wrong.is in
     cc
 
-resumed-only : HasOnePart → (bytes text other : List ℕ) (also : Status) → Resumes bytes text → Answers Resume bytes also other → Done ≡ also
+resumed-only : HasOnePart → (bytes text other : List ℕ) (also : Status) → Resumes bytes text → AnswersPlain Resume bytes also other → Done ≡ also
 resumed-only law bytes text other Done resumes is = refl
 resumed-only law bytes text other Wrong resumes is = absurd (not-wrong-part law bytes text other resumes is)
 resumed-only law bytes text other also resumes is = absurd is
 
-wrong-part-only : HasOnePart → (bytes text other : List ℕ) (also : Status) → IsWrongPart bytes text → Answers Resume bytes also other → Wrong ≡ also
+wrong-part-only : HasOnePart → (bytes text other : List ℕ) (also : Status) → IsWrongPart bytes text → AnswersPlain Resume bytes also other → Wrong ≡ also
 wrong-part-only law bytes text other Done wrong is = absurd (not-wrong-part law bytes other text is wrong)
 wrong-part-only law bytes text other Wrong wrong is = refl
 wrong-part-only law bytes text other also wrong is = absurd is
@@ -90,35 +92,41 @@ not-run : (run : Threaded) (bytes text other : List ℕ) → Runs run bytes text
 not-run Play bytes text other ran refused = let one = ran.says in let two = refused.is in cc
 not-run Sum bytes text other ran refused = let one = ran.says in let two = refused.is in cc
 
-ran-only : (run : Threaded) (bytes text other : List ℕ) (also : Status) → Runs run bytes text → Answers (Run run) bytes also other → Done ≡ also
+ran-only : (run : Threaded) (bytes text other : List ℕ) (also : Status) → Runs run bytes text → Answers (commands.Run run) bytes also other → Done ≡ also
 ran-only run bytes text other Done ran is = refl
 ran-only run bytes text other Refused ran is = absurd (not-run run bytes text other ran is)
 ran-only run bytes text other also ran is = absurd is
 
-not-run-only : (run : Threaded) (bytes text other : List ℕ) (also : Status) → Refuses bytes text → Answers (Run run) bytes also other → Refused ≡ also
+not-run-only : (run : Threaded) (bytes text other : List ℕ) (also : Status) → Refuses bytes text → Answers (commands.Run run) bytes also other → Refused ≡ also
 not-run-only run bytes text other Done refused is = absurd (not-run run bytes other text is refused)
 not-run-only run bytes text other Refused refused is = refl
 not-run-only run bytes text other also refused is = absurd is
 
+one-plain : HasOneVerdict → HasOnePart → (plain : Plain) (bytes text other : List ℕ) (status also : Status) → AnswersPlain plain bytes status text → AnswersPlain plain bytes also other → status ≡ also
+one-plain law part Serial bytes text other Done also is other_is = done-only bytes text other also is other_is
+one-plain law part Serial bytes text other Refused also is other_is = refused-only bytes text other also is other_is
+one-plain law part Serial bytes text other status also is other_is = absurd is
+one-plain law part Audit bytes text other Done also is other_is = legal-only law bytes text other also is other_is
+one-plain law part Audit bytes text other Wrong also is other_is = wrong-only law bytes text other also is other_is
+one-plain law part Audit bytes text other status also is other_is = absurd is
+one-plain law part (Gen number crafts cycles) bytes text other Done Done is other_is = refl
+one-plain law part (Gen number crafts cycles) bytes text other Done also is other_is = absurd other_is
+one-plain law part (Gen number crafts cycles) bytes text other status also is other_is = absurd is
+one-plain law part (Tell tool) bytes text other Done also is other_is = told-only law tool bytes text other also is other_is
+one-plain law part (Tell tool) bytes text other Wrong also is other_is = untold-only law tool bytes text other also is other_is
+one-plain law part (Tell tool) bytes text other status also is other_is = absurd is
+one-plain law part (Sweep number count crafts cycles) bytes text other Done Done is other_is = refl
+one-plain law part (Sweep number count crafts cycles) bytes text other Done also is other_is = absurd other_is
+one-plain law part (Sweep number count crafts cycles) bytes text other status also is other_is = absurd is
+one-plain law part Resume bytes text other Done also is other_is = resumed-only part bytes text other also is other_is
+one-plain law part Resume bytes text other Wrong also is other_is = wrong-part-only part bytes text other also is other_is
+one-plain law part Resume bytes text other status also is other_is = absurd is
+one-plain law part (Show page) bytes text other Done Done is other_is = refl
+one-plain law part (Show page) bytes text other Done also is other_is = absurd other_is
+one-plain law part (Show page) bytes text other status also is other_is = absurd is
+
 pub one-status : HasOneVerdict → HasOnePart → (command : Command) (bytes text other : List ℕ) (status also : Status) → Answers command bytes status text → Answers command bytes also other → status ≡ also
-one-status law part Serial bytes text other Done also is other_is = done-only bytes text other also is other_is
-one-status law part Serial bytes text other Refused also is other_is = refused-only bytes text other also is other_is
-one-status law part Serial bytes text other status also is other_is = absurd is
-one-status law part Audit bytes text other Done also is other_is = legal-only law bytes text other also is other_is
-one-status law part Audit bytes text other Wrong also is other_is = wrong-only law bytes text other also is other_is
-one-status law part Audit bytes text other status also is other_is = absurd is
-one-status law part (Gen number crafts cycles) bytes text other Done Done is other_is = refl
-one-status law part (Gen number crafts cycles) bytes text other Done also is other_is = absurd other_is
-one-status law part (Gen number crafts cycles) bytes text other status also is other_is = absurd is
-one-status law part (Tell tool) bytes text other Done also is other_is = told-only law tool bytes text other also is other_is
-one-status law part (Tell tool) bytes text other Wrong also is other_is = untold-only law tool bytes text other also is other_is
-one-status law part (Tell tool) bytes text other status also is other_is = absurd is
-one-status law part (Sweep number count crafts cycles) bytes text other Done Done is other_is = refl
-one-status law part (Sweep number count crafts cycles) bytes text other Done also is other_is = absurd other_is
-one-status law part (Sweep number count crafts cycles) bytes text other status also is other_is = absurd is
-one-status law part Resume bytes text other Done also is other_is = resumed-only part bytes text other also is other_is
-one-status law part Resume bytes text other Wrong also is other_is = wrong-part-only part bytes text other also is other_is
-one-status law part Resume bytes text other status also is other_is = absurd is
-one-status law part (Run run) bytes text other Done also is other_is = ran-only run bytes text other also is other_is
-one-status law part (Run run) bytes text other Refused also is other_is = not-run-only run bytes text other also is other_is
-one-status law part (Run run) bytes text other status also is other_is = absurd is
+one-status law part (commands.Plain plain) bytes text other status also is other_is = one-plain law part plain bytes text other status also is other_is
+one-status law part (commands.Run run) bytes text other Done also is other_is = ran-only run bytes text other also is other_is
+one-status law part (commands.Run run) bytes text other Refused also is other_is = not-run-only run bytes text other also is other_is
+one-status law part (commands.Run run) bytes text other status also is other_is = absurd is

@@ -1,30 +1,47 @@
 -- A single word that is none of the words of commands says none.
-use Rattle.std.proofs.Common.{◌≡◌, ◌∙◌, ℕ, List, [], ◌∷◌, false, true, length, get_or, refl, ap, arith}
+use Rattle.std.proofs.Common.{◌≡◌, ◌∙◌, ℕ, List, [], ◌∷◌, false, true, length, get_or, refl, ap, arith, inl, inr}
 use Rattle.std.specs.Prelude.{◌≢◌, codes}
 use Rattle.std.proofs.lemmas.Bool.{false≢true}
 use Rattle.std.specs.Str.{bytes_eq}
-use Rattle.acas_top.specs.Words.{AreNoPlainCommand, AreNoThreadedRun}
-use Rattle.acas_top.specs.declared.words.Command.TheVariants.{Audit, Gen, Resume, Run, Serial, Sweep, Tell}
+use Rattle.acas_top.specs.Words.{AreNoPlain, AreNoRun, SayPage, tool_word}
+use Rattle.acas_top.specs.declared.words.Page.{Page}
+use Rattle.acas_top.specs.declared.words.Page.TheVariants.{Help, Version}
+use Rattle.acas_top.specs.declared.words.Plain.TheVariants.{Audit, Gen, Resume, Serial, Show, Sweep, Tell}
 use Rattle.acas_top.specs.declared.words.Threaded.TheVariants.{Play, Sum}
+use Rattle.acas_top.specs.declared.words.Tool.{Tool}
 use Rattle.acas_top.specs.declared.words.Tool.TheVariants.{Reports, Response, Watch, Why}
 
-different : (word other : List ℕ) → bytes_eq other other ≡ true → false ≡ bytes_eq word other → word ∷ [] ≢ other ∷ []
-different word other same unlike is = false≢true (unlike ∙ ap (λ w. bytes_eq w other) (ap (λ words. get_or words 0 []) is) ∙ same)
+-- A word that the test tells from another one is another one.
+different : (word other : List ℕ) → bytes_eq other other ≡ true → false ≡ bytes_eq word other → word ≢ other
+different word other same unlike is = false≢true (unlike ∙ ap (λ w. bytes_eq w other) is ∙ same)
 
-pub other-than-runs : (word : List ℕ) → false ≡ bytes_eq word (codes "play") → false ≡ bytes_eq word (codes "sum") → AreNoThreadedRun (word ∷ [])
-other-than-runs word play sum Play = different word (codes "play") refl play
-other-than-runs word play sum Sum = different word (codes "sum") refl sum
+-- The one word of a list of one.
+abbrev first : List (List ℕ) → List ℕ
+first words = get_or words 0 []
 
-module _ (word : List ℕ) (serial : false ≡ bytes_eq word (codes "serial")) (audit : false ≡ bytes_eq word (codes "audit")) (reports : false ≡ bytes_eq word (codes "reports")) (response : false ≡ bytes_eq word (codes "response"))
-    (watch : false ≡ bytes_eq word (codes "watch")) (why : false ≡ bytes_eq word (codes "why")) (resume : false ≡ bytes_eq word (codes "resume")) where
-  pub other-than-commands : AreNoPlainCommand (word ∷ [])
-  other-than-commands Serial valid plain = different word (codes "serial") refl serial
-  other-than-commands Audit valid plain = different word (codes "audit") refl audit
-  other-than-commands (Gen number crafts cycles) valid plain = λ is. absurd (omega (arith, ap length is))
-  other-than-commands (Tell Reports) valid plain = different word (codes "reports") refl reports
-  other-than-commands (Tell Response) valid plain = different word (codes "response") refl response
-  other-than-commands (Tell Watch) valid plain = different word (codes "watch") refl watch
-  other-than-commands (Tell Why) valid plain = different word (codes "why") refl why
-  other-than-commands (Sweep number count crafts cycles) valid plain = λ is. absurd (omega (arith, ap length is))
-  other-than-commands Resume valid plain = different word (codes "resume") refl resume
-  other-than-commands (Run run) valid plain = λ is. absurd plain
+pub other-than-runs : (word : List ℕ) → false ≡ bytes_eq word (codes "play") → false ≡ bytes_eq word (codes "sum") → AreNoRun (word ∷ [])
+other-than-runs word play sum Play = λ is. different word (codes "play") refl play (ap first is)
+other-than-runs word play sum Sum = λ is. different word (codes "sum") refl sum (ap first is)
+
+pub other-than-tools : (word : List ℕ) → false ≡ bytes_eq word (codes "reports") → false ≡ bytes_eq word (codes "response") → false ≡ bytes_eq word (codes "watch") → false ≡ bytes_eq word (codes "why") → (tool : Tool) → word ≢ tool_word tool
+other-than-tools word reports response watch why Reports = different word (codes "reports") refl reports
+other-than-tools word reports response watch why Response = different word (codes "response") refl response
+other-than-tools word reports response watch why Watch = different word (codes "watch") refl watch
+other-than-tools word reports response watch why Why = different word (codes "why") refl why
+
+pub other-than-pages : (word : List ℕ) → false ≡ bytes_eq word (codes "--help") → false ≡ bytes_eq word (codes "-h") → false ≡ bytes_eq word (codes "help") → false ≡ bytes_eq word (codes "--version") → (page : Page) → SayPage (word ∷ []) page → ⊥
+other-than-pages word long short plain version Help (inl is) = different word (codes "--help") refl long (ap first is)
+other-than-pages word long short plain version Help (inr (inl is)) = different word (codes "-h") refl short (ap first is)
+other-than-pages word long short plain version Help (inr (inr is)) = different word (codes "help") refl plain (ap first is)
+other-than-pages word long short plain version Version is = different word (codes "--version") refl version (ap first is)
+
+module _ (word : List ℕ) (serial : false ≡ bytes_eq word (codes "serial")) (audit : false ≡ bytes_eq word (codes "audit")) (resume : false ≡ bytes_eq word (codes "resume")) (tools : (tool : Tool) → word ≢ tool_word tool)
+    (pages : (page : Page) → SayPage (word ∷ []) page → ⊥) where
+  pub other-than-commands : AreNoPlain (word ∷ [])
+  other-than-commands Serial valid = λ is. different word (codes "serial") refl serial (ap first is)
+  other-than-commands Audit valid = λ is. different word (codes "audit") refl audit (ap first is)
+  other-than-commands (Gen number crafts cycles) valid = λ is. absurd (omega (arith, ap length is))
+  other-than-commands (Tell tool) valid = λ is. tools tool (ap first is)
+  other-than-commands (Sweep number count crafts cycles) valid = λ is. absurd (omega (arith, ap length is))
+  other-than-commands Resume valid = λ is. different word (codes "resume") refl resume (ap first is)
+  other-than-commands (Show page) valid = pages page

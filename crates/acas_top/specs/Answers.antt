@@ -1,15 +1,18 @@
--- What answers each command on the bytes that it read: a status and the text that is put out.
+-- The answer to each command on the bytes that it read: a status, and the text that is written.
 use Rattle.std.specs.Prelude.{◌≡◌, ℕ, List, ◌++◌, Err, codes}
 use Rattle.std.specs.Fmt.{decimal}
 use Rattle.acas_base.specs.Encounter.{Parts}
 use Rattle.acas_base.specs.declared.entry.Entry.{Entry}
 use Rattle.acas_lines.specs.Lines.{count_line, joined}
 use Rattle.acas_top.specs.Counted.{AreSerial, counts_of}
+use Rattle.acas_top.specs.Pages.{page_lines}
 use Rattle.acas_top.specs.Summing.{summed_lines}
 use Rattle.acas_top.specs.declared.status.Status.{Status}
 use Rattle.acas_top.specs.declared.status.Status.TheVariants.{Done, Refused, Wrong}
 use Rattle.acas_top.specs.declared.words.Command.{Command}
-use Rattle.acas_top.specs.declared.words.Command.TheVariants.{Audit, Gen, Resume, Run, Serial, Sweep, Tell}
+use Rattle.acas_top.specs.declared.words.Command.TheVariants as commands
+use Rattle.acas_top.specs.declared.words.Plain.{Plain}
+use Rattle.acas_top.specs.declared.words.Plain.TheVariants.{Audit, Gen, Resume, Serial, Show, Sweep, Tell}
 use Rattle.acas_top.specs.declared.words.Threaded.{Threaded}
 use Rattle.acas_top.specs.declared.words.Threaded.TheVariants.{Play, Sum}
 use Rattle.acas_top.specs.Sweeping.{Sweeps}
@@ -38,19 +41,19 @@ use Rattle.rec_text.specs.Recording.{recording}
 use Rattle.resume.specs.Filling.{IsFilled}
 use Rattle.sweep.specs.declared.counts.Counts.{Counts}
 
--- The line of a refusal: the number of the record, and that of the code.
+-- The line of a refusal: the number of the record, and the number of the code.
 abbrev pub refused_line : ℕ → ℕ → List ℕ
 refused_line at code = codes "refused," ++ decimal at ++ codes "," ++ decimal code ++ codes "\n"
 
--- The bytes say no encounter, and the text is the line of their refusal.
+-- The bytes say no encounter, and the text is the line of the refusal.
 pub record Refuses (bytes text : List ℕ) : Type 0 where
   pub refusal : Refusal
   pub is : reading_of bytes ≡ Err refusal
   pub text_is : text ≡ refused_line refusal.at (code_number refusal.code)
 
--- The journal, whose newest entry stands first, is a legal and complete one of the encounter. No aircraft that gives way
--- commits an advisory in the sense that the message in force forbids to it; where that message was sent since the threat
--- took its present sense, the senses are opposite; and who turns, and why, goes by the addresses.
+-- The journal, whose newest entry stands first, is legal and complete. No aircraft that gives way commits an advisory in the
+-- sense that the message in force forbids (`safe`). Where that message was sent since the threat took its present sense, the
+-- senses are opposite (`settled`). Which aircraft changes its sense, and why, follows the addresses (`priority`).
 pub record IsRun (e : Parts) (journal : List Entry) : Type 0 where
   pub legal : IsLegalJournal (air_of e) journal
   pub complete : IsComplete (air_of e) journal
@@ -67,11 +70,11 @@ pub record Plays (bytes text : List ℕ) : Type 0 where
   pub run : IsRun encounter journal
   pub text_is : text ≡ recording encounter journal
 
--- The text is the canonical one of the encounter that is made of a number.
+-- The text is the canonical text of the encounter that is made from a number.
 abbrev pub IsMade : ℕ → ℕ → ℕ → List ℕ → Type 0
 IsMade number crafts cycles text = text ≡ canonical_text (generated number crafts cycles)
 
--- The text of a reason: its number, and behind the first one the code of the refusal.
+-- The text of a reason: its number, and after the number 1 the code of the encounter's refusal.
 abbrev pub reason_text : Reason → List ℕ
 reason_text (Encounter code) = codes "1," ++ decimal (code_number code)
 reason_text reason = decimal (reason_number reason)
@@ -81,24 +84,24 @@ abbrev pub verdict_line : Verdict → List ℕ
 verdict_line (verdicts.Legal entries) = count_line (codes "legal") entries
 verdict_line (verdicts.Wrong line reason) = codes "wrong," ++ decimal line ++ codes "," ++ reason_text reason ++ codes "\n"
 
--- The bytes are the recording of a legal and complete journal, and the text tells how many entries it has.
+-- The bytes are the recording of a legal and complete journal, and the text says how many entries it has.
 pub record IsLegal (bytes text : List ℕ) : Type 0 where
   pub entries : ℕ
   pub is : Judged bytes (verdicts.Legal entries)
   pub text_is : text ≡ verdict_line (verdicts.Legal entries)
 
--- They are none, and the text tells the first line that is wrong, and why.
+-- The bytes are no such recording, and the text says which line is the first wrong one, and why.
 pub record IsWrong (bytes text : List ℕ) : Type 0 where
   pub line : ℕ
   pub reason : Reason
   pub is : Judged bytes (verdicts.Wrong line reason)
   pub text_is : text ≡ verdict_line (verdicts.Wrong line reason)
 
--- Where a run that was begun begins the serial one, it became that one.
+-- If the begun journal is a beginning of the serial one, the completed journal is the serial one.
 abbrev pub IsSerialOf : Parts → List Entry → List Entry → Type 0
 IsSerialOf e begun journal = (serial : List Entry) → IsSerial (air_of e) serial → Begins begun serial → journal ≡ serial
 
--- The bytes are a beginning of a recording, and the text is the recording of its journal, gone on with to its end.
+-- The bytes are a beginning of a recording, and the text is the recording of its journal, completed.
 pub record Resumes (bytes text : List ℕ) : Type 0 where
   pub begun : State
   pub beginning : IsBeginningOf bytes begun
@@ -108,7 +111,7 @@ pub record Resumes (bytes text : List ℕ) : Type 0 where
   pub serial : IsSerialOf begun.encounter begun.journal journal
   pub text_is : text ≡ recording begun.encounter journal
 
--- They are none, and the text tells the first line that is wrong, and why.
+-- The bytes are no such beginning, and the text says which line is the first wrong one, and why.
 pub record IsWrongPart (bytes text : List ℕ) : Type 0 where
   pub line : ℕ
   pub reason : Reason
@@ -123,7 +126,7 @@ pub record PlaysSome (bytes text : List ℕ) : Type 0 where
   pub run : IsRun encounter journal
   pub text_is : text ≡ recording encounter journal
 
--- The bytes say an encounter. The text has the commits of some journal of it, and the counts of the serial one.
+-- The bytes say an encounter. The text says how many commits some journal of it has, and the counts of the serial one.
 pub record Sums (bytes text : List ℕ) : Type 0 where
   pub encounter : Parts
   pub journal : List Entry
@@ -133,29 +136,35 @@ pub record Sums (bytes text : List ℕ) : Type 0 where
   pub serial : AreSerial encounter counts
   pub text_is : text ≡ joined (summed_lines (counts_of encounter journal).commits counts)
 
--- What a run in threads writes. It is no function of the bytes: the order of the entries is nobody's choice.
+-- What a run in threads writes. The bytes don't determine it: the order of the entries can differ from run to run.
 abbrev pub Runs : Threaded → List ℕ → List ℕ → Type 0
 Runs Play bytes text = PlaysSome bytes text
 Runs Sum bytes text = Sums bytes text
 
--- This status and this text answer a command on the bytes that it read. Every other status is no answer.
+-- This status and this text answer a plain command on the bytes that it read. The other statuses are no answers.
+abbrev pub AnswersPlain : Plain → List ℕ → Status → List ℕ → Type 0
+AnswersPlain Serial bytes Done text = Plays bytes text
+AnswersPlain Serial bytes Refused text = Refuses bytes text
+AnswersPlain Serial bytes status text = ⊥
+AnswersPlain Audit bytes Done text = IsLegal bytes text
+AnswersPlain Audit bytes Wrong text = IsWrong bytes text
+AnswersPlain Audit bytes status text = ⊥
+AnswersPlain (Gen number crafts cycles) bytes Done text = IsMade number crafts cycles text
+AnswersPlain (Gen number crafts cycles) bytes status text = ⊥
+AnswersPlain (Tell tool) bytes Done text = Tells tool bytes text
+AnswersPlain (Tell tool) bytes Wrong text = IsWrong bytes text
+AnswersPlain (Tell tool) bytes status text = ⊥
+AnswersPlain (Sweep number count crafts cycles) bytes Done text = Sweeps number count crafts cycles text
+AnswersPlain (Sweep number count crafts cycles) bytes status text = ⊥
+AnswersPlain Resume bytes Done text = Resumes bytes text
+AnswersPlain Resume bytes Wrong text = IsWrongPart bytes text
+AnswersPlain Resume bytes status text = ⊥
+AnswersPlain (Show page) bytes Done text = text ≡ joined (page_lines page)
+AnswersPlain (Show page) bytes status text = ⊥
+
+-- This status and this text answer a command on the bytes that it read.
 abbrev pub Answers : Command → List ℕ → Status → List ℕ → Type 0
-Answers Serial bytes Done text = Plays bytes text
-Answers Serial bytes Refused text = Refuses bytes text
-Answers Serial bytes status text = ⊥
-Answers Audit bytes Done text = IsLegal bytes text
-Answers Audit bytes Wrong text = IsWrong bytes text
-Answers Audit bytes status text = ⊥
-Answers (Gen number crafts cycles) bytes Done text = IsMade number crafts cycles text
-Answers (Gen number crafts cycles) bytes status text = ⊥
-Answers (Tell tool) bytes Done text = Tells tool bytes text
-Answers (Tell tool) bytes Wrong text = IsWrong bytes text
-Answers (Tell tool) bytes status text = ⊥
-Answers (Sweep number count crafts cycles) bytes Done text = Sweeps number count crafts cycles text
-Answers (Sweep number count crafts cycles) bytes status text = ⊥
-Answers Resume bytes Done text = Resumes bytes text
-Answers Resume bytes Wrong text = IsWrongPart bytes text
-Answers Resume bytes status text = ⊥
-Answers (Run run) bytes Done text = Runs run bytes text
-Answers (Run run) bytes Refused text = Refuses bytes text
-Answers (Run run) bytes status text = ⊥
+Answers (commands.Plain plain) bytes status text = AnswersPlain plain bytes status text
+Answers (commands.Run run) bytes Done text = Runs run bytes text
+Answers (commands.Run run) bytes Refused text = Refuses bytes text
+Answers (commands.Run run) bytes status text = ⊥

@@ -1,4 +1,4 @@
--- What runs count.
+-- The counts of a run.
 use Rattle.std.specs.Prelude.{◌≡◌, List, length, ◌++◌, ℕ, codes}
 use Rattle.std.specs.Fmt.{decimal}
 use Rattle.acas_base.specs.Encounter.{Parts}
@@ -18,12 +18,12 @@ counts_of e journal = record {
   lines = length (report_lines e journal);
 }
 
--- They are those of the serial journal of an encounter.
+-- The counts are those of the serial journal of an encounter.
 pub record AreSerial (e : Parts) (counts : Counts) : Type 0 where
   pub journal : List Entry
   pub serial : IsSerial (air_of e) journal
   pub counts_are : counts ≡ counts_of e journal
 
--- Counts as the end of a line: commits, sends, takes, lines.
+-- The end of a line with counts: commits, sends, takes, report lines.
 abbrev pub counts_text : Counts → List ℕ
 counts_text counts = decimal counts.commits ++ codes "," ++ decimal counts.sends ++ codes "," ++ decimal counts.takes ++ codes "," ++ decimal counts.lines ++ codes "\n"

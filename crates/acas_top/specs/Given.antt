@@ -1,12 +1,13 @@
--- The answers as the code holds them.
+-- The status and the text of an answer, as the code holds it.
 use Rattle.std.specs.Prelude.{ℕ, ◌≤◌, List, [], ◌∷◌, length, Option, None, Some}
 use Rattle.acas_lines.specs.Lines.{joined}
 use Rattle.acas_top.specs.Answers.{refused_line, verdict_line}
+use Rattle.acas_top.specs.Pages.{page_lines}
 use Rattle.acas_top.specs.Summing.{summed_lines}
 use Rattle.acas_top.specs.Sweeping.{swept_lines}
 use Rattle.acas_top.specs.Telling.{tool_lines}
 use Rattle.acas_top.specs.declared.answers.Answer.{Answer}
-use Rattle.acas_top.specs.declared.answers.Answer.TheVariants.{Judged, Made, Recorded, Refused, Summed, Swept, Told}
+use Rattle.acas_top.specs.declared.answers.Answer.TheVariants.{Judged, Made, Recorded, Refused, Shown, Summed, Swept, Told}
 use Rattle.acas_top.specs.declared.status.Status.{Status}
 use Rattle.acas_top.specs.declared.status.Status.TheVariants as statuses
 use Rattle.enc_file.specs.Canonical.{canonical_lines}
@@ -14,7 +15,7 @@ use Rattle.rec_audit.specs.declared.verdict.Verdict.{Verdict}
 use Rattle.rec_audit.specs.declared.verdict.Verdict.TheVariants as verdicts
 use Rattle.rec_text.specs.Recording.{recording_lines}
 
--- A recording that is wrong has a status of its own.
+-- The status of a verdict.
 abbrev pub verdict_status : Verdict → Status
 verdict_status (verdicts.Legal entries) = statuses.Done
 verdict_status (verdicts.Wrong line reason) = statuses.Wrong
@@ -25,6 +26,7 @@ answer_status (Made encounter) = statuses.Done
 answer_status (Swept swept) = statuses.Done
 answer_status (Told tool state) = statuses.Done
 answer_status (Summed commits counts) = statuses.Done
+answer_status (Shown page) = statuses.Done
 answer_status (Judged verdict) = verdict_status verdict
 answer_status (Refused at code) = statuses.Refused
 
@@ -34,13 +36,14 @@ answer_lines (Made encounter) = canonical_lines encounter
 answer_lines (Swept swept) = swept_lines swept.first swept.count swept.list.items swept.total
 answer_lines (Told tool state) = tool_lines tool state.encounter state.journal
 answer_lines (Summed commits counts) = summed_lines commits counts
+answer_lines (Shown page) = page_lines page
 answer_lines (Judged verdict) = verdict_line verdict ∷ []
 answer_lines (Refused at code) = refused_line at code ∷ []
 
 abbrev pub answer_text : Answer → List ℕ
 answer_text answer = joined (answer_lines answer)
 
--- No more than the limit.
+-- The bytes are within the limit, where there is one.
 abbrev pub IsReadable : Option ℕ → List ℕ → Type 0
 IsReadable None bytes = Unit {0}
 IsReadable (Some limit) bytes = length bytes ≤ limit

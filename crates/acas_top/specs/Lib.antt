@@ -1,5 +1,6 @@
 pub mod Statuses
 pub mod Words
+pub mod Pages
 pub mod Counted
 pub mod Sweeping
 pub mod Telling

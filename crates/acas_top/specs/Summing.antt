@@ -1,4 +1,4 @@
--- The text of `sum`: the commits of a run in threads, and the counts of the serial run.
+-- The text of `sum`: how many commits a run in threads has, and the counts of the serial run.
 use Rattle.std.specs.Prelude.{ℕ, List, [], ◌∷◌, ◌++◌, codes}
 use Rattle.acas_lines.specs.Lines.{count_line}
 use Rattle.acas_top.specs.Counted.{counts_text}

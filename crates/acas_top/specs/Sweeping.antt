@@ -1,4 +1,4 @@
--- The sweep over the encounters of a row of numbers.
+-- A sweep: the encounters of a row of numbers, and their counts.
 use Rattle.std.specs.Prelude.{◌≡◌, ℕ, List, [], ◌∷◌, ◌++◌, length, map, slice_index_or, codes}
 use Rattle.std.specs.Fmt.{decimal}
 use Rattle.std.specs.List.{AllZip, range_with_len}
@@ -14,7 +14,7 @@ pub record Sizes : Type 0 where
   pub crafts : ℕ
   pub cycles : ℕ
 
--- What is counted of a number: the counts of the serial run of the encounter that is made of it.
+-- The counts of a number are those of the serial run of the encounter that is made from it.
 abbrev pub HasCounted : Sizes → ℕ → Counts → Type 0
 HasCounted sizes number counts = AreSerial (generated number sizes.crafts sizes.cycles) counts
 
@@ -32,18 +32,18 @@ total_line counts = codes "total," ++ counts_text counts
 abbrev pub nothing : Counts
 nothing = record { commits = 0; sends = 0; takes = 0; lines = 0 }
 
--- The line at a place, from 0.
+-- The line of the number at a place, counted from 0.
 abbrev pub line_at : ℕ → List Counts → ℕ → List ℕ
 line_at first list at = number_line (number_at first at) (slice_index_or list at nothing)
 
 abbrev pub number_lines : ℕ → List Counts → List (List ℕ)
 number_lines first list = map (line_at first list) (range_with_len 0 (length list))
 
--- First how many there are, then a line for each number, in order, and then the sums.
+-- First a line with how many numbers there are, then a line for each number, in order, and then a line with the sums.
 abbrev pub swept_lines : ℕ → ℕ → List Counts → Counts → List (List ℕ)
 swept_lines first count list sums = sweep_count_line count ∷ (number_lines first list ++ total_line sums ∷ [])
 
--- The text of the sweep over so many numbers from a first one on.
+-- The text is that of the sweep over `count` numbers, from `number` on.
 pub record Sweeps (number count crafts cycles : ℕ) (text : List ℕ) : Type 0 where
   pub list : List Counts
   pub counted : AllZip (HasCounted (record { crafts = crafts; cycles = cycles })) (numbers number count) list

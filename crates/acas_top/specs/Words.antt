@@ -1,29 +1,34 @@
 -- The commands: which words say them, and how much they read.
-use Rattle.std.specs.Prelude.{◌≢◌, ℕ, ◌<◌, ◌≤◌, ◌^◌, List, [], ◌∷◌, Option, None, Some, codes}
+use Rattle.std.specs.Prelude.{◌≡◌, ℕ, ◌<◌, ◌≤◌, ◌^◌, ◌⊎◌, List, [], ◌∷◌, Option, None, Some, codes}
 use Rattle.std.specs.Fmt.{decimal}
 use Rattle.acas_base.specs.Ranges.{IsCycle}
 use Rattle.acas_base.specs.declared.TheConstants.{CRAFTS}
+use Rattle.acas_top.specs.declared.words.TheConstants.{ENCOUNTER_BYTES, RECORDING_BYTES}
 use Rattle.acas_top.specs.declared.words.Command.{Command}
-use Rattle.acas_top.specs.declared.words.Command.TheVariants.{Audit, Gen, Resume, Run, Serial, Sweep, Tell}
+use Rattle.acas_top.specs.declared.words.Command.TheVariants as commands
+use Rattle.acas_top.specs.declared.words.Page.{Page}
+use Rattle.acas_top.specs.declared.words.Page.TheVariants.{Help, Version}
+use Rattle.acas_top.specs.declared.words.Plain.{Plain}
+use Rattle.acas_top.specs.declared.words.Plain.TheVariants.{Audit, Gen, Resume, Serial, Show, Sweep, Tell}
 use Rattle.acas_top.specs.declared.words.Threaded.{Threaded}
 use Rattle.acas_top.specs.declared.words.Threaded.TheVariants.{Play, Sum}
 use Rattle.acas_top.specs.declared.words.Tool.{Tool}
 use Rattle.acas_top.specs.declared.words.Tool.TheVariants.{Reports, Response, Watch, Why}
 
+-- The numbers of a plain command are in their ranges.
+abbrev pub IsInRange : Plain → Type 0
+IsInRange Serial = Unit {0}
+IsInRange Audit = Unit {0}
+IsInRange (Gen number crafts cycles) = (number < 2 ^ 32) × (1 ≤ crafts) × (crafts ≤ CRAFTS) × IsCycle cycles
+IsInRange (Tell tool) = Unit {0}
+IsInRange (Sweep number count crafts cycles) = (number < 2 ^ 32) × (1 ≤ count) × (count ≤ 4096) × (1 ≤ crafts) × (crafts ≤ 4) × (1 ≤ cycles) × (cycles ≤ 120)
+IsInRange Resume = Unit {0}
+IsInRange (Show page) = Unit {0}
+
 -- The numbers of a command are in their ranges.
 abbrev pub IsCommand : Command → Type 0
-IsCommand Serial = Unit {0}
-IsCommand Audit = Unit {0}
-IsCommand (Gen number crafts cycles) = (number < 2 ^ 32) × (1 ≤ crafts) × (crafts ≤ CRAFTS) × IsCycle cycles
-IsCommand (Tell tool) = Unit {0}
-IsCommand (Sweep number count crafts cycles) = (number < 2 ^ 32) × (1 ≤ count) × (count ≤ 4096) × (1 ≤ crafts) × (crafts ≤ 4) × (1 ≤ cycles) × (cycles ≤ 120)
-IsCommand Resume = Unit {0}
-IsCommand (Run run) = Unit {0}
-
--- The command runs no threads that wait for each other.
-abbrev pub IsPlain : Command → Type 0
-IsPlain (Run run) = ⊥
-IsPlain command = Unit {0}
+IsCommand (commands.Plain plain) = IsInRange plain
+IsCommand (commands.Run run) = Unit {0}
 
 -- The word of a tool.
 abbrev pub tool_word : Tool → List ℕ
@@ -37,34 +42,49 @@ abbrev pub threaded_word : Threaded → List ℕ
 threaded_word Play = codes "play"
 threaded_word Sum = codes "sum"
 
--- The words that say a command.
-abbrev pub words_of : Command → List (List ℕ)
-words_of Serial = codes "serial" ∷ []
-words_of Audit = codes "audit" ∷ []
-words_of (Gen number crafts cycles) = codes "gen" ∷ decimal number ∷ decimal crafts ∷ decimal cycles ∷ []
-words_of (Tell tool) = tool_word tool ∷ []
-words_of (Sweep number count crafts cycles) = codes "sweep" ∷ decimal number ∷ decimal count ∷ decimal crafts ∷ decimal cycles ∷ []
-words_of Resume = codes "resume" ∷ []
-words_of (Run run) = threaded_word run ∷ []
+-- The words ask for a page.
+abbrev pub SayPage : List (List ℕ) → Page → Type 0
+SayPage words Help = (words ≡ codes "--help" ∷ []) ⊎ ((words ≡ codes "-h" ∷ []) ⊎ (words ≡ codes "help" ∷ []))
+SayPage words Version = words ≡ codes "--version" ∷ []
+
+-- The words say a plain command.
+abbrev pub SayPlain : List (List ℕ) → Plain → Type 0
+SayPlain words Serial = words ≡ codes "serial" ∷ []
+SayPlain words Audit = words ≡ codes "audit" ∷ []
+SayPlain words (Gen number crafts cycles) = words ≡ codes "gen" ∷ decimal number ∷ decimal crafts ∷ decimal cycles ∷ []
+SayPlain words (Tell tool) = words ≡ tool_word tool ∷ []
+SayPlain words (Sweep number count crafts cycles) = words ≡ codes "sweep" ∷ decimal number ∷ decimal count ∷ decimal crafts ∷ decimal cycles ∷ []
+SayPlain words Resume = words ≡ codes "resume" ∷ []
+SayPlain words (Show page) = SayPage words page
+
+-- The words say a command.
+abbrev pub Say : List (List ℕ) → Command → Type 0
+Say words (commands.Plain plain) = SayPlain words plain
+Say words (commands.Run run) = words ≡ threaded_word run ∷ []
 
 -- The words say no command.
 abbrev pub AreNoCommand : List (List ℕ) → Type 0
-AreNoCommand words = (command : Command) → IsCommand command → words ≢ words_of command
+AreNoCommand words = (command : Command) → IsCommand command → Say words command → ⊥
 
--- They say no plain one.
-abbrev pub AreNoPlainCommand : List (List ℕ) → Type 0
-AreNoPlainCommand words = (command : Command) → IsCommand command → IsPlain command → words ≢ words_of command
+-- The words say no plain command.
+abbrev pub AreNoPlain : List (List ℕ) → Type 0
+AreNoPlain words = (plain : Plain) → IsInRange plain → SayPlain words plain → ⊥
 
--- They say no run in threads.
-abbrev pub AreNoThreadedRun : List (List ℕ) → Type 0
-AreNoThreadedRun words = (run : Threaded) → words ≢ words_of (Run run)
+-- The words say no run in threads.
+abbrev pub AreNoRun : List (List ℕ) → Type 0
+AreNoRun words = (run : Threaded) → Say words (commands.Run run) → ⊥
+
+-- The most bytes that a plain command reads, or none where it reads nothing.
+abbrev pub plain_limit : Plain → Option ℕ
+plain_limit Serial = Some ENCOUNTER_BYTES
+plain_limit Audit = Some RECORDING_BYTES
+plain_limit (Gen number crafts cycles) = None
+plain_limit (Tell tool) = Some RECORDING_BYTES
+plain_limit (Sweep number count crafts cycles) = None
+plain_limit Resume = Some RECORDING_BYTES
+plain_limit (Show page) = None
 
 -- The most bytes that a command reads, or none where it reads nothing.
 abbrev pub limit_of : Command → Option ℕ
-limit_of Serial = Some 16777216
-limit_of Audit = Some 67108864
-limit_of (Gen number crafts cycles) = None
-limit_of (Tell tool) = Some 67108864
-limit_of (Sweep number count crafts cycles) = None
-limit_of Resume = Some 67108864
-limit_of (Run run) = Some 16777216
+limit_of (commands.Plain plain) = plain_limit plain
+limit_of (commands.Run run) = Some ENCOUNTER_BYTES

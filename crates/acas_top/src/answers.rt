@@ -1,17 +1,18 @@
-// What answers a command: a status and a text.
+// The answer to a command: a status and a text.
 ghost use Rattle.std.specs.Prelude.{◌≡◌, ◌≤◌, IfOk, length};
-ghost use Rattle.acas_top.specs.Answers.{Answers, IsMade};
+ghost use Rattle.acas_top.specs.Answers.{AnswersPlain, IsMade};
 ghost use Rattle.acas_top.specs.Given.{IsReadable, answer_status, answer_text};
-ghost use Rattle.acas_top.specs.Words.{IsCommand, IsPlain, limit_of};
+ghost use Rattle.acas_top.specs.Words.{IsInRange, plain_limit};
 ghost use Rattle.acas_top.specs.Sweeping.{Sweeps};
 
+use crate::pages::put_page;
 use crate::refusal::refusal_line;
 use crate::runs::{filled, serial_state};
 use crate::summing::put_summed;
-use crate::sweeping::{Swept, sweep};
+use crate::sweep_runs::{Swept, sweep};
 use crate::telling::put_told;
 use crate::verdict::verdict_line;
-use crate::{Command, Status, Tool};
+use crate::{ENCOUNTER_BYTES, Page, Plain, RECORDING_BYTES, Status, Tool};
 use acas_base::Encounter;
 use acas_lines::{LineSink, Text};
 use air_journal::AirState;
@@ -23,22 +24,24 @@ use std::alloc::{AllocError, Global};
 use std::thread::Threads;
 use sweep::Counts;
 
-/// The answer to a command: its status, and the text that is put out.
+/// The answer to a command. It has a status and a text.
 #[derive(Drop)]
 pub(crate) enum Answer {
-    /// A run is recorded.
+    /// The recording of a run.
     Recorded(AirState),
-    /// An encounter is made.
+    /// The text of an encounter that was made from a number.
     Made(Encounter),
-    /// A tool tells of a recording.
+    /// A tool's text about a recording.
     Told(Tool, AirState),
-    /// Many encounters are played.
+    /// The counts of many encounters.
     Swept(Swept),
-    /// A run in threads has so many commits, and the serial run these counts.
+    /// How many commits a run in threads has, and the counts of the serial run.
     Summed(u32, Counts),
-    /// A recording is judged.
+    /// A page about the program.
+    Shown(Page),
+    /// The line of the verdict on a recording.
     Judged(Verdict),
-    /// The input is refused: the number of the record, and that of the code.
+    /// The line of a refusal, with the number of the record and the number of the code.
     Refused(u32, u8),
 }
 
@@ -52,7 +55,8 @@ impl Answer {
             | Answer::Made(_)
             | Answer::Told(_, _)
             | Answer::Swept(_)
-            | Answer::Summed(_, _) => Status::Done,
+            | Answer::Summed(_, _)
+            | Answer::Shown(_) => Status::Done,
             Answer::Judged(Verdict::Legal(_)) => Status::Done,
             Answer::Judged(Verdict::Wrong(_, _)) => Status::Wrong,
             Answer::Refused(_, _) => Status::Refused,
@@ -72,6 +76,7 @@ impl Text for Answer {
             Answer::Told(tool, state) => put_told(*tool, state, sink),
             Answer::Swept(swept) => swept.put(sink),
             Answer::Summed(commits, counts) => put_summed(*commits, counts, sink),
+            Answer::Shown(page) => put_page(*page, sink),
             Answer::Judged(verdict) => sink.line(&verdict_line(*verdict)),
             Answer::Refused(at, code) => sink.line(&refusal_line(*at, *code)),
         }
@@ -80,8 +85,8 @@ impl Text for Answer {
 
 // The answer to `serial`.
 fn answer_serial(alloc: Global, bytes: &[u8]) -> Result<Answer, AllocError>
-    requires { length bytes.now ≤ 16777216 }
-    ensures { IfOk result (λ answer. Answers Command.Serial bytes.now (answer_status answer) (answer_text answer)) }
+    requires { length bytes.now ≤ ENCOUNTER_BYTES }
+    ensures { IfOk result (λ answer. AnswersPlain Plain.Serial bytes.now (answer_status answer) (answer_text answer)) }
 {
     let encounter = match enc_file::read(alloc, bytes) {
         Ok(encounter) => encounter,
@@ -95,15 +100,15 @@ fn answer_serial(alloc: Global, bytes: &[u8]) -> Result<Answer, AllocError>
 
 // The answer to `audit`.
 fn answer_audit(alloc: Global, bytes: &[u8]) -> Result<Answer, AllocError>
-    requires { length bytes.now ≤ 67108864 }
-    ensures { IfOk result (λ answer. Answers Command.Audit bytes.now (answer_status answer) (answer_text answer)) }
+    requires { length bytes.now ≤ RECORDING_BYTES }
+    ensures { IfOk result (λ answer. AnswersPlain Plain.Audit bytes.now (answer_status answer) (answer_text answer)) }
 {
     Ok(Answer::Judged(judge(alloc, bytes)?))
 }
 
 // The answer to `gen`.
 fn answer_gen(alloc: Global, number: u32, crafts: u8, cycles: u16) -> Result<Answer, AllocError>
-    requires { IsCommand (Command.Gen number crafts cycles) }
+    requires { IsInRange (Plain.Gen number crafts cycles) }
     ensures status { IfOk result (λ answer. answer_status answer ≡ Status.Done) }
     ensures text { IfOk result (λ answer. IsMade number crafts cycles (answer_text answer)) }
 {
@@ -112,8 +117,8 @@ fn answer_gen(alloc: Global, number: u32, crafts: u8, cycles: u16) -> Result<Ans
 
 // The answer to the word of a tool.
 fn answer_tool(alloc: Global, tool: Tool, bytes: &[u8]) -> Result<Answer, AllocError>
-    requires { length bytes.now ≤ 67108864 }
-    ensures { IfOk result (λ answer. Answers (Command.Tell tool) bytes.now (answer_status answer) (answer_text answer)) }
+    requires { length bytes.now ≤ RECORDING_BYTES }
+    ensures { IfOk result (λ answer. AnswersPlain (Plain.Tell tool) bytes.now (answer_status answer) (answer_text answer)) }
 {
     match load(alloc, bytes)? {
         Loaded::Legal(state) => Ok(Answer::Told(tool, state)),
@@ -130,7 +135,7 @@ fn answer_sweep<R: Threads + Sync>(
     crafts: u8,
     cycles: u16,
 ) -> Result<Answer, AllocError>
-    requires { IsCommand (Command.Sweep number count crafts cycles) }
+    requires { IsInRange (Plain.Sweep number count crafts cycles) }
     ensures status { IfOk result (λ answer. answer_status answer ≡ Status.Done) }
     ensures text { IfOk result (λ answer. Sweeps number count crafts cycles (answer_text answer)) }
 {
@@ -139,8 +144,8 @@ fn answer_sweep<R: Threads + Sync>(
 
 // The answer to `resume`.
 fn answer_resume(alloc: Global, bytes: &[u8]) -> Result<Answer, AllocError>
-    requires { length bytes.now ≤ 67108864 }
-    ensures { IfOk result (λ answer. Answers Command.Resume bytes.now (answer_status answer) (answer_text answer)) }
+    requires { length bytes.now ≤ RECORDING_BYTES }
+    ensures { IfOk result (λ answer. AnswersPlain Plain.Resume bytes.now (answer_status answer) (answer_text answer)) }
 {
     match load_part(alloc, bytes)? {
         Loaded::Legal(begun) => Ok(Answer::Recorded(filled(alloc, begun)?)),
@@ -148,34 +153,34 @@ fn answer_resume(alloc: Global, bytes: &[u8]) -> Result<Answer, AllocError>
     }
 }
 
-/// The answer to a plain command on the bytes that it read. An error says that memory was wanting; all of it is asked for here.
+/// The answer to a plain command on the bytes that it read. The error says that memory was wanting. All memory is asked
+/// for here.
 pub(crate) fn answer_to<R: Threads + Sync>(
     rt: &R,
     alloc: Global,
-    command: Command,
+    plain: Plain,
     bytes: &[u8],
 ) -> Result<Answer, AllocError>
-    requires command { IsCommand command }
-    requires plain { IsPlain command }
-    requires bytes { IsReadable (limit_of command) bytes.now }
-    ensures { IfOk result (λ answer. Answers command bytes.now (answer_status answer) (answer_text answer)) }
+    requires range { IsInRange plain }
+    requires bytes { IsReadable (plain_limit plain) bytes.now }
+    ensures { IfOk result (λ answer. AnswersPlain plain bytes.now (answer_status answer) (answer_text answer)) }
 {
-    match command {
-        Command::Serial => answer_serial(alloc, bytes),
-        Command::Audit => answer_audit(alloc, bytes),
-        Command::Gen {
+    match plain {
+        Plain::Serial => answer_serial(alloc, bytes),
+        Plain::Audit => answer_audit(alloc, bytes),
+        Plain::Gen {
             number,
             crafts,
             cycles,
         } => answer_gen(alloc, number, crafts, cycles),
-        Command::Tell(tool) => answer_tool(alloc, tool, bytes),
-        Command::Sweep {
+        Plain::Tell(tool) => answer_tool(alloc, tool, bytes),
+        Plain::Sweep {
             number,
             count,
             crafts,
             cycles,
         } => answer_sweep(rt, alloc, number, count, crafts, cycles),
-        Command::Resume => answer_resume(alloc, bytes),
-        Command::Run(_) => unreachable!(),
+        Plain::Resume => answer_resume(alloc, bytes),
+        Plain::Show(page) => Ok(Answer::Shown(page)),
     }
 }

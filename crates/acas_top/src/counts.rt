@@ -35,10 +35,10 @@ pub(crate) fn serial_counts(alloc: Global, encounter: &Encounter) -> Result<Coun
     Ok(counts_of(&state))
 }
 
-/// The most bytes of counts: four numbers, each with a comma or the end of the line behind it.
+/// The most bytes of counts: four numbers, each followed by a comma or a line feed.
 const COUNTS_BYTES: usize = 4 * (U32_BYTES + 1);
 
-/// Adds counts, and the end of the line.
+/// Adds the counts and a line feed.
 pub(crate) fn add_counts(line: &mut Line, counts: &Counts)
     requires { length line.old + COUNTS_BYTES ≤ LINE_BYTES }
     ensures { line.new ≡ line.old ++ counts_text counts.now }

@@ -1,23 +1,25 @@
-//! The program, over any source and any sink: the words of a command line, the bytes that come in and the bytes that
-//! go out, and one status.
+//! The program over any source and any sink. It is given the words of a command line, reads bytes from the source, writes
+//! bytes to the sink, and ends with one status.
 #![tactic(auto)]
 
-mod all;
 mod answers;
 mod counts;
+mod pages;
+mod plain_program;
+mod program;
 mod refusal;
 mod runs;
 mod status;
+mod streams;
 mod summing;
-mod sweeping;
-mod swept;
+mod sweep_runs;
+mod sweep_text;
 mod telling;
 mod threaded;
-mod top;
 mod verdict;
 mod words;
 
-pub use all::acas;
+pub use plain_program::{acas_plain, one_status_law};
+pub use program::acas;
 pub use status::Status;
-pub use top::{acas_plain, one_status_law};
-pub use words::{Command, Threaded, Tool};
+pub use words::{Command, ENCOUNTER_BYTES, Page, Plain, RECORDING_BYTES, Threaded, Tool};

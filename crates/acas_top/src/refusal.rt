@@ -4,7 +4,7 @@ ghost use Rattle.acas_top.specs.Answers.{refused_line};
 
 use acas_text::Line;
 
-/// The line that says which record is refused, from 1, and by which code. A record 0 is none in particular.
+/// The line that says which record is refused, counted from 1, and with which code.
 pub(crate) fn refusal_line(at: u32, code: u8) -> Line
     ensures { result ≡ refused_line at code }
 {

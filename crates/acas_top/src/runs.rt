@@ -13,7 +13,7 @@ use craft_worker::serial;
 use resume::{fill, filled_law};
 use std::alloc::{AllocError, Global};
 
-/// A law: what holds of a complete journal of a state.
+/// A law: a complete journal of a state has all that the rules promise of a run.
 pub(crate) fn run_law(state: &AirState)
     requires { IsComplete (air_of state.now.encounter) state.now.journal }
     ensures { IsRun state.now.encounter state.now.journal }
@@ -32,22 +32,25 @@ pub(crate) fn serial_state(alloc: Global, encounter: &Encounter) -> Result<AirSt
 {
     let mut state = AirState::new(alloc, encounter)?;
     serial(&mut state, encounter);
+    // For the proof: what the rules promise of this complete journal.
     run_law(&state);
     Ok(state)
 }
 
-/// The state of the air after a run that was begun is gone on with to its end.
+/// The state of the air after a begun run was completed.
 pub(crate) fn filled(alloc: Global, mut begun: AirState) -> Result<AirState, AllocError>
     ensures encounter { IfOk result (λ state. state.encounter ≡ begun.encounter) }
     ensures filled { IfOk result (λ state. IsFilled (air_of begun.encounter) begun.journal state.journal) }
     ensures run { IfOk result (λ state. IsRun begun.encounter state.journal) }
     ensures serial { IfOk result (λ state. IsSerialOf begun.encounter begun.journal state.journal) }
 {
+    // For the proof: a beginning of the serial journal is filled to that journal, and what was begun is legal.
     sound_law();
     filled_law();
     begun.legal_law();
     let encounter = begun.enc().copy(alloc)?;
     fill(&mut begun, &encounter);
+    // For the proof: what the rules promise of this complete journal.
     run_law(&begun);
     Ok(begun)
 }

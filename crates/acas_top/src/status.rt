@@ -5,18 +5,18 @@ ghost use Rattle.acas_top.specs.Statuses.{status_number};
 /// How a run ended.
 #[derive(Clone, Copy, Debug, PartialEq, Eq)]
 pub enum Status {
-    /// The whole output was written, and the input was read to its end, where the command reads one.
+    /// The whole output was written. Where the command reads an input, it was read to its end.
     Done,
     /// The words are no command. Nothing was read or written.
     Usage,
-    /// The input was read to its end, it is no encounter, and the line of the refusal was written.
+    /// The input was read to its end, and it is no encounter. The line of the refusal was written.
     Refused,
-    /// The input was read to its end, it is no right recording (for `resume`, no beginning of one), and the line that
-    /// says so was written.
+    /// The input was read to its end, and it is no right recording (for `resume`, no beginning of one). The line of the
+    /// verdict was written.
     Wrong,
     /// A read failed. Nothing was written.
     ReadFault,
-    /// A write failed. A front of the output was written.
+    /// A write failed. The beginning of the output was written, or nothing.
     WriteFault,
     /// The input has more bytes than the limit. Nothing was written.
     TooLong,

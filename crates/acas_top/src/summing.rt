@@ -16,7 +16,7 @@ fn serial_line(counts: &Counts) -> Line
     line
 }
 
-/// Puts the commits of a run in threads, and the counts of the serial run.
+/// Puts two lines: the commits of a run in threads, and the counts of the serial run.
 pub(crate) fn put_summed<S: LineSink>(commits: u32, counts: &Counts, sink: &mut S)
     ensures { S.took sink.old sink.new (summed_lines commits counts.now) }
 {

@@ -1,4 +1,4 @@
-// What the tools tell.
+// The tools' texts.
 ghost use Rattle.acas_top.specs.Telling.{tool_lines};
 
 use crate::words::Tool;

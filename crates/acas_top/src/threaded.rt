@@ -8,7 +8,7 @@ ghost use Rattle.flight.specs.Inside.{IsInside};
 use crate::answers::Answer;
 use crate::counts::{counts_of, serial_counts};
 use crate::runs::run_law;
-use crate::{Command, Threaded};
+use crate::{Command, ENCOUNTER_BYTES, Threaded};
 use acas_base::Encounter;
 use air_journal::AirState;
 use air_turn::Air;
@@ -32,13 +32,15 @@ fn threaded_state<R: Threads + Wait + Sync, P: Pause + Sync>(
     let state = AirState::new(alloc, encounter)?;
     let (air, mut seats) = Air::open(alloc, state)?;
     play(rt, alloc, &air, &mut seats, encounter, pause)?;
+    // For the proof: the journal that these seats close with is complete.
     played_law();
     let closed = air.close(seats);
+    // For the proof: what the rules promise of this complete journal.
     run_law(&closed);
     Ok(closed)
 }
 
-// The answer to `sum` after a run in threads of an encounter, which a text says.
+// The answer to `sum` after this run of an encounter in threads. It answers every text that says the encounter.
 fn answer_sum(alloc: Global, encounter: &Encounter, played: &AirState) -> Result<Answer, AllocError>
     requires inside { IsInside encounter.now }
     requires encounter { played.now.encounter ≡ encounter.now }
@@ -49,7 +51,7 @@ fn answer_sum(alloc: Global, encounter: &Encounter, played: &AirState) -> Result
     Ok(Answer::Summed(counts_of(played).commits, serial))
 }
 
-// What a run in threads of an encounter, which a text says, is answered with.
+// The answer to a word after this run of an encounter in threads. It answers every text that says the encounter.
 fn answer_of(
     alloc: Global,
     run: Threaded,
@@ -67,8 +69,8 @@ fn answer_of(
     }
 }
 
-/// The answer to the word of a run in threads on the bytes that it read. An error says that memory was wanting; all of it
-/// is asked for here.
+/// The answer to the word of a run in threads on the bytes that it read. The error says that memory was wanting. All memory is
+/// asked for here.
 pub(crate) fn answer_in_threads<R: Threads + Wait + Sync, P: Pause + Sync>(
     rt: &R,
     alloc: Global,
@@ -76,7 +78,7 @@ pub(crate) fn answer_in_threads<R: Threads + Wait + Sync, P: Pause + Sync>(
     bytes: &[u8],
     pause: &P,
 ) -> Result<Answer, AllocError>
-    requires { length bytes.now ≤ 16777216 }
+    requires { length bytes.now ≤ ENCOUNTER_BYTES }
     ensures { IfOk result (λ answer. Answers (Command.Run run) bytes.now (answer_status answer) (answer_text answer)) }
 {
     let encounter = match enc_file::read(alloc, bytes) {

@@ -8,10 +8,10 @@ use acas_lines::count_line;
 use acas_text::{Line, U16_BYTES};
 use rec_audit::{Reason, Verdict};
 
-// The most bytes of a reason: its number, and behind the first one a comma and a code.
+// The most bytes of a reason: its number, and after the number 1 a comma and a code.
 const REASON_BYTES: usize = 2 * U16_BYTES + 1;
 
-// Adds the number of a reason, and behind the first one the code of the refusal.
+// Adds the number of a reason. After the number 1 it adds the code of the encounter's refusal.
 fn add_reason(line: &mut Line, reason: Reason)
     requires { length line.old + REASON_BYTES ≤ LINE_BYTES }
     ensures added { line.new ≡ line.old ++ reason_text reason }
@@ -38,7 +38,8 @@ fn wrong_line(number: u32, reason: Reason) -> Line
     line
 }
 
-/// The line that tells how many entries a legal recording has, or which line of a wrong one is wrong, from 1, and why.
+/// The line of a verdict: how many entries a legal recording has, or which line is the first wrong one, counted from 1, and
+/// why.
 pub(crate) fn verdict_line(verdict: Verdict) -> Line
     ensures { result ≡ verdict_line verdict }
 {

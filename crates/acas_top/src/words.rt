@@ -1,17 +1,25 @@
 // The commands, and the words that say them.
-ghost use Rattle.std.specs.Prelude.{◌≡◌, [], ◌∷◌, IfNone, IfSome, map};
+ghost use Rattle.std.specs.Prelude.{◌≡◌, ◌≢◌, [], ◌∷◌, IfNone, IfSome, map};
 ghost use Rattle.std.specs.String.{string_bytes};
-ghost use Rattle.acas_top.specs.Words.{AreNoPlainCommand, AreNoThreadedRun, IsCommand, IsPlain, limit_of, words_of};
+ghost use Rattle.acas_top.specs.Words.{AreNoPlain, AreNoRun, IsInRange, Say, SayPage, limit_of, tool_word};
+ghost use Rattle.acas_top.specs.declared.words.Page.{Page};
+ghost use Rattle.acas_top.specs.declared.words.Tool.{Tool};
 
 use acas_base::CRAFTS;
 use acas_text::parse_within;
 
-/// What reads a recording, and tells something of it.
+/// The most bytes that a command reads of an encounter's text.
+pub const ENCOUNTER_BYTES: usize = 16_777_216;
+
+/// The most bytes that a command reads of a recording.
+pub const RECORDING_BYTES: usize = 67_108_864;
+
+/// What reads a recording, and writes a text about it.
 #[derive(Clone, Copy, Debug, PartialEq, Eq)]
 pub enum Tool {
-    /// `reports`: the RA report blocks that aircraft would have downlinked.
+    /// `reports`: the RA report blocks that the aircraft would have downlinked.
     Reports,
-    /// `response`: how near aircraft would have come, had each flown with the modelled response to its advisories.
+    /// `response`: how near the aircraft would have come, had each flown with the modelled response to its advisories.
     Response,
     /// `watch`: each interval in which two coordinating aircraft had equal senses, and its cause.
     Watch,
@@ -28,32 +36,51 @@ pub enum Threaded {
     Sum,
 }
 
-/// What the program can be told to do.
+/// What the program says of itself.
 #[derive(Clone, Copy, Debug, PartialEq, Eq)]
-pub enum Command {
+pub enum Page {
+    /// `--help`, `-h` or `help`: how to use the program.
+    Help,
+    /// `--version`: the versions of the program and of its formats.
+    Version,
+}
+
+/// A command that never waits for another thread's step.
+#[derive(Clone, Copy, Debug, PartialEq, Eq)]
+pub enum Plain {
     /// `serial`: reads an encounter, and writes the recording of its serial run.
     Serial,
     /// `audit`: reads a recording, and writes whether it is one of a legal and complete journal.
     Audit,
-    /// `gen NUMBER CRAFTS CYCLES`: reads nothing, and writes the encounter that is made of a number, with so many
+    /// `gen NUMBER CRAFTS CYCLES`: reads nothing, and writes the encounter that is made from a number, with this many
     /// aircraft (1 to 16) and cycles (1 to 600).
     Gen {
         number: u32,
         crafts: u8,
         cycles: u16,
     },
-    /// The word of a tool: reads a recording, and writes the tool's text of it.
+    /// The word of a tool: reads a recording, and writes the tool's text about it.
     Tell(Tool),
-    /// `sweep NUMBER COUNT CRAFTS CYCLES`: reads nothing, plays the encounters that are made of so many numbers (1 to 4,096)
-    /// from a first one on, with so many aircraft (1 to 4) and cycles (1 to 120), and writes what each has.
+    /// `sweep NUMBER COUNT CRAFTS CYCLES`: reads nothing, plays the encounters that are made from this many numbers
+    /// (1 to 4,096) from a first one on, with this many aircraft (1 to 4) and cycles (1 to 120), and writes the counts of
+    /// each.
     Sweep {
         number: u32,
         count: u16,
         crafts: u8,
         cycles: u16,
     },
-    /// `resume`: reads a beginning of a recording, and writes a recording of its journal, gone on with to its end.
+    /// `resume`: reads a beginning of a recording, and writes the recording of its run, completed.
     Resume,
+    /// The words that ask for a page: reads nothing, and writes the page.
+    Show(Page),
+}
+
+/// What the program can be told to do.
+#[derive(Clone, Copy, Debug, PartialEq, Eq)]
+pub enum Command {
+    /// A command that waits for nobody.
+    Plain(Plain),
     /// The word of a run in threads: reads an encounter.
     Run(Threaded),
 }
@@ -64,48 +91,69 @@ impl Command {
         ensures { result ≡ limit_of self }
     {
         match self {
-            Command::Serial | Command::Run(_) => Some(16_777_216),
-            Command::Audit | Command::Tell(_) | Command::Resume => Some(67_108_864),
-            Command::Gen { .. } | Command::Sweep { .. } => None,
+            Command::Plain(plain) => plain.limit(),
+            Command::Run(_) => Some(ENCOUNTER_BYTES),
         }
     }
 }
 
-// The command of one word.
-fn of_one(word: &str) -> Option<Command>
-    ensures some { IfSome result (λ command. word.now ∷ [] ≡ words_of command) }
-    ensures valid { IfSome result IsCommand }
-    ensures plain { IfSome result IsPlain }
-    ensures none { IfNone result (AreNoPlainCommand (word.now ∷ [])) }
+impl Plain {
+    // The most bytes that the command reads, or none where it reads nothing.
+    fn limit(self) -> Option<usize>
+        ensures { result ≡ limit_of (Command.Plain self) }
+    {
+        match self {
+            Plain::Serial => Some(ENCOUNTER_BYTES),
+            Plain::Audit | Plain::Tell(_) | Plain::Resume => Some(RECORDING_BYTES),
+            Plain::Gen { .. } | Plain::Sweep { .. } | Plain::Show(_) => None,
+        }
+    }
+}
+
+// The tool of a word.
+fn tool_of(word: &str) -> Option<Tool>
+    ensures some { IfSome result (λ tool. word.now ≡ tool_word tool) }
+    ensures none { IfNone result ((tool : Tool) → word.now ≢ tool_word tool) }
 {
-    if word == "serial" {
-        return Some(Command::Serial);
-    }
-    if word == "audit" {
-        return Some(Command::Audit);
-    }
     if word == "reports" {
-        return Some(Command::Tell(Tool::Reports));
+        return Some(Tool::Reports);
     }
     if word == "response" {
-        return Some(Command::Tell(Tool::Response));
+        return Some(Tool::Response);
     }
     if word == "watch" {
-        return Some(Command::Tell(Tool::Watch));
+        return Some(Tool::Watch);
     }
     if word == "why" {
-        return Some(Command::Tell(Tool::Why));
-    }
-    if word == "resume" {
-        return Some(Command::Resume);
+        return Some(Tool::Why);
     }
     None
 }
 
-// The run in threads of one word.
+// The page that a word asks for.
+fn page_of(word: &str) -> Option<Page>
+    ensures some { IfSome result (λ page. SayPage (word.now ∷ []) page) }
+    ensures none { IfNone result ((page : Page) → SayPage (word.now ∷ []) page → ⊥) }
+{
+    if word == "--help" {
+        return Some(Page::Help);
+    }
+    if word == "-h" {
+        return Some(Page::Help);
+    }
+    if word == "help" {
+        return Some(Page::Help);
+    }
+    if word == "--version" {
+        return Some(Page::Version);
+    }
+    None
+}
+
+// The run in threads of a word.
 fn threaded_of(word: &str) -> Option<Threaded>
-    ensures some { IfSome result (λ run. word.now ∷ [] ≡ words_of (Command.Run run)) }
-    ensures none { IfNone result (AreNoThreadedRun (word.now ∷ [])) }
+    ensures some { IfSome result (λ run. Say (word.now ∷ []) (Command.Run run)) }
+    ensures none { IfNone result (AreNoRun (word.now ∷ [])) }
 {
     if word == "play" {
         return Some(Threaded::Play);
@@ -116,12 +164,35 @@ fn threaded_of(word: &str) -> Option<Threaded>
     None
 }
 
-// The command of a word and three numbers.
-fn of_four(word: &str, number: &str, crafts: &str, cycles: &str) -> Option<Command>
-    ensures some { IfSome result (λ command. word.now ∷ number.now ∷ crafts.now ∷ cycles.now ∷ [] ≡ words_of command) }
-    ensures valid { IfSome result IsCommand }
-    ensures plain { IfSome result IsPlain }
-    ensures none { IfNone result (AreNoPlainCommand (word.now ∷ number.now ∷ crafts.now ∷ cycles.now ∷ [])) }
+// The plain command of one word.
+fn of_one(word: &str) -> Option<Plain>
+    ensures some { IfSome result (λ plain. Say (word.now ∷ []) (Command.Plain plain)) }
+    ensures valid { IfSome result IsInRange }
+    ensures none { IfNone result (AreNoPlain (word.now ∷ [])) }
+{
+    if word == "serial" {
+        return Some(Plain::Serial);
+    }
+    if word == "audit" {
+        return Some(Plain::Audit);
+    }
+    if word == "resume" {
+        return Some(Plain::Resume);
+    }
+    match tool_of(word) {
+        Some(tool) => Some(Plain::Tell(tool)),
+        None => match page_of(word) {
+            Some(page) => Some(Plain::Show(page)),
+            None => None,
+        },
+    }
+}
+
+// The plain command of a word and three numbers.
+fn of_four(word: &str, number: &str, crafts: &str, cycles: &str) -> Option<Plain>
+    ensures some { IfSome result (λ plain. Say (word.now ∷ number.now ∷ crafts.now ∷ cycles.now ∷ []) (Command.Plain plain)) }
+    ensures valid { IfSome result IsInRange }
+    ensures none { IfNone result (AreNoPlain (word.now ∷ number.now ∷ crafts.now ∷ cycles.now ∷ [])) }
 {
     if word != "gen" {
         return None;
@@ -129,19 +200,18 @@ fn of_four(word: &str, number: &str, crafts: &str, cycles: &str) -> Option<Comma
     let number = parse_within(number.as_bytes(), 0, u32::MAX)?;
     let crafts = parse_within(crafts.as_bytes(), 1, CRAFTS as u32)?;
     let cycles = parse_within(cycles.as_bytes(), 1, 600)?;
-    Some(Command::Gen {
+    Some(Plain::Gen {
         number,
         crafts: crafts as u8,
         cycles: cycles as u16,
     })
 }
 
-// The command of a word and four numbers.
-fn of_five(word: &str, number: &str, count: &str, crafts: &str, cycles: &str) -> Option<Command>
-    ensures some { IfSome result (λ command. word.now ∷ number.now ∷ count.now ∷ crafts.now ∷ cycles.now ∷ [] ≡ words_of command) }
-    ensures valid { IfSome result IsCommand }
-    ensures plain { IfSome result IsPlain }
-    ensures none { IfNone result (AreNoPlainCommand (word.now ∷ number.now ∷ count.now ∷ crafts.now ∷ cycles.now ∷ [])) }
+// The plain command of a word and four numbers.
+fn of_five(word: &str, number: &str, count: &str, crafts: &str, cycles: &str) -> Option<Plain>
+    ensures some { IfSome result (λ plain. Say (word.now ∷ number.now ∷ count.now ∷ crafts.now ∷ cycles.now ∷ []) (Command.Plain plain)) }
+    ensures valid { IfSome result IsInRange }
+    ensures none { IfNone result (AreNoPlain (word.now ∷ number.now ∷ count.now ∷ crafts.now ∷ cycles.now ∷ [])) }
 {
     if word != "sweep" {
         return None;
@@ -150,7 +220,7 @@ fn of_five(word: &str, number: &str, count: &str, crafts: &str, cycles: &str) ->
     let count = parse_within(count.as_bytes(), 1, 4_096)?;
     let crafts = parse_within(crafts.as_bytes(), 1, 4)?;
     let cycles = parse_within(cycles.as_bytes(), 1, 120)?;
-    Some(Command::Sweep {
+    Some(Plain::Sweep {
         number,
         count: count as u16,
         crafts: crafts as u8,
@@ -159,11 +229,10 @@ fn of_five(word: &str, number: &str, count: &str, crafts: &str, cycles: &str) ->
 }
 
 /// The plain command that the words say, or none where they say none.
-pub(crate) fn parse(words: &[String]) -> Option<Command>
-    ensures some { IfSome result (λ command. map string_bytes words.now ≡ words_of command) }
-    ensures valid { IfSome result IsCommand }
-    ensures plain { IfSome result IsPlain }
-    ensures none { IfNone result (AreNoPlainCommand (map string_bytes words.now)) }
+pub(crate) fn parse_plain(words: &[String]) -> Option<Plain>
+    ensures some { IfSome result (λ plain. Say (map string_bytes words.now) (Command.Plain plain)) }
+    ensures valid { IfSome result IsInRange }
+    ensures none { IfNone result (AreNoPlain (map string_bytes words.now)) }
 {
     match words {
         [word] => of_one(word.as_str()),
@@ -186,8 +255,8 @@ pub(crate) fn parse(words: &[String]) -> Option<Command>
 
 /// The run in threads that the words say, or none where they say none.
 pub(crate) fn parse_threaded(words: &[String]) -> Option<Threaded>
-    ensures some { IfSome result (λ run. map string_bytes words.now ≡ words_of (Command.Run run)) }
-    ensures none { IfNone result (AreNoThreadedRun (map string_bytes words.now)) }
+    ensures some { IfSome result (λ run. Say (map string_bytes words.now) (Command.Run run)) }
+    ensures none { IfNone result (AreNoRun (map string_bytes words.now)) }
 {
     match words {
         [word] => threaded_of(word.as_str()),

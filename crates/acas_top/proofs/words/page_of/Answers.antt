@@ -1,0 +1,5 @@
+use Rattle.acas_top.proofs.OneWord.{other-than-pages}
+use Rattle.acas_top.proofs.words.page_of.Goals as goal
+
+pub returns-clause-none : goal.returns-clause-none
+returns-clause-none c = other-than-pages c.args.word.now c.if-eq.ensures c.if-eq-2.ensures c.if-eq-3.ensures c.if-eq-4.ensures

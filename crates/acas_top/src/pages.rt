@@ -1,0 +1,86 @@
+// The pages that the program writes about itself.
+ghost use Rattle.std.specs.Prelude.{IsTrue};
+ghost use Rattle.acas_top.specs.Pages.{are_short, page_lines, texts_of};
+
+use crate::words::Page;
+use acas_lines::{LineSink, fixed_line};
+
+/// The page that `--help` writes.
+pub(crate) const HELP: [&str; 53] = [
+    "acas plays encounters between aircraft with TCAS II version 7.1.\n",
+    "\n",
+    "usage: acas WORD [NUMBERS] < INPUT > OUTPUT\n",
+    "\n",
+    "These words read an encounter from standard input:\n",
+    "  serial     Writes the recording of the serial run. The same encounter always\n",
+    "             gives the same recording.\n",
+    "  play       Gives each active aircraft a thread of its own, and writes the\n",
+    "             recording. Two runs may differ in the order of their steps.\n",
+    "  sum        Does both. Writes how many commits the run in threads has, and the\n",
+    "             counts of the serial run.\n",
+    "\n",
+    "These words read a recording from standard input:\n",
+    "  audit      Writes legal,ENTRIES where the recording is right. Else it writes\n",
+    "             which line is the first wrong one, and why.\n",
+    "  reports    Writes the RA reports that the aircraft would have downlinked.\n",
+    "  response   Writes how far apart in altitude the aircraft would have been at\n",
+    "             closest approach, had each flown with the modelled response.\n",
+    "  watch      Writes when two aircraft had advisories in one sense, and why.\n",
+    "  why        Writes why each aircraft had each advisory, or had none.\n",
+    "  resume     Reads a recording that was cut, and writes the whole recording.\n",
+    "\n",
+    "These words read nothing:\n",
+    "  gen NUMBER CRAFTS CYCLES\n",
+    "             Writes the encounter that is made from NUMBER (0 to 4294967295),\n",
+    "             with CRAFTS aircraft (1 to 16) and CYCLES cycles (1 to 600).\n",
+    "  sweep NUMBER COUNT CRAFTS CYCLES\n",
+    "             Plays the encounters of COUNT numbers (1 to 4096) from NUMBER on,\n",
+    "             with CRAFTS aircraft (1 to 4) and CYCLES cycles (1 to 120).\n",
+    "             Writes the counts of each serial run, and their sums.\n",
+    "  --help     Writes this page. So do -h and help.\n",
+    "  --version  Writes the versions of the program and of its formats.\n",
+    "\n",
+    "Exit status, and what standard output has then:\n",
+    "  0  Done. The whole output.\n",
+    "  2  The words are no command. Nothing was read or written.\n",
+    "  3  serial, play, sum: the input is no encounter. One line,\n",
+    "     refused,RECORD,CODE: the first faulty record, and the code of its fault.\n",
+    "  4  audit, reports, response, watch, why: the input is no recording of a legal\n",
+    "     and complete run. resume: it is no beginning of a recording. One line,\n",
+    "     wrong,LINE,REASON or wrong,2,1,CODE.\n",
+    "  5  A read failed. Nothing.\n",
+    "  6  A write failed. The beginning of the output.\n",
+    "  7  The input is too long: over 16777216 bytes of an encounter, or over\n",
+    "     67108864 bytes of a recording. Nothing.\n",
+    "  8  Memory was wanting. Nothing.\n",
+    "\n",
+    "Example:\n",
+    "  acas serial < examples/same-altitude.enc > recording\n",
+    "  acas audit < recording\n",
+    "\n",
+    "README.md says how to begin. docs/FORMATS.md describes every text, docs/RULES.md\n",
+    "has the rules, and examples/ has encounters with a page on each.\n",
+];
+
+/// What `--version` writes: the program's version, and the formats of encounters and recordings that it reads and writes.
+pub(crate) const VERSION: [&str; 3] = ["acas 1.0.0\n", "encounter 1,2\n", "recording 1\n"];
+
+// Puts lines of fixed text, in order.
+fn put_lines<S: LineSink>(lines: &[&str], sink: &mut S)
+    requires { IsTrue (are_short lines.now) }
+    ensures { S.took sink.old sink.new (texts_of lines.now) }
+{
+    for line in lines {
+        sink.line(&fixed_line(line));
+    }
+}
+
+/// Puts the lines of a page.
+pub(crate) fn put_page<S: LineSink>(page: Page, sink: &mut S)
+    ensures { S.took sink.old sink.new (page_lines page) }
+{
+    match page {
+        Page::Help => put_lines(&HELP, sink),
+        Page::Version => put_lines(&VERSION, sink),
+    }
+}

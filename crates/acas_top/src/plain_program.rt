@@ -1,0 +1,66 @@
+// The program without the words that run threads which wait for each other.
+ghost use Rattle.std.specs.Prelude.{◌≡◌, ℕ, List, map};
+ghost use Rattle.std.specs.String.{string_bytes};
+ghost use Rattle.acas_io.specs.Stream.{Grew};
+ghost use Rattle.acas_top.specs.Answers.{Answers, Plays};
+ghost use Rattle.acas_top.specs.Ends.{DoneAs, Ended};
+ghost use Rattle.acas_top.specs.Words.{AreNoPlain};
+
+use crate::answers::answer_to;
+use crate::streams::{put_answer, read_input};
+use crate::words::parse_plain;
+use crate::{Command, Plain, Status};
+use acas_io::{Sink, Source};
+use rec_audit::verdict_law;
+use std::alloc::Global;
+use std::thread::Threads;
+
+/// Runs the command that the words say: reads the source, writes the sink, and returns the status. It always returns.
+///
+/// - `serial` reads an encounter and writes the recording of its serial run. Where the input is no encounter, it writes the
+///   line `refused,RECORD,CODE`.
+/// - `audit` reads a recording and writes `legal,ENTRIES`. Where the recording is wrong, it writes `wrong,LINE,REASON`.
+/// - `resume` reads a beginning of a recording, and writes the whole recording. Where the input is none, it writes the line
+///   of its verdict.
+/// - `reports`, `response`, `watch` and `why` read a recording, and write a text about it. Where the recording is wrong, they
+///   write the line of its verdict.
+/// - `gen NUMBER CRAFTS CYCLES` reads nothing, and writes the encounter that is made from the number.
+/// - `sweep NUMBER COUNT CRAFTS CYCLES` reads nothing. It plays the encounters that are made from COUNT numbers, in as many
+///   threads as there are processors, and writes the counts of each.
+/// - `--help`, `-h`, `help` and `--version` read nothing, and write a page about the program.
+///
+/// All other words give [`Status::Usage`]. All memory is taken before the first byte is written.
+pub fn acas_plain<R: Threads + Sync, S: Source, K: Sink>(
+    rt: &R,
+    alloc: Global,
+    words: &[String],
+    source: &mut S,
+    sink: &mut K,
+) -> Status
+    ensures ended { Ended (AreNoPlain (map string_bytes words.now)) (map string_bytes words.now) result S.left S.faults source.old source.new K.written K.faults sink.old sink.new }
+
+    // After `serial` with status Done, the bytes that were read, to their end, say an encounter, and the bytes that were
+    // written are the recording of its serial journal. The journal is legal and complete. No aircraft commits an advisory in
+    // the sense that the message in force from a threat of lower address forbids. Where that message was sent since the
+    // threat took its present sense, the senses are opposite.
+    ensures played { DoneAs (Command.Plain Plain.Serial) Plays (map string_bytes words.now) result (S.left source.old) (S.left source.new) (Grew (K.written sink.old) (K.written sink.new)) }
+{
+    let Some(plain) = parse_plain(words) else {
+        return Status::Usage;
+    };
+    match read_input(alloc, Command::Plain(plain), source) {
+        Ok(bytes) => match answer_to(rt, alloc, plain, bytes.as_slice()) {
+            Ok(answer) => put_answer(answer, sink),
+            Err(_) => Status::OutOfMemory,
+        },
+        Err(status) => status,
+    }
+}
+
+/// A law: on the same bytes, at most one status answers a command.
+pub fn one_status_law()
+    ensures { (command : Command) (bytes text other : List ℕ) (status also : Status)
+        → Answers command bytes status text → Answers command bytes also other → status ≡ also }
+{
+    verdict_law();
+}

@@ -1,0 +1,53 @@
+// How every command reads its source and writes its sink.
+ghost use Rattle.std.specs.Prelude.{◌≡◌, IfErr, IfOk, OnOk};
+ghost use Rattle.acas_top.specs.Ends.{IsUnread, WasPut, WasRead, status_after};
+ghost use Rattle.acas_top.specs.Given.{answer_status, answer_text};
+ghost use Rattle.acas_top.specs.Words.{limit_of};
+
+use crate::answers::Answer;
+use crate::{Command, Status};
+use acas_io::{Failed, InError, Sink, Source, read_all};
+use acas_lines::write_text;
+use std::alloc::Global;
+
+/// Reads what the command reads, to its end: nothing, or all bytes of the source up to the limit. An error is the status
+/// with which the command ends.
+pub(crate) fn read_input<S: Source>(
+    alloc: Global,
+    command: Command,
+    source: &mut S,
+) -> Result<Vec<u8>, Status>
+    ensures read { IfOk result (λ bytes. WasRead (limit_of command) (S.left source.old) (S.left source.new) bytes.items) }
+    ensures no_fault { OnOk result (S.faults source.new ≡ S.faults source.old) }
+    ensures unread { IfErr result (λ status. IsUnread status (limit_of command) (S.left source.old) (S.faults source.old) (S.faults source.new)) }
+
+    // Where the command reads nothing, the source isn't touched.
+    ensures untouched { limit_of command ≡ None → source.new ≡ source.old }
+{
+    let Some(limit) = command.limit() else {
+        return Ok(Vec::new(alloc));
+    };
+    match read_all(alloc, source, limit) {
+        Ok(bytes) => Ok(bytes),
+        Err(InError::ReadFault) => Err(Status::ReadFault),
+        Err(InError::TooLong) => Err(Status::TooLong),
+        Err(InError::OutOfMemory) => Err(Status::OutOfMemory),
+    }
+}
+
+// The status with which the command ends: that of its answer, or WriteFault where a write failed.
+fn status_after(own: Status, put: Result<(), Failed>) -> Status
+    ensures { result ≡ status_after own put }
+{
+    match put {
+        Ok(()) => own,
+        Err(_) => Status::WriteFault,
+    }
+}
+
+/// Writes the answer to a command, and gives the status with which the command ends.
+pub(crate) fn put_answer<K: Sink>(answer: Answer, sink: &mut K) -> Status
+    ensures { WasPut result (answer_status answer) (answer_text answer) (K.written sink.old) (K.written sink.new) (K.faults sink.old) (K.faults sink.new) }
+{
+    status_after(answer.status(), write_text(&answer, sink))
+}
