@@ -10,7 +10,7 @@ use itoa::write_digits;
 use std::marker::Model;
 
 /// The most bytes that a line holds.
-pub const LINE_BYTES: usize = 256;
+pub const LINE_BYTES: usize = 512;
 
 /// The most bytes that `Line::u16` adds.
 pub const U16_BYTES: usize = 5;
@@ -193,7 +193,7 @@ impl Line {
     pub fn bytes(&self) -> &[u8]
         ensures bytes { result.now ≡ self.now }
         ensures short { length result.now ≤ LINE_BYTES }
-        ensures most { LINE_BYTES ≡ 256 }
+        ensures most { LINE_BYTES ≡ 512 }
     {
         &self.bytes[..self.len]
     }
