@@ -16,8 +16,8 @@ use std::alloc::{AllocError, Global};
 use std::sync::Wait;
 use std::thread::Threads;
 
-// Two aircraft with resolution advisories that fly towards each other, at different altitudes and at the same one, without
-// the end of the text.
+// Two aircraft with resolution advisories that fly towards each other, at different altitudes and at the same one,
+// without the end of the text.
 const APART: &[u8] =
     b"encounter,1\nrun,31,0\ncraft,400A01,RA,0,0,35000\ncraft,400B02,RA,91200,0,35300\nleg,400A01,1,760,0,0\nleg,400B02,1,-760,0,0\n";
 
@@ -35,6 +35,18 @@ const HELD_LONG: &[u8] =
 // The lower address misses the replies of the other one from cycle 22 on, and its cancel is lost.
 const LAPSING: &[u8] =
     b"encounter,1\nrun,33,0\ncraft,400A01,RA,0,0,35000\ncraft,400B02,RA,91200,0,35000\nleg,400A01,1,760,0,0\nleg,400B02,1,-760,0,0\nmiss,400A01,400B02,22,60\nfate,400A01,400B02,2\n";
+
+// One aircraft between two others, of which one is above it and one below.
+const BETWEEN: &[u8] =
+    b"encounter,1\nrun,25,0\ngains,1024,1024,1024,1024\ncraft,400A01,RA,45600,0,34700\ncraft,400B02,RA,-45600,0,35300\ncraft,400C03,RA,0,0,35000\nleg,400A01,1,-760,0,0\nleg,400B02,1,760,0,0\n";
+
+// Two near the ground.
+const LOW: &[u8] =
+    b"encounter,1\nrun,17,0\ncraft,400A01,RA,0,0,1099\ncraft,400B02,RA,12000,0,1099\nleg,400A01,1,200,0,0\nleg,400B02,1,-200,0,0\n";
+
+// A threat with a transponder only, which climbs in the end.
+const TRANSPONDER: &[u8] =
+    b"encounter,1\nrun,31,0\ngains,1024,1024,1024,1024\ncraft,400A01,XPDR,0,0,35000\ncraft,400B02,RA,91200,0,35000\nleg,400A01,1,760,0,0\nleg,400A01,27,760,0,6000\nleg,400B02,1,-760,0,0\n";
 
 // The two at different altitudes, with traffic advisories alone.
 const TRAFFIC: &[u8] =

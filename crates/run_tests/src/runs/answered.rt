@@ -1,4 +1,5 @@
-// What words answer, to the byte.
+// What words answer, to the byte. Expected values: by hand from "Refusals" and "Encounters made from a number" in
+// docs/FORMATS.md.
 use super::{APART, LEVEL, ONE_CYCLE, ONE_CYCLE_RECORDING, TRAFFIC, answers, joined, run};
 use acas_top::Status;
 use std::alloc::{AllocError, Global};

@@ -1,4 +1,5 @@
-// Reads and writes that fail, inputs that are too long, and words that are none.
+// Reads and writes that fail, inputs that are too long, and words that are none. Expected values: the causes in
+// README.md, and the limits in docs/FORMATS.md.
 use super::{
     APART, LEVEL, NoPause, ONE_CYCLE, ONE_CYCLE_RECORDING, Outcome, answers, joined, lines_between,
     recording, run, run_with,
@@ -21,8 +22,8 @@ fn failing<R: Threads + Wait + Sync + Alloc<A = Global>>(
     run_with(rt, line, input, reads, writes, &NoPause)
 }
 
-// The first reads of a run fail in turn, and then the first writes: nothing was written, or so much of the text as the writes
-// before. What a run in threads writes first is the same, whatever the order is.
+// The first reads of a run fail in turn, and then the first writes: nothing was written, or so much of the text as the
+// writes before. What a run in threads writes first is the same, whatever the order is.
 fn tells_each_fault<R: Threads + Wait + Sync + Alloc<A = Global>>(
     rt: &R,
     line: &str,
@@ -188,5 +189,44 @@ fn reads_texts_up_to_the_limit(rt: HostRuntime) -> Result<(), Fail> {
     );
     text.push(b'\n')?;
     assert!(rt; answers(&rt, "serial", text.as_slice(), Status::TooLong, b"")?);
+    Ok(())
+}
+
+// Words that read a recording, and what they answer where empty lines follow a whole one of 102 lines, whose report
+// begins in line 97.
+const PADDED: [(&str, &[u8]); 3] = [
+    ("audit", b"wrong,103,6\n"),
+    ("watch", b"wrong,103,6\n"),
+    ("resume", b"wrong,97,6\n"),
+];
+
+// A recording, and as many empty lines behind it as there may be.
+fn padded<R: Threads + Wait + Sync + Alloc<A = Global>>(rt: &R) -> Result<Vec<u8>, AllocError> {
+    let mut text = recording(rt, APART, b"end\n")?;
+    text.resize(67_108_864, b'\n')?;
+    Ok(text)
+}
+
+// The place of the first word that answers otherwise.
+fn first_other_end<R: Threads + Wait + Sync + Alloc<A = Global>>(
+    rt: &R,
+    text: &[u8],
+    words: &[(&str, &[u8])],
+) -> Result<Option<usize>, AllocError> {
+    for place in 0..words.len() {
+        let (word, verdict) = words[place];
+        if !answers(rt, word, text, Status::Wrong, verdict)? {
+            return Ok(Some(place));
+        }
+    }
+    Ok(None)
+}
+
+#[test]
+fn reads_recordings_up_to_the_limit(rt: HostRuntime) -> Result<(), Fail> {
+    let mut text = padded(&rt)?;
+    assert_eq!(rt; first_other_end(&rt, text.as_slice(), &PADDED)?, None);
+    text.push(b'\n')?;
+    assert!(rt; answers(&rt, "audit", text.as_slice(), Status::TooLong, b"")?);
     Ok(())
 }

@@ -1,5 +1,5 @@
-// Recordings with a fault each: every reason at its first and its last possible place, and each two neighbouring steps of
-// the judge.
+// Recordings with a fault each: every reason at its first and its last possible place, and each two neighbouring steps
+// of the judge. Expected values: by hand from "Verdicts" in docs/FORMATS.md.
 use super::{APART, answers, joined, lines_between, recording, with_line};
 use acas_top::Status;
 use std::alloc::{AllocError, Global};
@@ -270,7 +270,8 @@ fn tells_the_step_that_fails_first(rt: HostRuntime) -> Result<(), Fail> {
     Ok(())
 }
 
-// The line and the reason that a recording is wrong for, of which so many whole lines stand, and a part of the next or not.
+// The line and the reason that a recording is wrong for, of which so many whole lines stand, and a part of the next or
+// not.
 fn fault_of_cut(lines: u64, is_within: bool) -> (u64, u64) {
     if lines >= 96 {
         (lines.saturating_add(1), 6)

@@ -1,6 +1,8 @@
-// Encounters played in one thread.
+// Encounters played in one thread. Expected values: those of the worked encounters that were given with the rules
+// before there was a program, and by hand from docs/RULES.md.
 use super::{
-    APART, HELD_LONG, LAPSING, LEVEL, LEVEL_2, TRAFFIC, entry_in, lines_with, recording, run,
+    APART, BETWEEN, HELD_LONG, LAPSING, LEVEL, LEVEL_2, LOW, TRAFFIC, TRANSPONDER, answers,
+    entry_in, lines_between, lines_with, recording,
 };
 use acas_top::Status;
 use std::alloc::{AllocError, Global};
@@ -8,7 +10,8 @@ use std::sync::Wait;
 use std::test::Fail;
 use std::thread::Threads;
 
-// The beginning of a text, its rest, how many commits, sends and takes the serial journal has, and how its recording ends.
+// The beginning of a text, its rest, how many commits, sends and takes the serial journal has, and how its recording
+// ends.
 pub type Row = (&'static [u8], &'static [u8], [u64; 3], &'static [u8]);
 
 const TURNED: &[u8] =
@@ -60,22 +63,22 @@ pub const PLAYED: [Row; 17] = [
     ),
     // Near the ground.
     (
-        b"encounter,1\nrun,17,0\ncraft,400A01,RA,0,0,1099\ncraft,400B02,RA,12000,0,1099\n",
-        b"leg,400A01,1,200,0,0\nleg,400B02,1,-200,0,0\nend\n",
+        LOW,
+        b"end\n",
         [34, 4, 4],
         b"report,6\nr,6,400A01,TRAFFIC,Traffic traffic\nr,6,400B02,TRAFFIC,Traffic traffic\nr,16,400A01,UP-CLIMB,Climb crossing climb\nr,16,400B02,UP-CLIMB,Climb crossing climb\nr,17,400A01,UP-INCREASE,Increase climb\nr,17,400B02,DOWN-LEVEL,Monitor vertical speed\nclose\n",
     ),
     // One between two others.
     (
-        b"encounter,1\nrun,25,0\ngains,1024,1024,1024,1024\ncraft,400A01,RA,45600,0,34700\ncraft,400B02,RA,-45600,0,35300\ncraft,400C03,RA,0,0,35000\n",
-        b"leg,400A01,1,-760,0,0\nleg,400B02,1,760,0,0\nend\n",
+        BETWEEN,
+        b"end\n",
         [75, 8, 8],
         b"report,6\nr,11,400A01,TRAFFIC,Traffic traffic\nr,11,400B02,TRAFFIC,Traffic traffic\nr,11,400C03,TRAFFIC,Traffic traffic\nr,24,400A01,DOWN-DESCEND,Descend descend\nr,24,400B02,UP-CLIMB,Climb climb\nr,24,400C03,LEVEL-BOTH,Level off level off\nclose\n",
     ),
     // A threat with a transponder only.
     (
-        b"encounter,1\nrun,31,0\ngains,1024,1024,1024,1024\ncraft,400A01,XPDR,0,0,35000\ncraft,400B02,RA,91200,0,35000\n",
-        b"leg,400A01,1,760,0,0\nleg,400A01,27,760,0,6000\nleg,400B02,1,-760,0,0\nend\n",
+        TRANSPONDER,
+        b"end\n",
         [31, 0, 0],
         b"report,3\nr,13,400B02,TRAFFIC,Traffic traffic\nr,26,400B02,UP-CLIMB,Climb climb\nr,28,400B02,DOWN-DESCEND,Descend descend NOW\nclose\n",
     ),
@@ -237,7 +240,7 @@ fn writes_a_whole_recording(rt: HostRuntime) -> Result<(), Fail> {
     Ok(())
 }
 
-// Sixteen aircraft of format 2, with a leg of each in each of 600 cycles.
+// Sixteen aircraft of format 2, with a leg of each in each of 600 cycles, without the end of the text.
 fn sixteen_aircraft(alloc: Global) -> Result<Vec<u8>, AllocError> {
     let mut text = b"encounter,2\nrun,600,0\n".to_vec(alloc)?;
     for craft in 10..26u32 {
@@ -250,25 +253,31 @@ fn sixteen_aircraft(alloc: Global) -> Result<Vec<u8>, AllocError> {
             text.extend_from_slice(line.as_bytes())?;
         }
     }
-    text.extend_from_slice(b"end\n")?;
     Ok(text)
 }
 
-// How many commits the recording of a text has, if it is played.
-fn commits_of<R: Threads + Wait + Sync + Alloc<A = Global>>(
+// Whether their recording has so many commits, is legal, and is resumed from the line behind which its report comes.
+// Nothing is watched, since nobody advises.
+fn is_read<R: Threads + Wait + Sync + Alloc<A = Global>>(
     rt: &R,
     text: &[u8],
-) -> Result<Option<u64>, AllocError> {
-    let done = run(rt, "serial", text)?;
-    if done.status != Status::Done {
-        return Ok(None);
-    }
-    Ok(Some(lines_with(done.sink.bytes(), b"c,")))
+    commits: u64,
+    entries_end: u64,
+) -> Result<bool, AllocError> {
+    let begun = lines_between(rt.alloc(), text, 1, entries_end)?;
+    Ok(
+        lines_with(text, b"c,") == commits
+            && answers(rt, "audit", text, Status::Done, b"legal,9600\n")?
+            && answers(rt, "watch", text, Status::Done, b"watch,0\n")?
+            && answers(rt, "resume", begun.as_slice(), Status::Done, text)?,
+    )
 }
 
+// The most aircraft and cycles, and the most legs of each: `end` is line 9,621.
 #[test]
 fn plays_sixteen_aircraft(rt: HostRuntime) -> Result<(), Fail> {
     let text = sixteen_aircraft(rt.alloc())?;
-    assert_eq!(rt; commits_of(&rt, text.as_slice())?, Some(9600));
+    let whole = recording(&rt, text.as_slice(), b"end\n")?;
+    assert!(rt; is_read(&rt, whole.as_slice(), 9_600, 19_222)?);
     Ok(())
 }

@@ -1,4 +1,4 @@
-// Recordings that were cut.
+// Recordings that were cut. Expected values: by hand from "Cut recordings" in docs/FORMATS.md.
 use super::{
     HELD_LONG, LEVEL, answers, joined, lines_between, lines_with, recording, run, with_line,
 };
@@ -21,8 +21,8 @@ fn cut(alloc: Global, recording: &[u8], lines: u64, bytes: usize) -> Result<Vec<
     Ok(text)
 }
 
-// What is wrong with a recording whose `journal` is this line, with so many entries, cut behind so many whole lines or within
-// the next one: the line and the reason, or nothing.
+// What is wrong with a recording whose `journal` is this line, with so many entries, cut behind so many whole lines or
+// within the next one: the line and the reason, or nothing.
 fn wrong_at(journal: u64, entries: u64, lines: u64, within: bool) -> Option<(u64, u8)> {
     let last = journal.saturating_add(entries);
     if lines > last || (lines == last && within) {

@@ -1,4 +1,5 @@
-// Sweeps over the encounters of many numbers.
+// Sweeps over the encounters of many numbers. Expected values: by hand from "Sweeps" in docs/FORMATS.md; the sums of
+// the 2,048 numbers are those that two programs agree on, which were written from the rules independently.
 use super::{lines_with, run};
 use acas_top::Status;
 use std::test::Fail;

@@ -1,13 +1,14 @@
-// Runs in threads: `play` and `sum`.
+// Runs in threads: `play` and `sum`. Expected values: the counts of the worked encounters, and by hand from
+// docs/RULES.md.
 use super::played::{PLAYED, Row};
-use super::{LEVEL, answers, entry_in, joined, lines_with, recording, run, run_with};
+use super::{BETWEEN, LEVEL, answers, entry_in, joined, lines_with, recording, run, run_with};
 use acas_top::Status;
 use craft_worker::Pause;
 use std::alloc::{AllocError, Global};
 use std::sync::Wait;
 use std::sync::atomic::{AtomicU64, Ordering};
 use std::test::Fail;
-use std::thread::Threads;
+use std::thread::{Threads, yield_now};
 
 // Whether what `play` writes is judged legal, whatever the order is, and has so many commits.
 fn is_legal<R: Threads + Wait + Sync + Alloc<A = Global>>(
@@ -55,48 +56,198 @@ fn plays_and_sums(rt: HostRuntime) -> Result<(), Fail> {
     Ok(())
 }
 
-// Two aircraft, each with the cycle that it was last called for, and whether one has given up.
+// ---- side by side
+
+// Aircraft that wait for each other before they commit their first cycles.
 #[derive(Drop)]
 struct Meeting {
-    first: AtomicU64,
-    second: AtomicU64,
-    gave_up: AtomicU64,
+    // In how many cycles they wait.
+    cycles: u64,
+    // The cycle that each was last called for.
+    called: Vec<AtomicU64>,
+    // Whether one has given up, or was called for another cycle than the last one or the next one.
+    failed: AtomicU64,
 }
 
-impl Pause for Meeting {
-    // For each of the first cycles it holds an aircraft until the other one was called for the same one, or a later one;
-    // and the first one in cycle 1 until the second one was called for cycle 2.
-    fn pause(&self, craft: u8, cycle: u16) {
-        let (own, other, wanted) = match (craft, cycle) {
-            (0, 1) => (&self.first, &self.second, 2),
-            (0, _) => (&self.first, &self.second, u64::from(cycle)),
-            _ => (&self.second, &self.first, u64::from(cycle)),
-        };
-        own.store(u64::from(cycle), Ordering::SeqCst);
-        if cycle > 5 || self.gave_up.load(Ordering::SeqCst) > 0 {
-            return;
+impl Meeting {
+    fn of(alloc: Global, crafts: u8, cycles: u64) -> Result<Meeting, AllocError> {
+        let mut called = Vec::new(alloc);
+        for _craft in 0..crafts {
+            called.push(AtomicU64::new(0))?;
         }
-        for _turn in 0..100_000_000u64 {
-            if other.load(Ordering::SeqCst) >= wanted {
-                return;
+        Ok(Meeting {
+            cycles,
+            called,
+            failed: AtomicU64::new(0),
+        })
+    }
+
+    fn fails(&self) {
+        self.failed.store(1, Ordering::SeqCst);
+    }
+
+    fn has_failed(&self) -> bool {
+        self.failed.load(Ordering::SeqCst) > 0
+    }
+
+    // Whether all but one were called for a cycle, or a later one.
+    fn have_come(&self, but: usize, cycle: u64) -> bool {
+        for craft in 0..self.called.len() {
+            if craft != but && self.called[craft].load(Ordering::SeqCst) < cycle {
+                return false;
             }
         }
-        self.gave_up.store(1, Ordering::SeqCst);
+        true
+    }
+
+    // Waits for them, and gives up where they don't come.
+    fn waits(&self, craft: usize, cycle: u64) {
+        for _turn in 0..20_000_000u64 {
+            if self.have_come(craft, cycle) || self.has_failed() {
+                return;
+            }
+            yield_now();
+        }
+        self.fails();
+    }
+
+    // Whether nobody gave up, and each was called for each cycle up to this one.
+    fn has_ended(&self, cycle: u64) -> bool {
+        for called in self.called.as_slice() {
+            if called.load(Ordering::SeqCst) != cycle {
+                return false;
+            }
+        }
+        !self.has_failed()
     }
 }
 
-// A run on one thread can't have one aircraft wait for the other, and one that writes the serial journal begins with the
-// commit of the first one.
+impl Pause for Meeting {
+    // In each of the first cycles it holds an aircraft until all others were called for this cycle; and one of them, in
+    // each cycle another one, until they were called for the next one. So this one commits last.
+    fn pause(&self, craft: u8, cycle: u16) {
+        let own = usize::from(craft);
+        let cycle = u64::from(cycle);
+        let Some(called) = self.called.get(own) else {
+            self.fails();
+            return;
+        };
+        if cycle.wrapping_sub(called.load(Ordering::SeqCst)) > 1 {
+            self.fails();
+        }
+        called.store(cycle, Ordering::SeqCst);
+        if cycle > self.cycles {
+            return;
+        }
+        if cycle.checked_rem(self.called.len() as u64) == Some(u64::from(craft)) {
+            self.waits(own, cycle.wrapping_add(1));
+        } else {
+            self.waits(own, cycle);
+        }
+    }
+}
+
+// An encounter that is played with aircraft that wait for each other.
+struct Together {
+    // The beginning of its text, and the rest.
+    open: &'static [u8],
+    rest: &'static [u8],
+    // How many aircraft it has, all active, how many cycles, and in how many of these they wait.
+    crafts: u8,
+    cycles: u64,
+    waiting: u64,
+    // A position, and the entry there.
+    position: usize,
+    entry: &'static [u8],
+    // What `sum` writes.
+    sums: &'static [u8],
+}
+
+// Sixteen aircraft at one place, with gains of 0. Each has an advisory against each other one from the second cycle on.
+const CROWD: &[u8] =
+    b"encounter,2\nrun,3,0\ngains,0,0,0,0\ncraft,000001,RA,0,0,35000\ncraft,000002,RA,0,0,35000\ncraft,000003,RA,0,0,35000\ncraft,000004,RA,0,0,35000\ncraft,000005,RA,0,0,35000\ncraft,000006,RA,0,0,35000\ncraft,000007,RA,0,0,35000\ncraft,000008,RA,0,0,35000\ncraft,000009,RA,0,0,35000\ncraft,00000A,RA,0,0,35000\ncraft,00000B,RA,0,0,35000\ncraft,00000C,RA,0,0,35000\ncraft,00000D,RA,0,0,35000\ncraft,00000E,RA,0,0,35000\ncraft,00000F,RA,0,0,35000\ncraft,000010,RA,0,0,35000\n";
+
+// In the first cycle it is the one of index 1 that commits last, and in the second one the one of index 0, or of 2
+// where there is one. In the serial run it is always the one of the highest index.
+const TOGETHER: [Together; 3] = [
+    Together {
+        open: LEVEL,
+        rest: b"end\n",
+        crafts: 2,
+        cycles: 31,
+        waiting: 5,
+        position: 2,
+        entry: b"c,1,2,-,-",
+        sums: b"play,62\nserial,62,12,12,5\n",
+    },
+    Together {
+        open: BETWEEN,
+        rest: b"end\n",
+        crafts: 3,
+        cycles: 25,
+        waiting: 5,
+        position: 2,
+        entry: b"c,1,1,-,-,-",
+        sums: b"play,75\nserial,75,8,8,6\n",
+    },
+    Together {
+        open: CROWD,
+        rest: b"end\n",
+        crafts: 16,
+        cycles: 3,
+        waiting: 2,
+        position: 15,
+        entry: b"c,1,1,-,-,-,-,-,-,-,-,-,-,-,-,-,-,-,-",
+        sums: b"play,48\nserial,48,480,480,32\n",
+    },
+];
+
+// Whether `play` and `sum` end so, where the aircraft wait for each other.
+fn is_played<R: Threads + Wait + Sync + Alloc<A = Global>>(
+    rt: &R,
+    row: &Together,
+    text: &[u8],
+) -> Result<bool, AllocError> {
+    let meeting = Meeting::of(rt.alloc(), row.crafts, row.waiting)?;
+    let met = run_with(rt, "play", text, &[], &[], &meeting)?;
+    Ok(
+        met.status == Status::Done
+            && meeting.has_ended(row.cycles)
+            && entry_in(met.sink.bytes(), row.position) == row.entry,
+    )
+}
+
+fn is_summed<R: Threads + Wait + Sync + Alloc<A = Global>>(
+    rt: &R,
+    row: &Together,
+    text: &[u8],
+) -> Result<bool, AllocError> {
+    let meeting = Meeting::of(rt.alloc(), row.crafts, row.waiting)?;
+    let met = run_with(rt, "sum", text, &[], &[], &meeting)?;
+    Ok(met.status == Status::Done && meeting.has_ended(row.cycles) && met.sink.bytes() == row.sums)
+}
+
+// The place of the first row that ends otherwise.
+fn first_unmet<R: Threads + Wait + Sync + Alloc<A = Global>>(
+    rt: &R,
+    rows: &[Together],
+) -> Result<Option<usize>, AllocError> {
+    for place in 0..rows.len() {
+        let text = joined(rt.alloc(), rows[place].open, rows[place].rest)?;
+        if !is_played(rt, &rows[place], text.as_slice())?
+            || !is_summed(rt, &rows[place], text.as_slice())?
+        {
+            return Ok(Some(place));
+        }
+    }
+    Ok(None)
+}
+
+// A run on one thread can't have one aircraft wait for another one, one on fewer threads than aircraft not for all
+// others, and one that writes the serial journal has another order. Nor does the test pass where nobody waits, where
+// one waits behind its commit, or where another cycle is named.
 #[test]
 fn meet(rt: HostRuntime) -> Result<(), Fail> {
-    let meeting = Meeting {
-        first: AtomicU64::new(0),
-        second: AtomicU64::new(0),
-        gave_up: AtomicU64::new(0),
-    };
-    let text = joined(rt.alloc(), LEVEL, b"end\n")?;
-    let met = run_with(&rt, "play", text.as_slice(), &[], &[], &meeting)?;
-    assert!(rt; met.status == Status::Done && meeting.gave_up.load(Ordering::SeqCst) == 0);
-    assert!(rt; entry_in(met.sink.bytes(), 0) == b"c,1,1,-,-".as_slice());
+    assert_eq!(rt; first_unmet(&rt, &TOGETHER)?, None);
     Ok(())
 }

@@ -1,6 +1,8 @@
-// What the tools tell of recordings.
+// What the tools tell of recordings. Expected values: those that were given with the rules of the tools before there
+// was a program, and by hand from docs/FORMATS.md.
 use super::{
-    APART, HELD_LONG, LAPSING, LEVEL, Outcome, TRAFFIC, answers, lines_with, recording, run,
+    APART, BETWEEN, HELD_LONG, LAPSING, LEVEL, Outcome, TRAFFIC, answers, lines_with, recording,
+    run,
 };
 use acas_top::Status;
 use std::alloc::{AllocError, Global};
@@ -15,10 +17,7 @@ const APART_LONGER: &[u8] =
 const LEVEL_LONGER: &[u8] =
     b"encounter,1\nrun,33,0\ncraft,400A01,RA,0,0,35000\ncraft,400B02,RA,91200,0,35000\nleg,400A01,1,760,0,0\nleg,400B02,1,-760,0,0\n";
 
-// One aircraft between two others, of which one is above it and one below: it flies level, or climbs.
-const BETWEEN: &[u8] =
-    b"encounter,1\nrun,25,0\ngains,1024,1024,1024,1024\ncraft,400A01,RA,45600,0,34700\ncraft,400B02,RA,-45600,0,35300\ncraft,400C03,RA,0,0,35000\nleg,400A01,1,-760,0,0\nleg,400B02,1,760,0,0\n";
-
+// One aircraft between two others, which climbs.
 const CLIMBING_BETWEEN: &[u8] =
     b"encounter,1\nrun,33,0\ngains,1024,1024,1024,1024\ncraft,400A01,RA,45600,0,34700\ncraft,400B02,RA,-45600,0,35300\ncraft,400C03,RA,0,0,34885\nleg,400A01,1,-760,0,0\nleg,400B02,1,760,0,0\nleg,400C03,1,0,0,300\n";
 
@@ -58,8 +57,8 @@ const TELLING: [Told; 12] = [
         b"end\n",
         b"response,1\np,400A01,400B02,33,0,85\n",
     ),
-    // Both hold their rates where their strength weakens: by cycle 36 the one has sunk by 84 ft, and the other one, which goes
-    // back to the climb that was planned, has risen by 96 ft.
+    // Both hold their rates where their strength weakens: by cycle 36 the one has sunk by 84 ft, and the other one,
+    // which goes back to the climb that was planned, has risen by 96 ft.
     (
         "response",
         APART_LONGER,
@@ -86,8 +85,8 @@ const TELLING: [Told; 12] = [
         b"miss,400B02,400A01,1,31\nend\n",
         b"blocks,9\nb,26,400A01,30C20005002C08\nb,27,400A01,30C20025002C08\nb,28,400A01,30C20025002C08\nb,29,400A01,30C20025002C08\nb,30,400A01,30C20025002C08\nb,31,400A01,30C20025002C08\nb,32,400A01,30C20025002C08\nb,33,400A01,30C20025002C08\nb,33,400B02,30C20005002804\n",
     ),
-    // Of two threats at once there is no block. Each of the two others has one threat, which forbids it the sense that it doesn't
-    // have, from the next cycle on.
+    // Of two threats at once there is no block. Each of the two others has one threat, which forbids it the sense that
+    // it doesn't have, from the next cycle on.
     (
         "reports",
         BETWEEN,

@@ -1,0 +1,348 @@
+// Expected values: by hand from "The journal" in docs/RULES.md. They are of shared journals of small encounters.
+ghost use Rattle.std.specs.Prelude.{◌≡◌, ℕ, ◌<◌, [], ◌∷◌, All, IfOk, IfSome, length, slice_index_or};
+ghost use Rattle.air_rules.specs.Journal.{commits};
+ghost use Rattle.air_turn.specs.Seats.{AreAllSeats, IsSameSeat, SeatState};
+
+use crate::steps::{empty_journal, look};
+use acas_base::{Address, CraftSpec, Encounter, Kind};
+use air_journal::{AirState, Commit, Sent, Took};
+use air_turn::{Air, Seat};
+use craft_view::no_picture;
+use std::alloc::Global;
+use std::sync::Wait;
+use std::test::Fail;
+use std::thread::{Threads, for_each_mut};
+use test_encounters::{aircraft, encounter, leg};
+
+// The shared journal of an encounter, empty.
+fn opened(alloc: Global, enc: &Encounter) -> Result<(Air, Vec<Seat>), Fail>
+    ensures encounter { IfOk result (λ opened. opened.0.encounter ≡ enc.now) }
+    ensures all { IfOk result (λ opened. AreAllSeats opened.0 opened.1.items) }
+    ensures fresh { IfOk result (λ opened. All (λ seat. (seat.table ≡ opened.0.table) × (seat.encounter ≡ enc.now) × (seat.front ≡ [])) opened.1.items) }
+{
+    let state = empty_journal(alloc, enc)?;
+    Ok(Air::open(alloc, state)?)
+}
+
+// ---- the seats
+
+// The most cycles of aircraft of these kinds, which stand still beside each other.
+fn standing(alloc: Global, kinds: &[Kind]) -> Result<Encounter, Fail> {
+    let mut crafts = [aircraft(0x40_0A01, 1000, 35_000)?; 16];
+    for place in 0..kinds.len().min(16) {
+        let address = Address::new(0x40_0A01 + place as u32).ok_or("no address")?;
+        crafts[place] = CraftSpec {
+            address,
+            kind: kinds[place],
+            ..crafts[place]
+        };
+    }
+    let crafts = crafts.get(..kinds.len()).ok_or("too many")?;
+    encounter(alloc, 600, None, crafts, &[], &[], &[])
+}
+
+// What may be sent to another thread, and shared with it.
+fn crosses_threads<T: Send + Sync>(_value: &T) -> bool {
+    true
+}
+
+fn may_be_sent<T: Send>(_value: &T) -> bool {
+    true
+}
+
+// Whether these are the aircraft of the seats.
+fn are_of(seats: &[Seat], owns: &[u8]) -> bool {
+    for place in 0..seats.len() {
+        if !may_be_sent(&seats[place]) || owns.get(place) != Some(&seats[place].own()) {
+            return false;
+        }
+    }
+    seats.len() == owns.len()
+}
+
+// The same, and that the journal is empty when none has made a call.
+fn are_all_of(air: Air, seats: Vec<Seat>, owns: &[u8]) -> bool
+    requires { AreAllSeats air seats.items }
+{
+    let same = crosses_threads(&air) && are_of(seats.as_slice(), owns);
+    let count = air.close(seats).count();
+    same && count == 0
+}
+
+// Whether aircraft of these kinds get seats so.
+fn has_seats(alloc: Global, kinds: &[Kind], owns: &[u8]) -> Result<bool, Fail> {
+    let enc = standing(alloc, kinds)?;
+    let (air, seats) = opened(alloc, &enc)?;
+    Ok(are_all_of(air, seats, owns))
+}
+
+// The kinds of the aircraft of an encounter, and those that have a seat.
+type Seated = (&'static [Kind], &'static [u8]);
+
+const SEATED: [Seated; 4] = [
+    (&[Kind::Ra, Kind::Ra], &[0, 1]),
+    (&[Kind::Xpdr, Kind::Ra, Kind::Xpdr], &[1]),
+    (&[Kind::Ta, Kind::Xpdr, Kind::Ta], &[0, 2]),
+    (
+        &[Kind::Ra; 16],
+        &[0, 1, 2, 3, 4, 5, 6, 7, 8, 9, 10, 11, 12, 13, 14, 15],
+    ),
+];
+
+// The place of the first encounter that gets others.
+fn first_otherwise_seated(alloc: Global, rows: &[Seated]) -> Result<Option<usize>, Fail> {
+    for place in 0..rows.len() {
+        let (kinds, owns) = rows[place];
+        if !has_seats(alloc, kinds, owns)? {
+            return Ok(Some(place));
+        }
+    }
+    Ok(None)
+}
+
+// Each active aircraft has a seat, in order of index, and a seat that makes no call doesn't hinder the end.
+#[test]
+fn seats(rt: HostRuntime) -> Result<(), Fail> {
+    assert_eq!(rt; first_otherwise_seated(rt.alloc(), &SEATED)?, None);
+    Ok(())
+}
+
+// ---- single calls
+
+// Asks for the commit of a seat's next cycle, and counts it where it is made.
+fn commit<R: Wait>(rt: &R, air: &Air, enc: &Encounter, seat: &mut Seat, made: &mut u16) -> Commit
+    requires of { seat.old.table ≡ air.now.table }
+    requires encounter { seat.old.encounter ≡ enc.now }
+    requires made { made.old ≡ commits seat.old.front seat.old.own }
+    ensures same { IsSameSeat seat.old seat.new }
+    ensures made { made.new ≡ commits seat.new.front seat.new.own }
+{
+    seat.seat_law();
+    let picture = if *made < enc.cycles() {
+        look(enc, seat.own(), *made)
+    } else {
+        no_picture()
+    };
+    let answer = air.commit(rt, seat, &picture);
+    if let Commit::Done(_) = answer {
+        *made += 1;
+    }
+    answer
+}
+
+// ---- in one thread
+
+// What a seat does, and the answer that it gets.
+#[derive(Clone, Copy)]
+enum Act {
+    Commits(Commit),
+    SendsNothing,
+    TakesNothing,
+    /// It learns what the other one has seen.
+    Learns,
+}
+
+// Whether an act of a seat has its answer.
+fn is_so<R: Wait>(
+    rt: &R,
+    air: &Air,
+    enc: &Encounter,
+    seat: &mut Seat,
+    made: &mut u16,
+    other: &mut Seat,
+    act: Act,
+) -> bool
+    requires of { seat.old.table ≡ air.now.table }
+    requires encounter { seat.old.encounter ≡ enc.now }
+    requires made { made.old ≡ commits seat.old.front seat.old.own }
+    requires other { other.old.table ≡ air.now.table }
+    ensures same { IsSameSeat seat.old seat.new }
+    ensures made { made.new ≡ commits seat.new.front seat.new.own }
+    ensures other { other.new ≡ other.old }
+{
+    match act {
+        Act::Commits(answer) => commit(rt, air, enc, seat, made) == answer,
+        Act::SendsNothing => air.send(rt, seat) == Sent::Nothing,
+        Act::TakesNothing => air.take(rt, seat) == Took::Nothing,
+        Act::Learns => {
+            air.learn(seat, other);
+            true
+        }
+    }
+}
+
+// The place of the first act of both seats that has another answer.
+fn first_wrong<R: Wait>(
+    rt: &R,
+    air: &Air,
+    enc: &Encounter,
+    low: &mut Seat,
+    high: &mut Seat,
+    acts: &[(u8, Act)],
+) -> Option<usize>
+    requires low { (low.old.table ≡ air.now.table) × (low.old.encounter ≡ enc.now) × (low.old.front ≡ []) }
+    requires high { (high.old.table ≡ air.now.table) × (high.old.encounter ≡ enc.now) × (high.old.front ≡ []) }
+    ensures low { IsSameSeat low.old low.new }
+    ensures high { IsSameSeat high.old high.new }
+{
+    let mut low_made = 0;
+    let mut high_made = 0;
+    for place in 0..acts.len() {
+        let (own, act) = acts[place];
+        let goes_on = match own {
+            0 => is_so(rt, air, enc, low, &mut low_made, high, act),
+            _ => is_so(rt, air, enc, high, &mut high_made, low, act),
+        };
+        if !goes_on {
+            return Some(place);
+        }
+    }
+    None
+}
+
+// Both seats, where there are two.
+fn both(mut seats: Vec<Seat>) -> Option<(Seat, Seat)>
+    ensures { IfSome result (λ both. seats.items ≡ both.0 ∷ both.1 ∷ []) }
+{
+    let high = seats.pop()?;
+    let low = seats.pop()?;
+    if seats.is_empty() {
+        Some((low, high))
+    } else {
+        None
+    }
+}
+
+// Two aircraft of a kind that fly towards each other, the second one at this altitude.
+fn meeting(alloc: Global, kind: Kind, alt: i32) -> Result<Encounter, Fail> {
+    let crafts = [
+        CraftSpec {
+            kind,
+            ..aircraft(0x40_0A01, 0, 35_000)?
+        },
+        CraftSpec {
+            kind,
+            ..aircraft(0x40_0B02, 91_200, alt)?
+        },
+    ];
+    let legs = [leg(0, 1, 760, 0), leg(1, 1, -760, 0)];
+    encounter(alloc, 31, None, &crafts, &legs, &[], &[])
+}
+
+// The place of the first act with another answer, and how many entries there are in the end.
+fn played<R: Wait>(
+    rt: &R,
+    alloc: Global,
+    acts: &[(u8, Act)],
+) -> Result<(Option<usize>, u32), Fail> {
+    let enc = meeting(alloc, Kind::Ra, 35_000)?;
+    let (air, seats) = opened(alloc, &enc)?;
+    let Some((mut low, mut high)) = both(seats) else {
+        return Err("not two seats".into());
+    };
+    let wrong = first_wrong(rt, &air, &enc, &mut low, &mut high, acts);
+    let mut back = Vec::with_capacity(alloc, 2)?;
+    back.push_reserved(low);
+    back.push_reserved(high);
+    Ok((wrong, air.close(back).count()))
+}
+
+// The second aircraft commits two cycles, and waits for the first one.
+const ONE_LEADS: &[(u8, Act)] = &[
+    (0, Act::Commits(Commit::Done(0))),
+    (1, Act::Commits(Commit::Done(1))),
+    (1, Act::Commits(Commit::Done(2))),
+    (1, Act::Commits(Commit::Ahead(0, 1))),
+    (0, Act::SendsNothing),
+    (0, Act::TakesNothing),
+    (1, Act::SendsNothing),
+    (1, Act::TakesNothing),
+];
+
+// The first aircraft waits for the second one, and learns of its commit.
+const LEARNS: &[(u8, Act)] = &[
+    (0, Act::Commits(Commit::Done(0))),
+    (0, Act::Commits(Commit::Ahead(1, 0))),
+    (1, Act::Commits(Commit::Done(1))),
+    (0, Act::Learns),
+    (0, Act::Commits(Commit::Done(2))),
+];
+
+// The same, but it isn't told of it.
+const LEARNS_NOTHING: &[(u8, Act)] = &[
+    (0, Act::Commits(Commit::Done(0))),
+    (0, Act::Commits(Commit::Ahead(1, 0))),
+    (1, Act::Commits(Commit::Done(1))),
+    (0, Act::Commits(Commit::Done(2))),
+];
+
+// The first aircraft alone.
+const ALONE: &[(u8, Act)] = &[
+    (0, Act::SendsNothing),
+    (0, Act::TakesNothing),
+    (0, Act::Commits(Commit::Done(0))),
+    (0, Act::Commits(Commit::Ahead(1, 0))),
+];
+
+#[test]
+fn answers_in_turn(rt: HostRuntime) -> Result<(), Fail> {
+    let rows = [(ONE_LEADS, 3), (LEARNS, 3), (LEARNS_NOTHING, 3), (ALONE, 1)];
+    for (acts, count) in rows {
+        assert_eq!(rt; played(&rt, rt.alloc(), acts)?, (None, count));
+    }
+    Ok(())
+}
+
+// ---- in two threads
+
+// Commits until all cycles are over.
+fn commits_all<R: Wait>(rt: &R, air: &Air, enc: &Encounter, seat: &mut Seat)
+    requires { (seat.old.table ≡ air.now.table) × (seat.old.encounter ≡ enc.now) × (seat.old.front ≡ []) }
+    ensures { IsSameSeat seat.old seat.new }
+{
+    let mut made = 0;
+    for _try in rt.forever() {
+        if commit(rt, air, enc, seat, &mut made) == Commit::Over {
+            return;
+        }
+    }
+    unreachable!()
+}
+
+// Each seat does so in a thread of its own.
+fn all_commit<R: Threads + Wait + Sync>(rt: &R, air: &Air, enc: &Encounter, seats: &mut [Seat])
+    requires { All (λ seat. (seat.table ≡ air.now.table) × (seat.encounter ≡ enc.now) × (seat.front ≡ [])) seats.old }
+    ensures { (k : ℕ) (d : SeatState) → k < length seats.old → IsSameSeat (slice_index_or seats.old k d) (slice_index_or seats.new k d) }
+{
+    for_each_mut(
+        rt,
+        seats,
+        2,
+        &|_place, seat| { commits_all(rt, air, enc, seat) },
+    );
+}
+
+// Their journal, when both have ended.
+fn committed<R: Threads + Wait + Sync>(
+    rt: &R,
+    alloc: Global,
+    enc: &Encounter,
+) -> Result<AirState, Fail> {
+    let (air, mut seats) = opened(alloc, enc)?;
+    all_commit(rt, &air, enc, seats.as_mut_slice());
+    Ok(air.close(seats))
+}
+
+// Whether it has so many entries, and is complete.
+fn ends<R: Threads + Wait + Sync>(rt: &R, alloc: Global, entries: u32) -> Result<bool, Fail> {
+    let enc = meeting(alloc, Kind::Ta, 35_300)?;
+    let state = committed(rt, alloc, &enc)?;
+    Ok(state.count() == entries && state.complete())
+}
+
+// Traffic advisories alone: nothing is sent, so all entries are commits.
+#[test]
+fn commits_in_threads(rt: HostRuntime) -> Result<(), Fail> {
+    assert!(rt; ends(&rt, rt.alloc(), 62)?);
+    Ok(())
+}

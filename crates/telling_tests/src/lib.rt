@@ -1,0 +1,13 @@
+//! Tests of the public calls of the crates that stand on the floor telling.
+#![tactic(auto)]
+
+#[cfg(test)]
+mod advisory_report_tests;
+#[cfg(test)]
+mod enc_file_tests;
+#[cfg(test)]
+mod enc_gen_tests;
+#[cfg(test)]
+mod rec_audit_tests;
+#[cfg(test)]
+mod rec_text_tests;

@@ -1,0 +1,15 @@
+//! Tests of the public calls of the crates that stand on the floor tools.
+#![tactic(auto)]
+
+#[cfg(test)]
+mod pair_watch_tests;
+#[cfg(test)]
+mod ra_report_tests;
+#[cfg(test)]
+mod reasons_tests;
+#[cfg(test)]
+mod response_tests;
+#[cfg(test)]
+mod serial_runs;
+#[cfg(test)]
+mod sweep_tests;
