@@ -72,6 +72,9 @@ impl Strength {
     }
 }
 
+/// A complement that isn't renewed lapses after so many commits of its taker (this project's profile).
+pub const LAPSE: u16 = 6;
+
 /// The vertical resolution advisory complement: none, "do not pass below", which forbids the sense
 /// down, or "do not pass above", which forbids up (ICAO Annex 10 vol. IV, 4.3).
 #[derive(Clone, Copy, Debug, PartialEq, Eq)]
@@ -82,7 +85,7 @@ pub enum Vrc {
 }
 
 impl Vrc {
-    ghost use Rattle.acas_base.specs.Complements.{forbids};
+    ghost use Rattle.acas_base.specs.Complements.{forbids, in_force};
 
     /// Whether it forbids this sense to its receiver.
     pub fn forbids(self, sense: Sense) -> bool
@@ -92,6 +95,18 @@ impl Vrc {
             Vrc::Nil => false,
             Vrc::NotBelow => sense == Sense::Down,
             Vrc::NotAbove => sense == Sense::Up,
+        }
+    }
+
+    /// What is in force of it where its taker had made `taken` commits at the take and has made `made` by now: the
+    /// complement itself, until it lapses, and then none.
+    pub fn in_force(self, taken: u16, made: u16) -> Vrc
+        ensures { result ≡ in_force self taken made }
+    {
+        if u32::from(made) < u32::from(taken) + u32::from(LAPSE) {
+            self
+        } else {
+            Vrc::Nil
         }
     }
 }

@@ -15,20 +15,12 @@ use crate::tables::Tables;
 use acas_base::{CRAFTS, Cell, Cells, Encounter, Picture, View, Vrc};
 use coord_core::next_cell;
 
-// A complement binds its taker for so many commits.
-const LAPSE: u16 = 6;
-
 // The complement in force after so many commits.
-fn in_force(complement: Option<Complement>, made: u16) -> Vrc
-    requires { made ≤ 600 }
+fn kept_in_force(complement: Option<Complement>, made: u16) -> Vrc
     ensures { result ≡ kept_in_force complement made }
 {
     match complement {
-        Some(taken) => if u32::from(made) < u32::from(taken.commits) + u32::from(LAPSE) {
-            taken.vrc
-        } else {
-            Vrc::Nil
-        },
+        Some(taken) => taken.vrc.in_force(taken.commits, made),
         None => Vrc::Nil,
     }
 }
@@ -52,7 +44,7 @@ fn next_for(encounter: &Encounter, tables: &Tables, own: u8, target: u8, view: &
     next_cell(
         &link.cell,
         view,
-        in_force(link.complement, tables.made(own).commits),
+        kept_in_force(link.complement, tables.made(own).commits),
         rank(encounter, own, target),
     )
 }
