@@ -141,6 +141,41 @@ pub enum Cell {
     Ra(Intent),
 }
 
+impl Cell {
+    ghost use Rattle.acas_base.specs.Messages.{has_advisory};
+    ghost use Rattle.acas_base.specs.Senses.{has_sense, sense_of};
+
+    /// Whether it is a resolution advisory.
+    pub fn has_advisory(self) -> bool
+        ensures { result ≡ has_advisory self }
+    {
+        match self {
+            Cell::Clear | Cell::Traffic => false,
+            Cell::Ra(_) => true,
+        }
+    }
+
+    /// The sense of its resolution advisory; none where it is no such advisory.
+    pub fn sense(self) -> Option<Sense>
+        ensures { result ≡ sense_of self }
+    {
+        match self {
+            Cell::Clear | Cell::Traffic => None,
+            Cell::Ra(intent) => Some(intent.sense),
+        }
+    }
+
+    /// Whether it is a resolution advisory of this sense.
+    pub fn has_sense(self, sense: Sense) -> bool
+        ensures { result ≡ has_sense self sense }
+    {
+        match self {
+            Cell::Clear | Cell::Traffic => false,
+            Cell::Ra(intent) => intent.sense == sense,
+        }
+    }
+}
+
 /// What an aircraft advises in a cycle, by index of the other aircraft. Its own place and the places
 /// past the last aircraft are Clear.
 #[derive(Clone, Copy, Debug, PartialEq, Eq)]

@@ -1,6 +1,6 @@
 // The cells of the next commit, by what is kept.
 ghost use Rattle.std.specs.Prelude.{◌≡◌, ℕ, ◌+◌, ◌<◌, ◌≤◌, length};
-ghost use Rattle.acas_base.specs.Messages.{has_advisory, has_many};
+ghost use Rattle.acas_base.specs.Messages.{has_many};
 ghost use Rattle.acas_base.specs.declared.TheConstants.{CRAFTS};
 ghost use Rattle.acas_base.specs.declared.advisory.Cell.TheVariants as cell_kinds;
 ghost use Rattle.acas_base.specs.declared.advisory.Intent.{Intent};
@@ -79,14 +79,5 @@ pub(crate) fn next_cells(
 pub(crate) fn has_many(cells: &Cells) -> bool
     ensures { result ≡ has_many cells.now }
 {
-    cells.list.iter().filter(|cell| has_advisory(cell)).count() >= 2
-}
-
-fn has_advisory(cell: &Cell) -> bool
-    ensures { result ≡ has_advisory cell.now }
-{
-    match cell {
-        Cell::Ra(_) => true,
-        Cell::Clear | Cell::Traffic => false,
-    }
+    cells.list.iter().filter(|cell| cell.has_advisory()).count() >= 2
 }
