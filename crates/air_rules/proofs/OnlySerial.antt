@@ -72,11 +72,11 @@ take-once : (air : Air) (K : List Entry) (i p c k q d : ℕ) (good fine : Bool) 
 take-once air K i p c k q d good fine one two =
     let own : i ≡ k = neither i k (λ h. due-then air K i p c good one.allowed (two.first i h one.allowed.active p c)) (λ h. due-then air K k q d fine two.allowed (one.first k h two.allowed.active q d)) in
     let send : p ≡ q = neither p q
-    (λ h. due-then air K i p c good one.allowed (subst (λ (x : ℕ). is_due air K x p c ≡ false) (sym own) (two.first_send p h c)))
-    (λ h. due-then air K k q d fine two.allowed (subst (λ (x : ℕ). is_due air K x q d ≡ false) own (one.first_send q h d))) in
+    (λ h. due-then air K i p c good one.allowed (subst (λ (x : ℕ). is_due air K x p c ≡ false) (sym own) (two.first_due.first_send p h c)))
+    (λ h. due-then air K k q d fine two.allowed (subst (λ (x : ℕ). is_due air K x q d ≡ false) own (one.first_due.first_send q h d))) in
     let copy : c ≡ d = neither c d
-    (λ h. due-then air K i p c good one.allowed (ap₂ (λ (x y : ℕ). is_due air K x y c) own send ∙ two.first_copy c h))
-    (λ h. due-then air K k q d fine two.allowed (ap₂ (λ (x y : ℕ). is_due air K x y d) (sym own) (sym send) ∙ one.first_copy d h)) in
+    (λ h. due-then air K i p c good one.allowed (ap₂ (λ (x y : ℕ). is_due air K x y c) own send ∙ two.first_due.first_copy c h))
+    (λ h. due-then air K k q d fine two.allowed (ap₂ (λ (x y : ℕ). is_due air K x y d) (sym own) (sym send) ∙ one.first_due.first_copy d h)) in
     let is : good ≡ fine = one.allowed.good_is ∙ ap₂ (λ (x y : ℕ). is_some (read_copy air (sent_at K x) y)) send copy ∙ sym two.allowed.good_is in
     λ t. Take (own t) (send t) (copy t) (is t)
 
