@@ -1,6 +1,7 @@
 -- Resolution advisory complements: what an aircraft asks of a threat (ICAO Annex 10 vol. IV, 4.3).
-use Rattle.std.specs.Prelude.{Bool, false, Option, Some, None}
+use Rattle.std.specs.Prelude.{ℕ, ◌+◌, Bool, false, if◌then◌else◌, nat_lt, Option, Some, None}
 use Rattle.acas_base.specs.Senses.{is_same_sense}
+use Rattle.acas_base.specs.declared.advisory.TheConstants.{LAPSE}
 use Rattle.acas_base.specs.declared.advisory.Sense.{Sense}
 use Rattle.acas_base.specs.declared.advisory.Sense.TheVariants.{Up, Down}
 use Rattle.acas_base.specs.declared.advisory.Vrc.{Vrc}
@@ -21,6 +22,11 @@ forbids NotAbove sense = is_same_sense sense Up
 abbrev pub complement_of : Sense → Vrc
 complement_of Up = NotAbove
 complement_of Down = NotBelow
+
+-- A complement that isn't renewed lapses: it is in force only while its taker has made fewer than LAPSE commits since the
+-- take. `taken` is how many commits the taker had made at the take, `made` how many it has made now.
+abbrev pub in_force : Vrc → ℕ → ℕ → Vrc
+in_force complement taken made = if nat_lt made (taken + LAPSE) then complement else Nil
 
 -- The complement that a message cancels where it sets the second one after the first: the first, where both are set and
 -- differ.

@@ -72,6 +72,9 @@ impl Strength {
     }
 }
 
+/// A complement that isn't renewed lapses after so many commits of its taker (this project's profile).
+pub const LAPSE: u16 = 6;
+
 /// The vertical resolution advisory complement: none, "do not pass below", which forbids the sense
 /// down, or "do not pass above", which forbids up (ICAO Annex 10 vol. IV, 4.3).
 #[derive(Clone, Copy, Debug, PartialEq, Eq)]
@@ -82,7 +85,7 @@ pub enum Vrc {
 }
 
 impl Vrc {
-    ghost use Rattle.acas_base.specs.Complements.{forbids};
+    ghost use Rattle.acas_base.specs.Complements.{forbids, in_force};
 
     /// Whether it forbids this sense to its receiver.
     pub fn forbids(self, sense: Sense) -> bool
@@ -92,6 +95,18 @@ impl Vrc {
             Vrc::Nil => false,
             Vrc::NotBelow => sense == Sense::Down,
             Vrc::NotAbove => sense == Sense::Up,
+        }
+    }
+
+    /// What is in force of it where its taker had made `taken` commits at the take and has made `made` by now: the
+    /// complement itself, until it lapses, and then none.
+    pub fn in_force(self, taken: u16, made: u16) -> Vrc
+        ensures { result ≡ in_force self taken made }
+    {
+        if u32::from(made) < u32::from(taken) + u32::from(LAPSE) {
+            self
+        } else {
+            Vrc::Nil
         }
     }
 }
@@ -124,6 +139,41 @@ pub enum Cell {
     Clear,
     Traffic,
     Ra(Intent),
+}
+
+impl Cell {
+    ghost use Rattle.acas_base.specs.Messages.{has_advisory};
+    ghost use Rattle.acas_base.specs.Senses.{has_sense, sense_of};
+
+    /// Whether it is a resolution advisory.
+    pub fn has_advisory(self) -> bool
+        ensures { result ≡ has_advisory self }
+    {
+        match self {
+            Cell::Clear | Cell::Traffic => false,
+            Cell::Ra(_) => true,
+        }
+    }
+
+    /// The sense of its resolution advisory; none where it is no such advisory.
+    pub fn sense(self) -> Option<Sense>
+        ensures { result ≡ sense_of self }
+    {
+        match self {
+            Cell::Clear | Cell::Traffic => None,
+            Cell::Ra(intent) => Some(intent.sense),
+        }
+    }
+
+    /// Whether it is a resolution advisory of this sense.
+    pub fn has_sense(self, sense: Sense) -> bool
+        ensures { result ≡ has_sense self sense }
+    {
+        match self {
+            Cell::Clear | Cell::Traffic => false,
+            Cell::Ra(intent) => intent.sense == sense,
+        }
+    }
 }
 
 /// What an aircraft advises in a cycle, by index of the other aircraft. Its own place and the places

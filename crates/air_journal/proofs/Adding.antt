@@ -28,6 +28,7 @@ use Rattle.air_journal.specs.Written.{Written}
 use Rattle.air_journal.specs.declared.due.Found.{Found}
 use Rattle.air_journal.specs.declared.kept.Link.{Link}
 use Rattle.air_journal.specs.declared.kept.Waiting.{Waiting}
+use Rattle.air_journal.specs.declared.queue.TheConstants.{QUEUE_ROOM}
 use Rattle.air_rules.proofs.FewSends.{sends-few}
 use Rattle.air_rules.proofs.Legal.{allowed, earlier}
 use Rattle.air_rules.proofs.Pace.{count-no, count-yes}
@@ -67,7 +68,7 @@ pub record SendFits (e : Parts) (w : Written) (t : Kept) (i j : ℕ) : Type 0 wh
   pub room : length w.entries < w.room
   pub sends : (link_at t i j).sends < 600
   pub commits : (made_at t j).commits ≤ 600
-  pub copies : length (queue_at t i j) + 3 ≤ 1800
+  pub copies : length (queue_at t i j) + 3 ≤ QUEUE_ROOM
 
 pub send-fits : {e : Parts} {w : Written} {t : Kept} → IsWhole e w t → (i j : ℕ) (m : ResMsg) → is_active (air_of e) i ≡ true → IsFirstOwedBy (air_of e) t i j m → SendFits e w t i j
 send-fits {e} {w} {t} h i j m active f =

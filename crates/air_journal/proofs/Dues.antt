@@ -7,13 +7,12 @@ use Rattle.acas_base.specs.declared.entry.Entry.{Entry}
 use Rattle.acas_base.specs.declared.entry.Entry.TheVariants.{Commit, Send, Take}
 use Rattle.acas_base.specs.declared.link.CopyPlan.{CopyPlan}
 use Rattle.air_journal.proofs.Queued.{is-queue}
-use Rattle.air_journal.specs.Calls.{IsFirstDue}
 use Rattle.air_journal.specs.Kept.{copies_from, is_copy, read_as, waiting, without}
 use Rattle.air_journal.specs.Queues.{AreOrdered, IsBefore, IsFirstDueAt, IsIn, IsQueue, IsWaiting, NoneDue}
 use Rattle.air_journal.specs.declared.kept.Waiting.{Waiting}
 use Rattle.air_rules.proofs.Pace.{active-ra, count-no, count-yes, later-more, later-none, send-shows}
 use Rattle.air_rules.specs.Air.{Air, IsSound, copy_plan}
-use Rattle.air_rules.specs.Due.{NothingDue, is_copy_due, is_due, is_free}
+use Rattle.air_rules.specs.Due.{IsFirstDue, NothingDue, is_copy_due, is_due, is_free}
 use Rattle.air_rules.specs.Journal.{Sent, WasSent, commits, count_of, entries_after, is_commit_of, is_send_of, sends, sent_at, was_taken}
 use Rattle.air_rules.specs.Rules.{IsLegal}
 use Rattle.air_rules.specs.Takes.{is_from}
@@ -115,7 +114,7 @@ pub first-due : (air : Air) → IsSound air → (K : List Entry) → IsLegal air
 first-due air sound K l i j k w f least =
     record {
       due = waits-due air K j i w here ∙ le-leb w.due (commits K i) f.in_time;
-      first = λ q d lt. false_from_ne_true _ (λ e.
+      first_send = λ q lt d. false_from_ne_true _ (λ e.
           let g = due-waits air sound K l i q d e in
           let a : w.send ≤ g.it.send = least g.sender g.below g.it ((is-queue air sound K l g.sender i).whole g.it g.waits) g.due in
           let b : g.it.send ≡ q = g.send_is in omega arith);

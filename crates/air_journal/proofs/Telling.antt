@@ -16,7 +16,7 @@ use Rattle.air_journal.proofs.Dues.{due-waits, first-due, in-at, nothing-due}
 use Rattle.air_journal.proofs.Queued.{is-queue}
 use Rattle.air_journal.proofs.Soundness.{sound-of}
 use Rattle.air_journal.specs.Airs.{air_of}
-use Rattle.air_journal.specs.Calls.{IsFirstBehind, IsFirstDue}
+use Rattle.air_journal.specs.Calls.{IsFirstBehind}
 use Rattle.air_journal.specs.Found.{AreNext, IsDueInOne, IsFirstBehindBy, IsFirstOwedBy, IsLeast, NobodyBehind, NoneOf, NotDueInAny, NothingOwedBy, WaitsAt, kept_in_force, next_by, next_in, owed_by, owed_in}
 use Rattle.air_journal.specs.Kept.{Kept, complement_of, link_at, link_of, made_at, queue_at, waiting}
 use Rattle.air_journal.specs.Queues.{AreOrdered, IsFirstDueAt, IsIn}
@@ -31,7 +31,7 @@ use Rattle.air_rules.proofs.Searching.{some-or-none}
 use Rattle.air_rules.proofs.Waiting.{owed-within}
 use Rattle.air_rules.proofs.Pace.{active-ra, send-shows}
 use Rattle.air_rules.specs.Air.{is_active, rank_of}
-use Rattle.air_rules.specs.Due.{NothingDue, is_due}
+use Rattle.air_rules.specs.Due.{IsFirstDue, NothingDue, is_due}
 use Rattle.air_rules.specs.Journal.{commits}
 use Rattle.air_rules.specs.Owed.{IsFirstOwed, OwesNothing, owed}
 use Rattle.air_rules.specs.Rules.{cell_for, cells_for}

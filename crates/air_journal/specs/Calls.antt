@@ -13,16 +13,10 @@ use Rattle.air_journal.specs.declared.answers.Took.TheVariants as took
 use Rattle.air_journal.specs.declared.answers.TookThis.{TookThis}
 use Rattle.air_journal.specs.declared.answers.TookThis.TheVariants as took_this
 use Rattle.air_rules.specs.Air.{Air, is_active}
-use Rattle.air_rules.specs.Due.{NothingDue, is_due}
+use Rattle.air_rules.specs.Due.{IsFirstDue, NothingDue, is_due}
 use Rattle.air_rules.specs.Journal.{commits}
 use Rattle.air_rules.specs.Owed.{IsFirstOwed, OwesNothing}
 use Rattle.air_rules.specs.Rules.{MayCommit, MaySend, MayTake}
-
--- The first copy that is due to an aircraft, by the position of its send and by its number.
-pub record IsFirstDue (air : Air) (journal : List Entry) (own send copy : ℕ) : Type 0 where
-  pub due : is_due air journal own send copy ≡ true
-  pub first : (before copy : ℕ) → before < send → is_due air journal own before copy ≡ false
-  pub first_copy : (before : ℕ) → before < copy → is_due air journal own send before ≡ false
 
 -- The first active aircraft that has fewer commits.
 pub record IsFirstBehind (air : Air) (journal : List Entry) (own craft : ℕ) : Type 0 where

@@ -1,5 +1,6 @@
 -- What is found in the tables.
 use Rattle.std.specs.Prelude.{◌≡◌, ℕ, ◌+◌, ◌<◌, ◌≤◌, true, not, ◌&&◌, ◌==◌, if◌then◌else◌, nat_le, nat_lt, List, length, Option, Some, None, slice_get, slice_index_or}
+use Rattle.acas_base.specs.Complements.{in_force}
 use Rattle.acas_base.specs.Messages.{message_for}
 use Rattle.acas_base.specs.Next.{following_cell}
 use Rattle.acas_base.specs.declared.TheConstants.{CRAFTS}
@@ -21,7 +22,6 @@ use Rattle.air_journal.specs.declared.kept.Waiting.{Waiting}
 use Rattle.air_journal.specs.declared.pace.Behind.{Behind}
 use Rattle.air_rules.specs.Air.{Air, is_active, is_ra, rank_of}
 use Rattle.air_rules.specs.Journal.{commits}
-use Rattle.air_rules.specs.Takes.{lapse}
 
 -- ---- what is owed
 
@@ -105,9 +105,10 @@ pub record IsFirstBehindBy (air : Air) (kept : Kept) (made : ℕ) (behind : Behi
 
 -- ---- the next cells
 
+-- What is in force of the complement that is kept, once its taker has made so many commits.
 abbrev pub kept_in_force : Option Complement → ℕ → Vrc
 kept_in_force None made = Nil
-kept_in_force (Some taken) made = if nat_lt made (taken.commits + lapse) then taken.vrc else Nil
+kept_in_force (Some taken) made = in_force taken.vrc taken.commits made
 
 -- The next cell of an aircraft for another one.
 abbrev pub next_by : Air → ℕ → ℕ → Link → Made → Cell

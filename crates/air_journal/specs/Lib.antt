@@ -6,7 +6,6 @@ pub mod Cells
 pub mod Queues
 pub mod Orders
 pub mod Kept
-pub mod Rooms
 pub mod Ranges
 pub mod Pages
 pub mod Written

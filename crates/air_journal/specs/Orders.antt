@@ -3,7 +3,7 @@ use Rattle.std.specs.Prelude.{◌≡◌, ◌≢◌, ◌⊎◌, ℕ, ◌<◌, ◌
 use Rattle.acas_base.specs.declared.TheConstants.{CRAFTS}
 use Rattle.air_journal.specs.Kept.{Kept, queue_at}
 use Rattle.air_journal.specs.Queues.{IsIn}
-use Rattle.air_journal.specs.Rooms.{queue_room}
+use Rattle.air_journal.specs.declared.queue.TheConstants.{QUEUE_ROOM}
 use Rattle.air_journal.specs.declared.kept.Waiting.{Waiting}
 use Rattle.air_journal.specs.declared.order.Arrival.{Arrival}
 use Rattle.air_journal.specs.declared.tables.Front.{Front}
@@ -29,7 +29,7 @@ pub record IsOrder (passed last : ℕ) (messages : List Arrival) (capacity : ℕ
   pub rising : AreRising (drop passed messages)
   pub until : (send sender : ℕ) → Has (drop passed messages) send sender → send ≤ last
   pub senders : (send sender : ℕ) → Has (drop passed messages) send sender → sender < CRAFTS
-  pub room : queue_room ≤ capacity
+  pub room : QUEUE_ROOM ≤ capacity
 
 -- It is the first message, and comes before all others.
 pub record IsFront (order : Option (List Arrival)) (arrival : Arrival) : Type 0 where

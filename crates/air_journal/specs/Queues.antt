@@ -3,7 +3,7 @@ use Rattle.std.specs.Prelude.{◌≡◌, ◌⊎◌, ℕ, ◌+◌, ◌<◌, ◌�
 use Rattle.acas_base.specs.declared.entry.Entry.{Entry}
 use Rattle.acas_base.specs.declared.link.CopyPlan.{CopyPlan}
 use Rattle.air_journal.specs.Kept.{read_as}
-use Rattle.air_journal.specs.Rooms.{queue_room}
+use Rattle.air_journal.specs.declared.queue.TheConstants.{QUEUE_ROOM}
 use Rattle.air_journal.specs.declared.kept.Waiting.{Waiting}
 use Rattle.air_rules.specs.Air.{Air, copy_plan}
 use Rattle.air_rules.specs.Journal.{Sent, WasSent, commits, entries_after, was_taken}
@@ -51,4 +51,4 @@ pub record IsFirstDueAt (queue : List Waiting) (made place : ℕ) (waiting : Wai
 -- As the copies are kept: those that are taken stand before those that wait, and there is room.
 pub record IsQueued (taken : ℕ) (copies : List Waiting) (capacity : ℕ) : Type 0 where
   pub within : taken ≤ length copies
-  pub room : queue_room ≤ capacity
+  pub room : QUEUE_ROOM ≤ capacity

@@ -6,6 +6,7 @@ ghost use Rattle.air_journal.specs.Kept.{queue_at};
 ghost use Rattle.air_journal.specs.Queues.{AreOrdered, IsFirstDueAt, NoneDue};
 
 use crate::kept::Waiting;
+use crate::queue::QUEUE_ROOM;
 use crate::tables::{Front, Tables};
 use acas_base::CRAFTS;
 
@@ -79,9 +80,6 @@ pub(crate) fn first_due_to(tables: &Tables, own: u8, made: u16, count: u8) -> Op
     best
 }
 
-// A message is passed over in each turn but the last, and no more than a queue has room for.
-const TURNS: usize = 1800;
-
 /// The first copy that is due to an aircraft that has made so many commits. Mostly it is a copy of the first message to it,
 /// and no search is needed.
 pub(crate) fn next_due(tables: &mut Tables, own: u8, made: u16) -> Option<Found>
@@ -90,7 +88,8 @@ pub(crate) fn next_due(tables: &mut Tables, own: u8, made: u16) -> Option<Found>
     ensures same { tables.new ≡ tables.old }
     ensures found { MatchOption result (NoneOf tables.old own made CRAFTS) (IsLeast tables.old own made CRAFTS) }
 {
-    for _turn in 0..TURNS {
+    // A message is passed over in each turn but the last, and no more than a queue has room for.
+    for _turn in 0..QUEUE_ROOM {
         match tables.front(own) {
             Front::Waits(sender) => {
                 let first = tables.queue(sender, own)[0];

@@ -27,41 +27,6 @@ pub enum EntryRef<'a> {
 }
 
 impl<'a> EntryRef<'a> {
-    /// Reads an entry that is kept elsewhere.
-    pub fn of(entry: &'a Entry) -> EntryRef<'a>
-        ensures { entry_of result ≡ entry.now }
-    {
-        match entry {
-            Entry::Commit { own, cycle, cells } => EntryRef::Commit {
-                own: *own,
-                cycle: *cycle,
-                cells,
-            },
-            Entry::Send {
-                own,
-                target,
-                number,
-                word,
-            } => EntryRef::Send {
-                own: *own,
-                target: *target,
-                number: *number,
-                word: *word,
-            },
-            Entry::Take {
-                own,
-                send,
-                copy,
-                good,
-            } => EntryRef::Take {
-                own: *own,
-                send: *send,
-                copy: *copy,
-                good: *good,
-            },
-        }
-    }
-
     /// The entry itself.
     pub fn entry(&self) -> Entry
         ensures { result ≡ entry_of self.now }

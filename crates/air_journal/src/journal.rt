@@ -5,7 +5,7 @@ ghost use Rattle.acas_base.specs.declared.entry.Entry.{Entry};
 ghost use Rattle.acas_base.specs.declared.entry.Entry.TheVariants as kinds;
 ghost use Rattle.air_journal.specs.Cells.{clear_cells, commit_cells, place_of};
 ghost use Rattle.air_journal.specs.EntryRefs.{entry_of};
-ghost use Rattle.air_journal.specs.Rooms.{page_room};
+ghost use Rattle.air_journal.specs.declared.log.TheConstants.{PAGE_NOTES};
 ghost use Rattle.air_journal.specs.Written.{IsNote, Written, told};
 
 use crate::entry_ref::EntryRef;
@@ -97,7 +97,7 @@ impl Journal {
         requires cycles { cycles ≤ 600 }
         requires pages { pages ≤ 1000000 }
         ensures entries { IfOk result (λ journal. journal.entries ≡ []) }
-        ensures room { IfOk result (λ journal. journal.room ≡ pages * page_room) }
+        ensures room { IfOk result (λ journal. journal.room ≡ pages * PAGE_NOTES) }
         ensures places { IfOk result (λ journal. journal.places ≡ cycles * CRAFTS) }
     {
         let log = Log::new(alloc, pages)?;

@@ -1,7 +1,7 @@
 // A list of notes in pages, all taken at the start.
 ghost use Rattle.std.specs.Prelude.{◌≡◌, ◌+◌, ◌*◌, ◌<◌, ◌≤◌, [], ◌∷◌, ◌++◌, length, replicate, IfOk, slice_get, option_copied};
 ghost use Rattle.air_journal.specs.Pages.{Noted};
-ghost use Rattle.air_journal.specs.Rooms.{page_room};
+ghost use Rattle.air_journal.specs.declared.log.TheConstants.{PAGE_NOTES};
 
 use std::alloc::{AllocError, Global};
 use std::marker::Model;
@@ -27,8 +27,8 @@ pub(crate) enum Note {
     },
 }
 
-// How many notes a page has.
-const NOTES: usize = 1024;
+/// How many notes a page has room for.
+pub(crate) const PAGE_NOTES: usize = 1024;
 
 #[derive(Drop)]
 struct Page {
@@ -37,14 +37,14 @@ struct Page {
 
 impl Model for Page {
     ghost use Rattle.std.specs.Prelude.{List, ◌≤◌, vec_capacity};
-    ghost use Rattle.air_journal.specs.Rooms.{page_room};
+    ghost use Rattle.air_journal.specs.declared.log.TheConstants.{PAGE_NOTES};
     ghost use Rattle.air_journal.specs.declared.log.Note.{Note};
 
     ghost Value = { List Note };
 
     ghost view = { λ p. p.notes.items };
 
-    ghost invariant = { λ p. page_room ≤ vec_capacity p.notes };
+    ghost invariant = { λ p. PAGE_NOTES ≤ vec_capacity p.notes };
 }
 
 impl Page {
@@ -52,12 +52,12 @@ impl Page {
         ensures { IfOk result (λ page. page ≡ []) }
     {
         Ok(Page {
-            notes: Vec::with_capacity(alloc, NOTES)?,
+            notes: Vec::with_capacity(alloc, PAGE_NOTES)?,
         })
     }
 
     fn push(&mut self, note: Note)
-        requires { length self.old < page_room }
+        requires { length self.old < PAGE_NOTES }
         ensures { self.new ≡ self.old ++ note ∷ [] }
     {
         self.notes.push_reserved(note);
@@ -80,11 +80,11 @@ pub(crate) struct Log {
 impl Model for Log {
     ghost use Rattle.std.specs.Prelude.{◌*◌, length};
     ghost use Rattle.air_journal.specs.Pages.{ArePages, Noted, joined};
-    ghost use Rattle.air_journal.specs.Rooms.{page_room};
+    ghost use Rattle.air_journal.specs.declared.log.TheConstants.{PAGE_NOTES};
 
     ghost Value = { Noted };
 
-    ghost view = { λ l. record { notes = joined l.pages.items; room = length l.pages.items * page_room } };
+    ghost view = { λ l. record { notes = joined l.pages.items; room = length l.pages.items * PAGE_NOTES } };
 
     ghost invariant = { λ l. ArePages l.pages.items l.count };
 }
@@ -104,7 +104,7 @@ impl Log {
     pub(crate) fn new(alloc: Global, pages: usize) -> Result<Self, AllocError>
         requires { pages ≤ 1000000 }
         ensures notes { IfOk result (λ log. log.notes ≡ []) }
-        ensures room { IfOk result (λ log. log.room ≡ pages * page_room) }
+        ensures room { IfOk result (λ log. log.room ≡ pages * PAGE_NOTES) }
     {
         let pages = new_pages(alloc, pages)?;
         Ok(Log { pages, count: 0 })
@@ -121,7 +121,7 @@ impl Log {
         ensures notes { self.new.notes ≡ self.old.notes ++ note ∷ [] }
         ensures room { self.new.room ≡ self.old.room }
     {
-        let page = self.count / NOTES;
+        let page = self.count / PAGE_NOTES;
         self.pages[page].push(note);
         self.count += 1;
     }
@@ -132,7 +132,7 @@ impl Log {
         if at >= self.count {
             return None;
         }
-        let page = &self.pages[at / NOTES];
-        page.get(at % NOTES)
+        let page = &self.pages[at / PAGE_NOTES];
+        page.get(at % PAGE_NOTES)
     }
 }

@@ -1,6 +1,6 @@
 // The cells of the next commit, by what is kept.
 ghost use Rattle.std.specs.Prelude.{◌≡◌, ℕ, ◌+◌, ◌<◌, ◌≤◌, length};
-ghost use Rattle.acas_base.specs.Messages.{has_advisory, has_many};
+ghost use Rattle.acas_base.specs.Messages.{has_many};
 ghost use Rattle.acas_base.specs.declared.TheConstants.{CRAFTS};
 ghost use Rattle.acas_base.specs.declared.advisory.Cell.TheVariants as cell_kinds;
 ghost use Rattle.acas_base.specs.declared.advisory.Intent.{Intent};
@@ -15,20 +15,12 @@ use crate::tables::Tables;
 use acas_base::{CRAFTS, Cell, Cells, Encounter, Picture, View, Vrc};
 use coord_core::next_cell;
 
-// A complement binds its taker for so many commits.
-const LAPSE: u16 = 6;
-
 // The complement in force after so many commits.
-fn in_force(complement: Option<Complement>, made: u16) -> Vrc
-    requires { made ≤ 600 }
+fn kept_in_force(complement: Option<Complement>, made: u16) -> Vrc
     ensures { result ≡ kept_in_force complement made }
 {
     match complement {
-        Some(taken) => if u32::from(made) < u32::from(taken.commits) + u32::from(LAPSE) {
-            taken.vrc
-        } else {
-            Vrc::Nil
-        },
+        Some(taken) => taken.vrc.in_force(taken.commits, made),
         None => Vrc::Nil,
     }
 }
@@ -52,7 +44,7 @@ fn next_for(encounter: &Encounter, tables: &Tables, own: u8, target: u8, view: &
     next_cell(
         &link.cell,
         view,
-        in_force(link.complement, tables.made(own).commits),
+        kept_in_force(link.complement, tables.made(own).commits),
         rank(encounter, own, target),
     )
 }
@@ -87,14 +79,5 @@ pub(crate) fn next_cells(
 pub(crate) fn has_many(cells: &Cells) -> bool
     ensures { result ≡ has_many cells.now }
 {
-    cells.list.iter().filter(|cell| has_advisory(cell)).count() >= 2
-}
-
-fn has_advisory(cell: &Cell) -> bool
-    ensures { result ≡ has_advisory cell.now }
-{
-    match cell {
-        Cell::Ra(_) => true,
-        Cell::Clear | Cell::Traffic => false,
-    }
+    cells.list.iter().filter(|cell| cell.has_advisory()).count() >= 2
 }

@@ -3,11 +3,9 @@ ghost use Rattle.std.specs.Prelude.{◌≡◌, ◌<◌, Some, [], IfOk, IfSome, 
 ghost use Rattle.acas_base.specs.declared.TheConstants.{CRAFTS};
 ghost use Rattle.air_journal.specs.Orders.{IsFront, Pushed, without_front};
 
+use crate::queue::QUEUE_ROOM;
 use std::alloc::{AllocError, Global};
 use std::marker::Model;
-
-// As many as a queue has copies.
-const ROOM: usize = 1800;
 
 /// A message to an aircraft: the position of its send, and its sender.
 #[derive(Clone, Copy, Debug, PartialEq, Eq)]
@@ -47,7 +45,7 @@ impl Order {
         ensures { IfOk result (λ order. order ≡ Some []) }
     {
         Ok(Order {
-            messages: Vec::with_capacity(alloc, ROOM)?,
+            messages: Vec::with_capacity(alloc, QUEUE_ROOM)?,
             passed: 0,
             last: 0,
             known: true,
@@ -102,7 +100,7 @@ impl Order {
         ensures { Pushed self.old arrival self.new }
     {
         self.clear();
-        if self.messages.len() >= ROOM {
+        if self.messages.len() >= QUEUE_ROOM {
             self.known = false;
             return;
         }

@@ -1,14 +1,14 @@
 // The copies of one aircraft's messages to another one that wait.
 ghost use Rattle.std.specs.Prelude.{◌≡◌, ◌+◌, ◌<◌, ◌≤◌, [], ◌∷◌, ◌++◌, drop, length, vec_capacity, IfOk};
 ghost use Rattle.std.specs.List.{remove};
-ghost use Rattle.air_journal.specs.Rooms.{queue_room};
+ghost use Rattle.air_journal.specs.declared.queue.TheConstants.{QUEUE_ROOM};
 
 use crate::kept::Waiting;
 use std::alloc::{AllocError, Global};
 use std::marker::Model;
 
-// Three copies of a message in each cycle of the longest run.
-const ROOM: usize = 1800;
+/// The most copies that can wait in a queue: three of a message in each cycle of the longest run.
+pub(crate) const QUEUE_ROOM: usize = 1800;
 
 /// The copies that wait, in order of position and copy. Mostly the first one is taken first: then it is counted, so that the
 /// others needn't move. All its memory is taken at the start.
@@ -47,16 +47,16 @@ impl Queue {
         ensures { IfOk result (λ queue. queue ≡ []) }
     {
         Ok(Queue {
-            copies: Vec::with_capacity(alloc, ROOM)?,
+            copies: Vec::with_capacity(alloc, QUEUE_ROOM)?,
             taken: 0,
         })
     }
 
     pub(crate) fn push(&mut self, copy: Waiting)
-        requires { length self.old < queue_room }
+        requires { length self.old < QUEUE_ROOM }
         ensures { self.new ≡ self.old ++ copy ∷ [] }
     {
-        if self.copies.len() >= ROOM {
+        if self.copies.len() >= QUEUE_ROOM {
             drop_front(&mut self.copies, self.taken);
             self.taken = 0;
         }

@@ -3,7 +3,7 @@ ghost use Rattle.std.specs.Prelude.{◌≡◌, ℕ, ◌+◌, ◌<◌, ◌≤◌,
 ghost use Rattle.acas_base.specs.Fates.{copies_of};
 ghost use Rattle.acas_base.specs.declared.TheConstants.{CRAFTS};
 ghost use Rattle.air_journal.specs.Kept.{AfterCommit, AfterSend, AfterTake, IsBlank, RowIs, copies_from, link_at, made_at, no_link, nothing_made, queue_at, read_as, vrc_of, waiting_copy};
-ghost use Rattle.air_journal.specs.Rooms.{queue_room};
+ghost use Rattle.air_journal.specs.declared.queue.TheConstants.{QUEUE_ROOM};
 ghost use Rattle.res_message.specs.Words.{flip_word, read_word};
 
 use crate::kept::{Complement, Link, Made, Waiting};
@@ -110,7 +110,7 @@ fn copy_of(message: Message, copy: u8, plan: CopyPlan) -> Waiting
 
 // Puts the copies of a message into its queue.
 fn push_copies(queue: &mut Queue, message: Message, fate: &Fate)
-    requires room { length queue.old + 3 ≤ queue_room }
+    requires room { length queue.old + 3 ≤ QUEUE_ROOM }
     requires word { vrc_of (read_word message.word) ≡ Some message.vrc }
     requires commits { message.commits ≤ 600 }
     ensures { queue.new ≡ queue.old ++ copies_from (read_as flip_word read_word message.word) message.send message.commits 0 (copies_of fate.now) }
@@ -182,7 +182,7 @@ impl Rows {
         requires word { vrc_of (read_word word) ≡ Some vrc }
         requires sends { (link_at self.old own target).sends < 600 }
         requires commits { (made_at self.old target).commits ≤ 600 }
-        requires room { length (queue_at self.old own target) + 3 ≤ queue_room }
+        requires room { length (queue_at self.old own target) + 3 ≤ QUEUE_ROOM }
         ensures { AfterSend self.old self.new own target vrc (copies_from (read_as flip_word read_word word) send (made_at self.old target).commits 0 (copies_of fate.now)) }
     {
         let pair = pair_of(own, target);

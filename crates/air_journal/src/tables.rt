@@ -5,7 +5,7 @@ ghost use Rattle.acas_base.specs.declared.TheConstants.{CRAFTS};
 ghost use Rattle.air_journal.specs.Kept.{AfterCommit, AfterSend, AfterTake, IsBlank, copies_from, link_at, made_at, queue_at, read_as, vrc_of};
 ghost use Rattle.air_journal.specs.Orders.{IsQuiet, IsTold, StartsOtherwise, StartsWith};
 ghost use Rattle.air_journal.specs.Queues.{AreOrdered};
-ghost use Rattle.air_journal.specs.Rooms.{queue_room};
+ghost use Rattle.air_journal.specs.declared.queue.TheConstants.{QUEUE_ROOM};
 ghost use Rattle.res_message.specs.Words.{flip_word, read_word};
 
 use crate::kept::{Link, Made, Waiting};
@@ -137,7 +137,7 @@ impl Tables {
         requires word { vrc_of (read_word word) ≡ Some vrc }
         requires sends { (link_at self.old own target).sends < 600 }
         requires commits { (made_at self.old target).commits ≤ 600 }
-        requires room { length (queue_at self.old own target) + 3 ≤ queue_room }
+        requires room { length (queue_at self.old own target) + 3 ≤ QUEUE_ROOM }
         ensures { AfterSend self.old self.new own target vrc (copies_from (read_as flip_word read_word word) send (made_at self.old target).commits 0 (copies_of fate.now)) }
     {
         self.rows.send(own, target, vrc, word, send, fate);

@@ -268,8 +268,11 @@ next-by air sound K (Take own send copy good) e f =
       nobody_owes = nobody-owing air sound K owes.0;
       allowed = may-take air K own send copy good may.0 f;
       first = λ before h a. none-due-to air sound K own others.0 before h a;
-      first_send = λ before h. none-due-before air sound K own send sends.0 before h;
-      first_copy = below-none (λ before. is_due air K own send before) copy sends.1;
+      first_due = record {
+        due = (may-take air K own send copy good may.0 f).due;
+        first_send = λ before h. none-due-before air sound K own send sends.0 before h;
+        first_copy = below-none (λ before. is_due air K own send before) copy sends.1;
+      };
     }
 
 -- ---- whole journals

@@ -36,7 +36,7 @@ never-stuck air J sound l = at_sends (first-owing air sound J)
     at_takes : NobodyOwes air J → ((i : ℕ) × FirstDueTo air J i) ⊎ NobodyIsDue air J → IsNeverStuck air J
     at_takes owes (inl (k, f)) =
         let d = f.holds.due in
-        inr (by_take owes k d.send d.copy (is_some (read_copy air (sent_at J d.send) d.copy)) (record { active = f.holds.active; due = d.due; good_is = refl }))
+        inr (by_take owes k d.send d.copy (is_some (read_copy air (sent_at J d.send) d.copy)) (record { active = f.holds.active; due = d.first.due; good_is = refl }))
     at_takes owes (inr none) = at_commits owes none (slowest air sound J)
 
     at_sends : ((i : ℕ) × FirstOwing air J i) ⊎ NobodyOwes air J → IsNeverStuck air J

@@ -5,7 +5,7 @@ use Rattle.acas_base.specs.declared.advisory.Cells.{Cells}
 use Rattle.acas_base.specs.declared.entry.Entry.{Entry}
 use Rattle.acas_base.specs.declared.entry.Entry.TheVariants.{Commit, Send, Take}
 use Rattle.air_rules.specs.Air.{Air, is_active}
-use Rattle.air_rules.specs.Due.{NothingDue, is_due}
+use Rattle.air_rules.specs.Due.{IsFirstDue, NothingDue, is_due}
 use Rattle.air_rules.specs.Journal.{Begins, commits, more, sends, sent_at, whole}
 use Rattle.air_rules.specs.Owed.{OwesNothing, owed}
 use Rattle.air_rules.specs.Rules.{MaySend, MayTake, cells_for}
@@ -77,26 +77,19 @@ first-send-once air K i j n w k l m v one first two second =
     let word : w ≡ v = one.word_is ∙ ap air.word what ∙ sym two.word_is in
     λ t. Send (own t) (to t) (number t) (word t)
 
--- Of what is due to an aircraft nothing was sent before this position, and of this message no earlier copy is due.
-abbrev NoneSentBefore : Air → List Entry → ℕ → ℕ → Type 0
-NoneSentBefore air K i p = (before : ℕ) → before < p → (copy : ℕ) → is_due air K i before copy ≡ false
-
-abbrev NoCopyBefore : Air → List Entry → ℕ → ℕ → ℕ → Type 0
-NoCopyBefore air K i p c = (before : ℕ) → before < c → is_due air K i p before ≡ false
-
 -- At most one copy is the first that is due, by receiver, position and copy.
 pub first-take-once : (air : Air) (K : List Entry) (i p c k q d : ℕ) (good fine : Bool)
-    → MayTake air K i p c good → NoneDueBefore air K i → NoneSentBefore air K i p → NoCopyBefore air K i p c
-    → MayTake air K k q d fine → NoneDueBefore air K k → NoneSentBefore air K k q → NoCopyBefore air K k q d
+    → MayTake air K i p c good → NoneDueBefore air K i → IsFirstDue air K i p c
+    → MayTake air K k q d fine → NoneDueBefore air K k → IsFirstDue air K k q d
     → Take i p c good ≡ Take k q d fine
-first-take-once air K i p c k q d good fine one none_one sent_one copy_one two none_two sent_two copy_two =
+first-take-once air K i p c k q d good fine one none_one first_one two none_two first_two =
     let own : i ≡ k = neither i k (λ h. due-then air K i p c good one (none_two i h one.active p c)) (λ h. due-then air K k q d fine two (none_one k h two.active q d)) in
     let send : p ≡ q = neither p q
-    (λ h. due-then air K i p c good one (subst (λ (x : ℕ). is_due air K x p c ≡ false) (sym own) (sent_two p h c)))
-    (λ h. due-then air K k q d fine two (subst (λ (x : ℕ). is_due air K x q d ≡ false) own (sent_one q h d))) in
+    (λ h. due-then air K i p c good one (subst (λ (x : ℕ). is_due air K x p c ≡ false) (sym own) (first_two.first_send p h c)))
+    (λ h. due-then air K k q d fine two (subst (λ (x : ℕ). is_due air K x q d ≡ false) own (first_one.first_send q h d))) in
     let copy : c ≡ d = neither c d
-    (λ h. due-then air K i p c good one (ap₂ (λ (x y : ℕ). is_due air K x y c) own send ∙ copy_two c h))
-    (λ h. due-then air K k q d fine two (ap₂ (λ (x y : ℕ). is_due air K x y d) (sym own) (sym send) ∙ copy_one d h)) in
+    (λ h. due-then air K i p c good one (ap₂ (λ (x y : ℕ). is_due air K x y c) own send ∙ first_two.first_copy c h))
+    (λ h. due-then air K k q d fine two (ap₂ (λ (x y : ℕ). is_due air K x y d) (sym own) (sym send) ∙ first_one.first_copy d h)) in
     let is : good ≡ fine = one.good_is ∙ ap₂ (λ (x y : ℕ). is_some (read_copy air (sent_at K x) y)) send copy ∙ sym two.good_is in
     λ t. Take (own t) (send t) (copy t) (is t)
 
@@ -110,7 +103,7 @@ comes-once air K (Send i j n w) (Take a p c good) one two = absurd (send-take ai
 comes-once air K (Take i p c good) (Commit a b cells) one two = absurd (commit-take air K a b cells i p c good two one)
 comes-once air K (Take i p c good) (Send k l m v) one two = absurd (send-take air K k l m v i p c good two one)
 comes-once air K (Take i p c good) (Take k q d fine) one two =
-    first-take-once air K i p c k q d good fine one.allowed one.first one.first_send one.first_copy two.allowed two.first two.first_send two.first_copy
+    first-take-once air K i p c k q d good fine one.allowed one.first one.first_due two.allowed two.first two.first_due
 
 -- ---- so journals in order differ by their length alone
 

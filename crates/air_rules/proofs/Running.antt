@@ -34,11 +34,11 @@ sense-has Clear t e = cc
 sense-has Traffic t e = cc
 sense-has (Ra it) t e = ap Some (same-true it.sense t e)
 
-same-refl : (s : Sense) → is_same_sense s s ≡ true
+pub same-refl : (s : Sense) → is_same_sense s s ≡ true
 same-refl Up = refl
 same-refl Down = refl
 
-has-from : (c : Cell) (t : Sense) → sense_of c ≡ Some t → has_sense c t ≡ true
+pub has-from : (c : Cell) (t : Sense) → sense_of c ≡ Some t → has_sense c t ≡ true
 has-from Clear t e = absurd (cc)
 has-from Traffic t e = absurd (cc)
 has-from (Ra it) t e = let f : it.sense ≡ t = cc in subst (λ (s : Sense). is_same_sense it.sense s ≡ true) f (same-refl it.sense)

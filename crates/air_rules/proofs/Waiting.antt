@@ -12,7 +12,7 @@ use Rattle.air_rules.proofs.Positions.{sent-within}
 use Rattle.air_rules.proofs.Running.{owed-message}
 use Rattle.air_rules.proofs.Searching.{AllBelow, IsFirst, IsLeast, first-of-all, least-of, some-or-none}
 use Rattle.air_rules.specs.Air.{Air, IsSound, copy_plan, is_active, is_ra}
-use Rattle.air_rules.specs.Due.{NobodyIsDue, NothingDue, is_copy_due, is_due, is_free}
+use Rattle.air_rules.specs.Due.{IsFirstDue, NobodyIsDue, NothingDue, is_copy_due, is_due, is_free}
 use Rattle.air_rules.specs.Journal.{Sent, commits, entries_after, is_commit_of, sent_at}
 use Rattle.air_rules.specs.Owed.{IsFirstOwed, NobodyOwes, OwesNothing, owed}
 use Rattle.air_rules.specs.Rules.{IsLegal}
@@ -67,13 +67,11 @@ first-owing air sound J = go (first-of-all (λ i. Owing air J i) (λ i. OwesNoth
     go (inl f) = inl f
     go (inr none) = inr (nobody-owes air sound J none)
 
--- The first copy, by position and copy, that is due to an aircraft.
+-- Some copy is due to an aircraft, and this is the first.
 pub record HasDue (air : Air) (J : List Entry) (i : ℕ) : Type 0 where
   pub send : ℕ
   pub copy : ℕ
-  pub due : is_due air J i send copy ≡ true
-  pub first_send : (p : ℕ) → p < send → (c : ℕ) → is_due air J i p c ≡ false
-  pub first_copy : (c : ℕ) → c < copy → is_due air J i send c ≡ false
+  pub first : IsFirstDue air J i send copy
 
 abbrev FirstCopy : Air → List Entry → Option Sent → ℕ → ℕ → ℕ → Type 0
 FirstCopy air J o i p c = IsFirst (λ c. is_copy_due air J o i p c ≡ true) (λ c. is_copy_due air J o i p c ≡ false) c
@@ -111,7 +109,7 @@ due-to air J i = go (first-of-all (λ p. DueAt air J i p) (λ p. NoneDueAt air J
     ]
 
     go : ((p : ℕ) × IsFirst (λ p. DueAt air J i p) (λ p. NoneDueAt air J i p) p) ⊎ AllBelow (λ p. NoneDueAt air J i p) (length J) → HasDue air J i ⊎ NothingDue air J i
-    go (inl (p, f)) = inl (record { send = p; copy = f.holds.0; due = f.holds.1.holds; first_send = f.before; first_copy = f.holds.1.before })
+    go (inl (p, f)) = inl (record { send = p; copy = f.holds.0; first = record { due = f.holds.1.holds; first_send = f.before; first_copy = f.holds.1.before } })
     go (inr none) = inr (λ p c. elim (cases_lt p (length J)) [ inl h ↦ none p h c | inr h ↦ past p h c ])
 
 -- An active aircraft to which a copy is due, while nothing is due to those before it.

@@ -1,5 +1,5 @@
 -- Which copies are due to their receiver (this project's profile).
-use Rattle.std.specs.Prelude.{◌≡◌, ℕ, Bool, true, false, not, ◌&&◌, ◌==◌, nat_le, List, Option, Some, None}
+use Rattle.std.specs.Prelude.{◌≡◌, ℕ, ◌<◌, Bool, true, false, not, ◌&&◌, ◌==◌, nat_le, List, Option, Some, None}
 use Rattle.acas_base.specs.declared.entry.Entry.{Entry}
 use Rattle.acas_base.specs.declared.link.CopyPlan.{CopyPlan}
 use Rattle.air_rules.specs.Air.{Air, is_active, copy_plan}
@@ -19,6 +19,12 @@ is_copy_due air journal (Some sent) own send copy =
 -- it wasn't taken yet.
 abbrev pub is_due : Air → List Entry → ℕ → ℕ → ℕ → Bool
 is_due air journal own send copy = is_copy_due air journal (sent_at journal send) own send copy
+
+-- The first copy that is due to an aircraft, by the position of its send and by its number.
+pub record IsFirstDue (air : Air) (journal : List Entry) (own send copy : ℕ) : Type 0 where
+  pub due : is_due air journal own send copy ≡ true
+  pub first_send : (before : ℕ) → before < send → (copy : ℕ) → is_due air journal own before copy ≡ false
+  pub first_copy : (before : ℕ) → before < copy → is_due air journal own send before ≡ false
 
 abbrev pub NothingDue : Air → List Entry → ℕ → Type 0
 NothingDue air journal own = (send copy : ℕ) → is_due air journal own send copy ≡ false

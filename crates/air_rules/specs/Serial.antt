@@ -5,7 +5,7 @@ use Rattle.acas_base.specs.declared.advisory.Cells.{Cells}
 use Rattle.acas_base.specs.declared.entry.Entry.{Entry}
 use Rattle.acas_base.specs.declared.entry.Entry.TheVariants.{Commit, Send, Take}
 use Rattle.air_rules.specs.Air.{Air, is_active}
-use Rattle.air_rules.specs.Due.{NobodyIsDue, is_due}
+use Rattle.air_rules.specs.Due.{IsFirstDue, NobodyIsDue, NothingDue}
 use Rattle.air_rules.specs.Journal.{commits}
 use Rattle.air_rules.specs.Owed.{NobodyOwes, OwesNothing}
 use Rattle.air_rules.specs.Rules.{MaySend, MayTake, cells_for}
@@ -51,9 +51,8 @@ pub record TakesNext (air : Air) (journal : List Entry) (own send copy : ℕ) (g
   pub even : IsUneven air journal → ⊥
   pub nobody_owes : NobodyOwes air journal
   pub allowed : MayTake air journal own send copy good
-  pub first : (before : ℕ) → before < own → is_active air before ≡ true → (position copy : ℕ) → is_due air journal before position copy ≡ false
-  pub first_send : (before : ℕ) → before < send → (copy : ℕ) → is_due air journal own before copy ≡ false
-  pub first_copy : (before : ℕ) → before < copy → is_due air journal own send before ≡ false
+  pub first : (before : ℕ) → before < own → is_active air before ≡ true → NothingDue air journal before
+  pub first_due : IsFirstDue air journal own send copy
 
 abbrev pub ComesNext : Air → List Entry → Entry → Type 0
 ComesNext air journal (Commit own cycle cells) = CommitsNext air journal own cycle cells

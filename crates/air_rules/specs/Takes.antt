@@ -1,6 +1,8 @@
 -- What was taken, and the complement that it puts in force (ICAO Annex 10 vol. IV, 4.3; the lapse is this project's
 -- profile).
-use Rattle.std.specs.Prelude.{ℕ, ◌+◌, Bool, false, ◌&&◌, if◌then◌else◌, ◌==◌, nat_lt, List, [], ◌∷◌, Option, Some, None, option_and_then}
+use Rattle.std.specs.Prelude.{ℕ, Bool, false, ◌&&◌, if◌then◌else◌, ◌==◌, List, [], ◌∷◌, Option, Some, None, option_and_then}
+use Rattle.acas_base.specs.Complements.{in_force}
+use Rattle.acas_base.specs.declared.advisory.TheConstants.{LAPSE}
 use Rattle.acas_base.specs.declared.advisory.ResMsg.{ResMsg}
 use Rattle.acas_base.specs.declared.advisory.Vrc.{Vrc}
 use Rattle.acas_base.specs.declared.advisory.Vrc.TheVariants.{Nil}
@@ -39,14 +41,14 @@ last_take air (Take own send copy good ∷ earlier) craft other =
     then Some (record { send = send; vrc = complement_read (read_copy air (sent_at earlier send) copy); commits = commits earlier craft })
     else last_take air earlier craft other
 
--- A complement that isn't renewed lapses: it binds its taker only while that has made fewer than so many commits since
--- the take.
+-- A complement that isn't renewed lapses after so many commits of its taker.
 abbrev pub lapse : ℕ
-lapse = 6
+lapse = LAPSE
 
+-- What is in force of the last good take, once its taker has made so many commits.
 abbrev pub vrc_in_force : Option Taken → ℕ → Vrc
 vrc_in_force None made = Nil
-vrc_in_force (Some taken) made = if nat_lt made (taken.commits + lapse) then taken.vrc else Nil
+vrc_in_force (Some taken) made = in_force taken.vrc taken.commits made
 
 -- The complement in force on an aircraft from another one: that of the last undamaged message taken from it, until it
 -- lapses.

@@ -13,7 +13,7 @@ use Rattle.acas_base.specs.declared.advisory.Sense.TheVariants.{Down, Up}
 use Rattle.acas_base.specs.declared.entry.Entry.{Entry}
 use Rattle.acas_base.specs.declared.entry.Entry.TheVariants.{Commit, Send, Take}
 use Rattle.air_rules.proofs.Pace.{count-no, count-yes}
-use Rattle.air_rules.proofs.Running.{has-run-by-sense, run-sense, sense-has}
+use Rattle.air_rules.proofs.Running.{has-from, has-run-by-sense, run-sense, same-refl, sense-has}
 use Rattle.air_rules.specs.Air.{Air}
 use Rattle.air_rules.specs.Journal.{Sent, before_last_commit, cell_at, commits, is_commit_of, last_cell, sent_at}
 use Rattle.air_rules.specs.Runs.{run_began}
@@ -24,15 +24,6 @@ use Rattle.journal_reader.specs.declared.links.GoodTake.{GoodTake}
 use Rattle.journal_reader.specs.declared.links.Link.{Link}
 
 -- ---- the run after a commit
-
-is-same : (s : Sense) → is_same_sense s s ≡ true
-is-same Up = refl
-is-same Down = refl
-
-has-its-own : (cell : Cell) (sense : Sense) → sense_of cell ≡ Some sense → has_sense cell sense ≡ true
-has-its-own Clear sense is = absurd (cc)
-has-its-own Traffic sense is = absurd (cc)
-has-its-own (Ra it) sense is = let same : it.sense ≡ sense = cc in subst (λ (s : Sense). is_same_sense it.sense s ≡ true) same (is-same it.sense)
 
 -- The run of this sense that began before, or begins at the commit.
 run-or-new : (K : List Entry) (own other : ℕ) (sense : Sense) → Some (unwrap_or (run_began K own other sense) (length K)) ≡ cond (has_sense (last_cell K own other) sense) (present_run K own other) (Some (length K))
@@ -51,7 +42,7 @@ run-or-new K own other sense = elim (cases_Bool (has_sense (last_cell K own othe
 
     gone : (o : Option ℕ) → run_began K own other sense ≡ o → has_sense (last_cell K own other) sense ≡ false → Some (unwrap_or o (length K)) ≡ Some (length K)
     gone None e none = refl
-    gone (Some b) e none = absurd (let has = has-its-own (last_cell K own other) sense (run-sense K own other sense b e) in let z : true ≡ false = sym has ∙ none in cc)
+    gone (Some b) e none = absurd (let has = has-from (last_cell K own other) sense (run-sense K own other sense b e) in let z : true ≡ false = sym has ∙ none in cc)
 
 run-commit : (K : List Entry) (own other : ℕ) (cell : Cell) →
     option_and_then (λ sense. cond (has_sense cell sense) (Some (unwrap_or (run_began K own other sense) (length K))) None) (sense_of cell)
@@ -59,7 +50,7 @@ run-commit : (K : List Entry) (own other : ℕ) (cell : Cell) →
 run-commit K own other Clear = refl
 run-commit K own other Traffic = refl
 run-commit K own other (Ra it) =
-    cond-true (is_same_sense it.sense it.sense) (Some (unwrap_or (run_began K own other it.sense) (length K))) None (is-same it.sense) ∙ run-or-new K own other it.sense
+    cond-true (is_same_sense it.sense it.sense) (Some (unwrap_or (run_began K own other it.sense) (length K))) None (same-refl it.sense) ∙ run-or-new K own other it.sense
 
 -- ---- one pair
 

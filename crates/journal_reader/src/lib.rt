@@ -10,5 +10,5 @@ mod links;
 mod reader;
 mod taking;
 
-pub use links::{GoodTake, has_sense, sense_of};
+pub use links::GoodTake;
 pub use reader::Reader;

@@ -1,10 +1,9 @@
 // What is kept of an aircraft against another one.
 ghost use Rattle.std.specs.Prelude.{◌≡◌, ◌<◌, length, replicate};
-ghost use Rattle.acas_base.specs.Senses.{has_sense, sense_of};
 ghost use Rattle.acas_base.specs.declared.TheConstants.{CRAFTS};
 ghost use Rattle.journal_reader.specs.Links.{PairIs, RowIs, no_link, run_after};
 
-use acas_base::{CRAFTS, Cell, Cells, PAIRS, Sense, Vrc, pair_of};
+use acas_base::{CRAFTS, Cell, Cells, PAIRS, Vrc, pair_of};
 
 /// A take of an undamaged copy of another aircraft's message.
 #[derive(Clone, Copy, Debug, PartialEq, Eq)]
@@ -42,32 +41,12 @@ pub(crate) fn no_links() -> [Link; PAIRS]
     [link; PAIRS]
 }
 
-/// The sense of a cell's advisory; none where it has none.
-pub fn sense_of(cell: Cell) -> Option<Sense>
-    ensures { result ≡ sense_of cell }
-{
-    match cell {
-        Cell::Clear | Cell::Traffic => None,
-        Cell::Ra(intent) => Some(intent.sense),
-    }
-}
-
-/// Whether a cell has an advisory of this sense.
-pub fn has_sense(cell: Cell, sense: Sense) -> bool
-    ensures { result ≡ has_sense cell sense }
-{
-    match cell {
-        Cell::Clear | Cell::Traffic => false,
-        Cell::Ra(intent) => intent.sense == sense,
-    }
-}
-
 // Where the run began that an aircraft has after a commit at this position with this cell.
 fn run_after(link: &Link, cell: Cell, at: u32) -> Option<u32>
     ensures { result ≡ run_after link.now cell at }
 {
-    let sense = sense_of(cell)?;
-    if has_sense(link.cell, sense) {
+    let sense = cell.sense()?;
+    if link.cell.has_sense(sense) {
         link.run
     } else {
         Some(at)

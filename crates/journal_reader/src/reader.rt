@@ -16,9 +16,6 @@ use acas_base::{CRAFTS, Cell, PAIRS, Vrc, pair_of};
 use air_journal::{AirState, EntryRef};
 use std::marker::Model;
 
-// A complement that isn't renewed binds while its taker has made fewer than so many commits since.
-const LAPSE: u32 = 6;
-
 /// A journal, read up to the entry that comes next.
 #[derive(Drop)]
 pub struct Reader<'a> {
@@ -196,13 +193,9 @@ impl<'a> Reader<'a> {
         requires other { other < CRAFTS }
         ensures { result ≡ complement_from (air_of self.now.encounter) self.now.read own other }
     {
-        let Some(taken) = self.last_take(own, other) else {
-            return Vrc::Nil;
-        };
-        if u32::from(self.commits(own)) < u32::from(taken.commits) + LAPSE {
-            taken.vrc
-        } else {
-            Vrc::Nil
+        match self.last_take(own, other) {
+            Some(taken) => taken.vrc.in_force(taken.commits, self.commits(own)),
+            None => Vrc::Nil,
         }
     }
 }

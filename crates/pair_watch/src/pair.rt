@@ -6,7 +6,7 @@ ghost use Rattle.journal_reader.specs.Reading.{present_run};
 ghost use Rattle.pair_watch.specs.Watching.{begun_sense, cause_of, equal_sense, is_at, is_first, is_second, is_watched};
 
 use acas_base::{Encounter, Rank, Sense};
-use journal_reader::{Reader, has_sense, sense_of};
+use journal_reader::Reader;
 
 /// Two aircraft, of which the second one gives way.
 #[derive(Clone, Copy, Debug, PartialEq, Eq)]
@@ -63,8 +63,8 @@ fn equal_sense(reader: &Reader<'_>, pair: Pair) -> Option<Sense>
     requires high { pair.high < CRAFTS }
     ensures { result ≡ equal_sense reader.now.read pair.low pair.high }
 {
-    let sense = sense_of(reader.last_cell(pair.high, pair.low))?;
-    if has_sense(reader.last_cell(pair.low, pair.high), sense) {
+    let sense = reader.last_cell(pair.high, pair.low).sense()?;
+    if reader.last_cell(pair.low, pair.high).has_sense(sense) {
         Some(sense)
     } else {
         None

@@ -8,7 +8,6 @@ ghost use Rattle.pair_watch.specs.Watching.{HasCells, equal_sense, is_send_from,
 use crate::pair::Pair;
 use acas_base::{Cell, Sense};
 use air_journal::{AirState, EntryRef};
-use journal_reader::has_sense;
 
 // The cell for the other one in a commit of one of a pair; none where the entry is no such commit.
 fn pair_cell(entry: &EntryRef<'_>, pair: Pair) -> Option<Cell>
@@ -47,7 +46,7 @@ pub(crate) fn last_of(state: &AirState, pair: Pair, sense: Sense, from: u32) -> 
             return last;
         };
         if let Some(cell) = pair_cell(&entry, pair) {
-            if !has_sense(cell, sense) {
+            if !cell.has_sense(sense) {
                 return last;
             }
             last = at;

@@ -83,10 +83,9 @@ ended-complete air J sound l ended = at_slowest (slowest air sound J)
         absurd (ended (Take i d.send d.copy (is_some (read_copy air (sent_at J d.send) d.copy))) (record {
           even = even;
           nobody_owes = owes;
-          allowed = record { active = f.holds.active; due = d.due; good_is = refl };
+          allowed = record { active = f.holds.active; due = d.first.due; good_is = refl };
           first = f.before;
-          first_send = d.first_send;
-          first_copy = d.first_copy;
+          first_due = d.first;
         }))
     at_takes k slow even owes (inr none) = at_idle k slow (record { nobody_owes = owes; nobody_is_due = none })
 

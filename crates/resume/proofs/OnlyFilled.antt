@@ -21,8 +21,7 @@ send-or-take air K i j n w k p c good one two = owes-then air K i j n w one.allo
 same-take : (air : Air) (K : List Entry) (i p c k q d : ℕ) (good fine : Bool) → IsFirstTake air K i p c good → IsFirstTake air K k q d fine → Take i p c good ≡ Take k q d fine
 same-take air K i p c k q d good fine one two =
     first-take-once air K i p c k q d good fine
-    one.allowed one.first (λ before h copy. one.first_due.first before copy h) one.first_due.first_copy
-    two.allowed two.first (λ before h copy. two.first_due.first before copy h) two.first_due.first_copy
+    one.allowed one.first one.first_due two.allowed two.first two.first_due
 
 next-once : (air : Air) (K : List Entry) (x y : Entry) → FillsNext air K x → FillsNext air K y → x ≡ y
 next-once air K x y (in_order next may) (in_order then can) = comes-once air K x y next then

@@ -105,8 +105,7 @@ take-step air sound K J own s (is_even even) f = record {
     nobody_owes = f.first.nobody_owes;
     allowed = f.first.allowed;
     first = f.first.first;
-    first_send = λ q lt d. f.first.first_due.first q d lt;
-    first_copy = f.first.first_due.first_copy;
+    first_due = f.first.first_due;
   }) f.first.allowed;
   new_is = f.new_is;
 }

@@ -75,8 +75,7 @@ taken-one air K J own n position good b s =
         nobody_owes = b.sent;
         allowed = s.took.allowed;
         first = b.taken;
-        first_send = λ q lt d. s.first.first q d lt;
-        first_copy = s.first.first_copy;
+        first_due = s.first;
       }) s.took.allowed);
       after = record {
         level = b.level;

@@ -2,9 +2,8 @@
 use Rattle.std.specs.Prelude.{◌≡◌, ℕ, ◌<◌, Bool, true, List, ◌∷◌}
 use Rattle.acas_base.specs.declared.entry.Entry.{Entry}
 use Rattle.acas_base.specs.declared.entry.Entry.TheVariants.{Send, Take}
-use Rattle.air_journal.specs.Calls.{IsFirstDue}
 use Rattle.air_rules.specs.Air.{Air, is_active}
-use Rattle.air_rules.specs.Due.{NothingDue}
+use Rattle.air_rules.specs.Due.{IsFirstDue, NothingDue}
 use Rattle.air_rules.specs.Owed.{NobodyOwes, OwesNothing}
 use Rattle.air_rules.specs.Rules.{IsAllowed, MaySend, MayTake}
 use Rattle.air_rules.specs.Serial.{ComesNext}

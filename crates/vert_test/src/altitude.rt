@@ -1,9 +1,9 @@
 // The altitude test.
-ghost use Rattle.std.specs.Prelude.{◌↔◌, IsTrue, ◌<◌, ◌≤◌, ◌^◌, ℤ, pos, unsigned_abs};
+ghost use Rattle.std.specs.Prelude.{◌≡◌, ◌↔◌, IsTrue, ◌<◌, ◌≤◌, ◌^◌, ℤ, pos, unsigned_abs};
 ghost use Rattle.acas_base.specs.Ranges.{IsBetween};
 ghost use Rattle.acas_num.specs.Seconds.{need};
 ghost use Rattle.acas_base.specs.declared.level.Row.{Row};
-ghost use Rattle.vert_test.specs.AltTest.{AreOpposite, IsAltHit, is_altitude_hit};
+ghost use Rattle.vert_test.specs.AltTest.{IsAltHit, are_opposite, is_altitude_hit};
 
 use acas_base::Row;
 
@@ -30,11 +30,11 @@ pub fn alt_test(dz: i64, dzdot: i64, row: &Row) -> bool
     }
 }
 
-// Whether one number is below zero and the other above it.
-fn are_opposite(a: i64, b: i64) -> bool
-    ensures { IsTrue result ↔ AreOpposite a b }
+/// Whether one number is below zero and the other above it.
+pub fn are_opposite(a: i64, b: i64) -> bool
+    ensures { result ≡ are_opposite a b }
 {
-    if a < 0 { b > 0 } else { a > 0 && b < 0 }
+    (a < 0 && b > 0) || (a > 0 && b < 0)
 }
 
 // Whether `rate` a second make up `height` within `tau` s, without a division: the product is at most 2^35.

@@ -3,4 +3,4 @@
 
 mod altitude;
 
-pub use altitude::{alt_test, alt_test_law};
+pub use altitude::{alt_test, alt_test_law, are_opposite};

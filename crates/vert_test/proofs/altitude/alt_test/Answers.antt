@@ -2,11 +2,11 @@ use Rattle.std.proofs.Common.{◌≡◌, ◌↔◌, ℕ, ◌<◌, ◌≤◌, Boo
 use Rattle.std.proofs.lemmas.Int.{to_z-of_z}
 use Rattle.acas_base.specs.declared.level.Row.{Row}
 use Rattle.acas_num.specs.Seconds.{need}
-use Rattle.vert_test.specs.AltTest.{AreOpposite, IsAltHit}
+use Rattle.vert_test.specs.AltTest.{IsAltHit, are_opposite}
 use Rattle.vert_test.proofs.altitude.alt_test.Goals as goal
 
 -- Beyond ZTHR and converging, the time alone decides.
-beyond : (dz dzdot : ℤ) (row : Row) (b : Bool) → unsigned_abs row.zthr < unsigned_abs dz → AreOpposite dz dzdot →
+beyond : (dz dzdot : ℤ) (row : Row) (b : Bool) → unsigned_abs row.zthr < unsigned_abs dz → IsTrue (are_opposite dz dzdot) →
     (IsTrue b ↔ (need (unsigned_abs dz) (unsigned_abs dzdot) ≤ unsigned_abs row.tau)) → IsTrue b ↔ IsAltHit dz dzdot row
 beyond dz dzdot row b far opposite soon = (
   λ h. inr (record { converging = opposite; soon = soon.0 h }),
@@ -23,5 +23,5 @@ returns-then-are_opposite c =
     let tau = abs-is _ c.args.row.now.tau (search rules) c.unsigned_abs-then-are_opposite-2.ensures.value in
     let zthr = abs-is _ c.args.row.now.zthr (search rules) c.unsigned_abs.ensures.value in
     let far : unsigned_abs c.args.row.now.zthr < unsigned_abs c.args.dz = omega arith in
-    let opposite : AreOpposite c.args.dz c.args.dzdot = search rules in
+    let opposite : IsTrue (are_opposite c.args.dz c.args.dzdot) = search rules in
     beyond c.args.dz c.args.dzdot c.args.row.now _ far opposite (rw (height, rate, tau) at c.is_soon.ensures)

@@ -3,10 +3,10 @@ use Rattle.acas_base.specs.declared.TheConstants.{CRAFTS}
 use Rattle.air_journal.proofs.Bounds.{active-is, below-all}
 use Rattle.air_journal.proofs.Telling.{all-ordered, count-is, found-first, found-waits, narrowed, none-due, none-narrowed}
 use Rattle.air_journal.specs.Airs.{air_of}
-use Rattle.air_journal.specs.Calls.{IsFirstDue, TookCopy}
+use Rattle.air_journal.specs.Calls.{TookCopy}
 use Rattle.air_journal.specs.States.{State}
 use Rattle.air_rules.specs.Air.{is_active}
-use Rattle.air_rules.specs.Due.{NothingDue}
+use Rattle.air_rules.specs.Due.{IsFirstDue, NothingDue}
 use Rattle.air_rules.specs.Journal.{commits}
 use Rattle.craft_view.specs.Kept.{IsActive}
 use Rattle.air_journal.proofs.state.AirState.take.Goals as goal
