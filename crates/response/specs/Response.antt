@@ -5,8 +5,7 @@ use Rattle.std.specs.Fmt.{decimal}
 use Rattle.std.specs.List.{flat_map, list_all, list_any, range_with_len}
 use Rattle.std.specs.Option.{option_map_or}
 use Rattle.acas_base.specs.Encounter.{Parts}
-use Rattle.acas_base.specs.declared.advisory.Cell.{Cell}
-use Rattle.acas_base.specs.declared.advisory.Cell.TheVariants.{Clear, Traffic, Ra}
+use Rattle.acas_base.specs.Messages.{has_advisory}
 use Rattle.acas_base.specs.declared.advisory.Cells.{Cells}
 use Rattle.acas_base.specs.declared.entry.Entry.{Entry}
 use Rattle.acas_lines.specs.Lines.{count_line, joined, line_of}
@@ -20,15 +19,9 @@ use Rattle.response.specs.Flown.{flown}
 
 -- ---- pairs
 
--- The cell is a resolution advisory.
-abbrev pub is_resolution : Cell → Bool
-is_resolution Clear = false
-is_resolution Traffic = false
-is_resolution (Ra advisory) = true
-
 abbrev pub resolves_in : Option Cells → ℕ → Bool
 resolves_in None other = false
-resolves_in (Some cells) other = is_resolution (cell_at cells other)
+resolves_in (Some cells) other = has_advisory (cell_at cells other)
 
 -- In some of so many commits an aircraft has a resolution advisory against another one.
 abbrev pub resolves : List Entry → ℕ → ℕ → ℕ → Bool
