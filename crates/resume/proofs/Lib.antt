@@ -1,7 +1,4 @@
 pub mod Stable
 pub mod Turns
-pub mod Readying
 pub mod Filled
-pub mod Activity
-pub mod Looking
 pub mod Stepping
