@@ -12,6 +12,7 @@ use Rattle.flight.specs.Inside.{IsInside}
 use Rattle.rec_audit.specs.Differing.{DifferAt}
 use Rattle.rec_audit.specs.Opening.{IsWrongOpening, Opens, first_entry}
 use Rattle.rec_audit.specs.Replays.{Replays, StopsAt}
+use Rattle.rec_audit.specs.declared.opening.TheConstants.{MOST_TOLD}
 use Rattle.rec_audit.specs.declared.verdict.Reason.{Reason}
 use Rattle.rec_audit.specs.declared.verdict.Reason.TheVariants.{Spelling, Incomplete, Report}
 use Rattle.rec_audit.specs.declared.verdict.Loaded.{Loaded}
@@ -68,7 +69,7 @@ pub record IsBeginningOf (bytes : List ℕ) (state : State) : Type 0 where
   pub inside : IsInside state.encounter
   pub legal : IsLegal (air_of state.encounter) state.journal
   pub count : ℕ
-  pub told : count ≤ 999999999
+  pub told : count ≤ MOST_TOLD
   pub within : length state.journal ≤ count
   pub bytes_are : bytes ≡ joined (head_line ∷ (canonical_lines state.encounter ++ journal_line count ∷ entry_lines (length state.encounter.crafts) state.journal))
 
