@@ -1,5 +1,6 @@
 // The entries that the state of the air allows.
 ghost use Rattle.std.specs.Prelude.{◌≡◌, ◌≢◌, ℕ, ◌<◌, IsTrue, MatchBool, Some, length, option_map};
+ghost use Rattle.acas_base.specs.Ranges.{IsCycle};
 ghost use Rattle.acas_base.specs.declared.entry.Entry.{Entry};
 ghost use Rattle.air_journal.specs.Airs.{air_of};
 ghost use Rattle.air_journal.specs.EntryRefs.{entry_of};
@@ -10,23 +11,33 @@ ghost use Rattle.rec_audit.specs.declared.keys.Key.{Key};
 ghost use Rattle.craft_view.specs.Looking.{AreReady};
 
 use crate::keys::Key;
-use crate::sky::Sky;
 use air_journal::{AirState, Commit, EntryRef, Sent, TookThis};
 use craft_view::{Surveillance, is_active};
+use flight::Places;
+
+// Makes the places of another cycle. All that look in one cycle share them.
+fn move_to(places: &mut Places<'_>, cycle: u16)
+    requires { IsCycle cycle }
+    ensures { places.new ≡ record { encounter = places.old.encounter; cycle = cycle } }
+{
+    if places.cycle() != cycle {
+        *places = Places::new(places.encounter(), cycle);
+    }
+}
 
 // Commits an aircraft's cycle, where that is allowed.
 fn commit_like(
     state: &mut AirState,
     surveillance: &mut Surveillance,
-    sky: &mut Sky<'_>,
+    places: &mut Places<'_>,
     own: u8,
     cycle: u16,
 ) -> bool
-    requires same { sky.old.encounter ≡ state.old.encounter }
+    requires same { places.old.encounter ≡ state.old.encounter }
     requires key { IsKey (length state.old.encounter.crafts) (Key.Commit own cycle) }
     requires ready { AreReady state.old.encounter (commits state.old.journal) surveillance.old.crafts }
     ensures encounter { state.new.encounter ≡ state.old.encounter }
-    ensures sky { sky.new.encounter ≡ state.old.encounter }
+    ensures places { places.new.encounter ≡ state.old.encounter }
     ensures asks { Asks (air_of state.old.encounter) state.old.journal state.new.journal (Key.Commit own cycle) result }
     ensures ready { IsTrue result → AreReady state.old.encounter (commits state.new.journal) surveillance.new.crafts }
 {
@@ -40,8 +51,8 @@ fn commit_like(
     if cycle > state.enc().cycles() {
         return false;
     }
-    sky.move_to(cycle);
-    surveillance.look(own, sky.places());
+    move_to(places, cycle);
+    surveillance.look(own, places);
     match state.commit(own, &surveillance.picture) {
         Commit::Done(_) => true,
         _ => false,
@@ -90,19 +101,19 @@ fn take_like(state: &mut AirState, own: u8, send: u32, copy: u8) -> bool
 pub(crate) fn ask(
     state: &mut AirState,
     surveillance: &mut Surveillance,
-    sky: &mut Sky<'_>,
+    places: &mut Places<'_>,
     about: Key,
 ) -> bool
-    requires same { sky.old.encounter ≡ state.old.encounter }
+    requires same { places.old.encounter ≡ state.old.encounter }
     requires key { IsKey (length state.old.encounter.crafts) about }
     requires ready { AreReady state.old.encounter (commits state.old.journal) surveillance.old.crafts }
     ensures encounter { state.new.encounter ≡ state.old.encounter }
-    ensures sky { sky.new.encounter ≡ state.old.encounter }
+    ensures places { places.new.encounter ≡ state.old.encounter }
     ensures asks { Asks (air_of state.old.encounter) state.old.journal state.new.journal about result }
     ensures ready { IsTrue result → AreReady state.old.encounter (commits state.new.journal) surveillance.new.crafts }
 {
     match about {
-        Key::Commit { own, cycle } => commit_like(state, surveillance, sky, own, cycle),
+        Key::Commit { own, cycle } => commit_like(state, surveillance, places, own, cycle),
         Key::Send { own, target } => send_like(state, own, target),
         Key::Take { own, send, copy } => take_like(state, own, send, copy),
     }

@@ -10,10 +10,10 @@ use crate::compare::take_text;
 use crate::fault::Fault;
 use crate::lines::TextLines;
 use crate::replay::replay;
-use crate::sky::Sky;
 use crate::verdict::Reason;
 use air_journal::AirState;
 use craft_view::Surveillance;
+use flight::Places;
 use rec_text::Closing;
 
 // The number of the first line that isn't the one of the report and the close, where there is one.
@@ -47,11 +47,11 @@ pub(crate) fn replay_to_end(
     extent: Extent,
     state: &mut AirState,
     surveillance: &mut Surveillance,
-    sky: &mut Sky<'_>,
+    places: &mut Places<'_>,
     lines: &mut TextLines<'_>,
     count: u32,
 ) -> Result<(), Fault>
-    requires same { sky.old.encounter ≡ state.old.encounter }
+    requires same { places.old.encounter ≡ state.old.encounter }
     requires empty { state.old.journal ≡ [] }
     requires ready { AreReady state.old.encounter (commits []) surveillance.old.crafts }
     requires first { lines.old.taken + 1 ≡ first_entry state.old.encounter }
@@ -60,7 +60,7 @@ pub(crate) fn replay_to_end(
         (λ _. ReplayedTo extent state.old.encounter lines.old.left count state.new.journal)
         (λ fault. IsWrongIn extent state.old.encounter count lines.old.left fault.line fault.reason) }
 {
-    if let Err(fault) = replay(state, surveillance, sky, lines, count) {
+    if let Err(fault) = replay(state, surveillance, places, lines, count) {
         return Err(fault);
     }
     let line = lines.number();

@@ -7,11 +7,11 @@ ghost use Rattle.rec_audit.specs.Opening.{first_entry};
 use crate::endings::{Extent, replay_to_end};
 use crate::lines::TextLines;
 use crate::opening::{Opened, open};
-use crate::sky::Sky;
 use crate::verdict::{Loaded, Verdict};
 use acas_base::Encounter;
 use air_journal::AirState;
 use craft_view::Surveillance;
+use flight::Places;
 use std::alloc::{AllocError, Global};
 
 // Replays what follows the number of entries.
@@ -29,12 +29,12 @@ fn load_entries(
 {
     state.legal_law();
     let mut surveillance = Surveillance::new(encounter);
-    let mut sky = Sky::new(encounter);
+    let mut places = Places::new(encounter, 1);
     match replay_to_end(
         extent,
         &mut state,
         &mut surveillance,
-        &mut sky,
+        &mut places,
         &mut lines,
         count,
     ) {

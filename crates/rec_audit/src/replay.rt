@@ -15,12 +15,12 @@ use crate::entries::read_entry;
 use crate::fault::Fault;
 use crate::keys::read_key;
 use crate::lines::TextLines;
-use crate::sky::Sky;
 use crate::verdict::Reason;
 use acas_base::Entry;
 use acas_text::Line;
 use air_journal::AirState;
 use craft_view::Surveillance;
+use flight::Places;
 use rec_text::set_entry_line;
 
 // Takes the next line where it is that of the entry at a position. That line is made again.
@@ -54,14 +54,14 @@ fn read_first(lines: &TextLines<'_>, count: u8) -> Option<Entry>
 fn add_next(
     state: &mut AirState,
     surveillance: &mut Surveillance,
-    sky: &mut Sky<'_>,
+    places: &mut Places<'_>,
     made: &mut Line,
     lines: &mut TextLines<'_>,
 ) -> Result<(), Reason>
-    requires same { sky.old.encounter ≡ state.old.encounter }
+    requires same { places.old.encounter ≡ state.old.encounter }
     requires ready { AreReady state.old.encounter (commits state.old.journal) surveillance.old.crafts }
     ensures encounter { state.new.encounter ≡ state.old.encounter }
-    ensures sky { sky.new.encounter ≡ state.old.encounter }
+    ensures places { places.new.encounter ≡ state.old.encounter }
     ensures added { MatchResult result
         (λ _. AddedNext (air_of state.old.encounter) state.old.journal state.new.journal lines.old lines.new)
         (λ reason. IsWrongNext (air_of state.old.encounter) state.old.journal lines.old.left reason) }
@@ -73,7 +73,7 @@ fn add_next(
         return Err(Reason::Spelling);
     };
     let at = state.count();
-    if !ask(state, surveillance, sky, about) {
+    if !ask(state, surveillance, places, about) {
         return match read_first(lines, count) {
             Some(_) => Err(Reason::NotAllowed),
             None => Err(Reason::Spelling),
@@ -92,11 +92,11 @@ fn add_next(
 pub(crate) fn replay(
     state: &mut AirState,
     surveillance: &mut Surveillance,
-    sky: &mut Sky<'_>,
+    places: &mut Places<'_>,
     lines: &mut TextLines<'_>,
     most: u32,
 ) -> Result<(), Fault>
-    requires same { sky.old.encounter ≡ state.old.encounter }
+    requires same { places.old.encounter ≡ state.old.encounter }
     requires empty { state.old.journal ≡ [] }
     requires ready { AreReady state.old.encounter (commits []) surveillance.old.crafts }
     ensures encounter { state.new.encounter ≡ state.old.encounter }
@@ -110,7 +110,7 @@ pub(crate) fn replay(
             return Ok(());
         }
         let line = lines.number();
-        if let Err(reason) = add_next(state, surveillance, sky, &mut made, lines) {
+        if let Err(reason) = add_next(state, surveillance, places, &mut made, lines) {
             return Err(Fault { line, reason });
         }
     }

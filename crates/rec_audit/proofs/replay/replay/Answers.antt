@@ -11,7 +11,7 @@ use Rattle.rec_audit.proofs.replay.replay.Goals as goal
 pub loop-init : goal.loop-init
 loop-init c = record {
   encounter = refl;
-  sky = c.requires.same;
+  places = c.requires.same;
   ready = subst (λ (K : List Entry). AreReady c.args.state.now.encounter (commits K) c.args.surveillance.now.crafts) (sym c.requires.empty) c.requires.ready;
   reaches = reaches-none (air_of c.args.state.now.encounter) c.args.lines.now c.args.state.now.journal c.requires.empty;
 }
@@ -22,7 +22,7 @@ loop-preserved c =
     let added = rw (i.encounter) at c.in_default.ensures.added in
     record {
       encounter = c.add_next.ensures.encounter ∙ i.encounter;
-      sky = c.add_next.ensures.sky ∙ i.encounter;
+      places = c.add_next.ensures.places ∙ i.encounter;
       ready = subst (λ (e : Parts). AreReady e (commits c.add_next.new.state.journal) c.add_next.new.surveillance.crafts) i.encounter c.in_default.ensures.ready;
       reaches = reaches-more (air_of c.args.state.now.encounter) c.args.lines.now c.loop.lines c.add_next.new.lines c.loop.counter c.loop.state.journal c.add_next.new.state.journal i.reaches added;
     }

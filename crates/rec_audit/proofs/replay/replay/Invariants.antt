@@ -9,7 +9,7 @@ use Rattle.rec_audit.proofs.replay.replay.Given as goal
 abbrev pub invariant-loop : goal.invariant-loop
 invariant-loop l = record {
   encounter : l.state.encounter ≡ l.fn.state.encounter;
-  sky : l.sky.encounter ≡ l.fn.state.encounter;
+  places : l.places.encounter ≡ l.fn.state.encounter;
   ready : AreReady l.fn.state.encounter (commits l.state.journal) l.surveillance.crafts;
   reaches : Reaches (air_of l.fn.state.encounter) l.fn.lines l.lines l.counter l.state.journal;
 }
