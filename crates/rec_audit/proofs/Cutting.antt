@@ -12,7 +12,7 @@ use Rattle.rec_audit.specs.Fields.{fields_of}
 use Rattle.rec_audit.specs.Opening.{HasNoEnd, end_line}
 use Rattle.rec_audit.specs.declared.opening.TheConstants.{MOST_TOLD}
 use Rattle.rec_text.proofs.HighBytes.{High, each-lacks, high-decimal, line-whole}
-use Rattle.acas_lines.specs.Cut.{IsLine}
+use Rattle.acas_lines.specs.Split.{IsLine}
 use Rattle.rec_text.proofs.Splits.{split-joined}
 use Rattle.rec_text.proofs.Whole.{each-append}
 use Rattle.rec_text.specs.Recording.{journal_line}

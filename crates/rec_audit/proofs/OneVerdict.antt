@@ -4,8 +4,8 @@ use Rattle.std.specs.List.{AllByRecursion}
 use Rattle.std.proofs.lemmas.List.{append-nil}
 use Rattle.acas_base.specs.Encounter.{IsEncounter, Parts}
 use Rattle.acas_base.specs.declared.entry.Entry.{Entry}
-use Rattle.acas_lines.proofs.Cutting.{cut-joined}
-use Rattle.acas_lines.specs.Cut.{IsLine, lines_of}
+use Rattle.acas_lines.proofs.Splitting.{split-joined}
+use Rattle.acas_lines.specs.Split.{IsLine, lines_of}
 use Rattle.air_journal.proofs.Bounds.{few-crafts, fits, most-few}
 use Rattle.air_journal.specs.Airs.{air_of}
 use Rattle.air_journal.specs.States.{State}
@@ -46,7 +46,7 @@ lined bytes state r =
     let J = state.journal in
     let few : length J ≤ MOST_TOLD = (let f = fits e J r.encounter r.legal in let g = most-few e r.encounter in omega arith) in
     record {
-      opens = record { encounter = r.encounter; inside = r.inside; told = few; begins = ap lines_of r.bytes_are ∙ cut-joined (recording_lines e J) (recording-whole e J r.encounter r.legal) };
+      opens = record { encounter = r.encounter; inside = r.inside; told = few; begins = ap lines_of r.bytes_are ∙ split-joined (recording_lines e J) (recording-whole e J r.encounter r.legal) };
       all = record { replays = record { legal = r.legal; begins = refl }; count_is = refl; complete = r.complete };
     }
 
@@ -114,7 +114,7 @@ begun bytes state b = record {
   encounter = b.encounter;
   inside = b.inside;
   told = b.told;
-  begins = ap lines_of b.bytes_are ∙ cut-joined (first_lines state.encounter b.count state.journal) (first-whole state.encounter b.count state.journal b.encounter b.told b.legal);
+  begins = ap lines_of b.bytes_are ∙ split-joined (first_lines state.encounter b.count state.journal) (first-whole state.encounter b.count state.journal b.encounter b.told b.legal);
 }
 
 first-all : (bytes : List ℕ) (state : State) → (b : IsBeginningOf bytes state) → ReplayedFirst state.encounter (entry_lines (length state.encounter.crafts) state.journal) b.count state.journal

@@ -2,7 +2,7 @@
 use Rattle.std.specs.Prelude.{◌≡◌, ℕ, ◌+◌, ◌<◌, ◌≤◌, List, [], ◌∷◌, ◌++◌, length}
 use Rattle.acas_base.specs.Encounter.{IsEncounter, Parts}
 use Rattle.acas_base.specs.declared.entry.Entry.{Entry}
-use Rattle.acas_lines.specs.Cut.{lines_of}
+use Rattle.acas_lines.specs.Split.{lines_of}
 use Rattle.acas_lines.specs.Lines.{joined}
 use Rattle.air_journal.specs.Airs.{air_of}
 use Rattle.air_journal.specs.States.{State}

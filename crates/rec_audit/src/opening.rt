@@ -1,7 +1,7 @@
 // What stands before the entries: the first line, the encounter, and the number of entries.
 ghost use Rattle.std.specs.Prelude.{◌≡◌, ◌≢◌, ◌+◌, ◌-◌, ◌<◌, ◌≤◌, ◌^◌, ◌∷◌, [], ℕ, IfOk, MatchBool, MatchOption, MatchResult, codes, length};
 ghost use Rattle.std.specs.Fmt.{decimal};
-ghost use Rattle.acas_lines.specs.Cut.{lines_of};
+ghost use Rattle.acas_lines.specs.Split.{lines_of};
 ghost use Rattle.acas_lines.specs.Lines.{joined};
 ghost use Rattle.rec_audit.specs.Engine.{IsOpened, ReadPart, SkippedPart};
 ghost use Rattle.rec_audit.specs.Cursors.{Took};
