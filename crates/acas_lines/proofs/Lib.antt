@@ -1,3 +1,3 @@
-pub mod Cutting
+pub mod Splitting
 pub mod Counted
 pub mod Ranges

@@ -1,5 +1,5 @@
 pub mod Lines
-pub mod Cut
+pub mod Split
 pub mod Gathering
 pub mod Gathered
 pub mod Counting

@@ -3,13 +3,13 @@
 
 mod batch;
 mod counting;
-mod cut;
 mod lines;
 mod plain;
+mod split;
 mod writer;
 
 pub use counting::count_lines;
-pub use cut::cut_law;
 pub use lines::{LineSink, Text};
 pub use plain::{count_line, fixed_line};
+pub use split::split_law;
 pub use writer::write_text;

@@ -59,6 +59,13 @@ impl<'a> Places<'a> {
         self.encounter
     }
 
+    /// The cycle.
+    pub fn cycle(&self) -> u16
+        ensures { result ≡ self.now.cycle }
+    {
+        self.cycle
+    }
+
     // Where an aircraft is in that cycle.
     fn place_of(&self, craft: u8) -> Place
         requires { craft < length self.now.encounter.crafts }

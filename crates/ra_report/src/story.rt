@@ -1,6 +1,5 @@
 // What is kept of an aircraft's own commits.
 ghost use Rattle.std.specs.Prelude.{◌≡◌, ◌≤◌, ◌∷◌, List, length};
-ghost use Rattle.acas_base.specs.Messages.{has_advisory};
 ghost use Rattle.acas_base.specs.declared.TheConstants.{CRAFTS};
 ghost use Rattle.acas_base.specs.declared.advisory.Cells.{Cells};
 ghost use Rattle.ra_report.specs.Blocks.{block_for, ended, is_increase, is_positive, threats};
@@ -126,15 +125,6 @@ fn ended(block: RaBlock) -> RaBlock
     }
 }
 
-fn has_advisory(cell: Cell) -> bool
-    ensures { result ≡ has_advisory cell }
-{
-    match cell {
-        Cell::Clear | Cell::Traffic => false,
-        Cell::Ra(_) => true,
-    }
-}
-
 impl Threats {
     ghost use Rattle.ra_report.specs.Stories.{with_threat};
 
@@ -156,7 +146,7 @@ impl Threats {
     {
         let mut found = Threats::Nobody;
         for other in 0..count {
-            if has_advisory(cells.list[usize::from(other)]) {
+            if cells.list[usize::from(other)].has_advisory() {
                 found = found.with(other);
             }
         }

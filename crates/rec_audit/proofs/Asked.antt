@@ -16,14 +16,14 @@ use Rattle.air_rules.specs.Due.{is_due}
 use Rattle.air_rules.specs.Journal.{commits}
 use Rattle.air_rules.specs.Owed.{IsFirstOwed, OwesNothing}
 use Rattle.air_rules.specs.Rules.{MayCommit, MaySend, MayTake}
+use Rattle.craft_view.proofs.Looking.{ready-same}
 use Rattle.craft_view.specs.Kept.{Kept}
+use Rattle.craft_view.specs.Looking.{AreReady}
 use Rattle.rec_audit.proofs.Making.{newest-at}
 use Rattle.rec_audit.specs.Asking.{Added, Asks, NothingAbout}
 use Rattle.rec_audit.specs.Keys.{key}
 use Rattle.rec_audit.specs.declared.keys.Key.{Key}
 use Rattle.rec_audit.specs.declared.keys.Key.TheVariants as keys
-use Rattle.resume.proofs.Readying.{ready-same}
-use Rattle.resume.specs.Crews.{AreReady}
 
 -- ---- nothing is allowed
 
@@ -114,5 +114,5 @@ same-commits (Send i t number word) K about is other own = refl
 same-commits (Take i send copy good) K about is other own = refl
 
 -- Who was ready is so after an entry that is no commit.
-pub ready-still : (e : Parts) (K J : List Entry) (about : Key) (crafts : List (Option Kept)) → IsNoCommit about → Added (air_of e) K J about → AreReady e K crafts → AreReady e J crafts
-ready-still e K J about crafts other a ready = ready-same e K J crafts (λ own _. sym (ap (λ (l : List Entry). commits l own) a.new_is ∙ same-commits a.entry K about a.about_is other own)) ready
+pub ready-still : (e : Parts) (K J : List Entry) (about : Key) (crafts : List (Option Kept)) → IsNoCommit about → Added (air_of e) K J about → AreReady e (commits K) crafts → AreReady e (commits J) crafts
+ready-still e K J about crafts other a ready = ready-same e (commits K) (commits J) crafts (λ own _. sym (ap (λ (l : List Entry). commits l own) a.new_is ∙ same-commits a.entry K about a.about_is other own)) ready

@@ -5,8 +5,8 @@ use Rattle.std.proofs.Math.Seq.{take-append_seam}
 use Rattle.std.proofs.lemmas.List.{append_cancel_left}
 use Rattle.std.proofs.lemmas.List.Concat.{flat_map-append}
 use Rattle.acas_base.specs.Encounter.{IsEncounter, Parts}
-use Rattle.acas_lines.proofs.Cutting.{joined-cut}
-use Rattle.acas_lines.specs.Cut.{lines_of}
+use Rattle.acas_lines.proofs.Splitting.{joined-split}
+use Rattle.acas_lines.specs.Split.{lines_of}
 use Rattle.acas_lines.specs.Lines.{joined}
 use Rattle.enc_file.specs.Canonical.{canonical_lines}
 use Rattle.enc_file.specs.Reading.{Explains, Says, reading_of}
@@ -75,7 +75,7 @@ part-read before after there s e valid inside says t =
 -- The lines after the first one are no longer than the text.
 pub later-small : (bytes line : List ℕ) (before after : Cursor) → before.left ≡ lines_of bytes → Took before after (line ∷ []) → length (joined after.left) < 1 + length bytes
 later-small bytes line before after is t =
-    let whole : bytes ≡ line ++ joined after.left = sym (joined-cut bytes) ∙ ap joined (sym is ∙ t.lines_are) in
+    let whole : bytes ≡ line ++ joined after.left = sym (joined-split bytes) ∙ ap joined (sym is ∙ t.lines_are) in
     omega (arith, ap length whole, length-append line (joined after.left))
 
 pub opening-wrong : (bytes : List ℕ) (before after : Cursor) (line : ℕ) (reason : Reason) → before.left ≡ lines_of bytes → Took before after (head_line ∷ []) → IsWrongAfterHead after.left line reason → IsWrongOpening (lines_of bytes) line reason

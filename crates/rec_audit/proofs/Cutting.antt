@@ -9,9 +9,10 @@ use Rattle.rec_audit.specs.Cursors.{Cursor, Took}
 use Rattle.rec_audit.specs.Compared.{took-nothing, took-then}
 use Rattle.rec_audit.specs.Engine.{SkippedPart}
 use Rattle.rec_audit.specs.Fields.{fields_of}
-use Rattle.rec_audit.specs.Opening.{HasNoEnd, end_line, most_told}
+use Rattle.rec_audit.specs.Opening.{HasNoEnd, end_line}
+use Rattle.rec_audit.specs.declared.opening.TheConstants.{MOST_TOLD}
 use Rattle.rec_text.proofs.HighBytes.{High, each-lacks, high-decimal, line-whole}
-use Rattle.acas_lines.specs.Cut.{IsLine}
+use Rattle.acas_lines.specs.Split.{IsLine}
 use Rattle.rec_text.proofs.Splits.{split-joined}
 use Rattle.rec_text.proofs.Whole.{each-append}
 use Rattle.rec_text.specs.Recording.{journal_line}
@@ -50,35 +51,35 @@ skips-all before now s none =
 
 -- ---- the number of entries
 
-journal-high : (n : ℕ) → n ≤ most_told → AllByRecursion High (codes "journal" ∷ decimal n ∷ [])
+journal-high : (n : ℕ) → n ≤ MOST_TOLD → AllByRecursion High (codes "journal" ∷ decimal n ∷ [])
 journal-high n few = ((omega arith, (omega arith, (omega arith, (omega arith, (omega arith, (omega arith, (omega arith, tt))))))), (high-decimal n (omega arith), tt))
 
-pub journal-whole : (n : ℕ) → n ≤ most_told → IsLine (journal_line n)
+pub journal-whole : (n : ℕ) → n ≤ MOST_TOLD → IsLine (journal_line n)
 journal-whole n few = line-whole (codes "journal" ∷ decimal n ∷ []) (each-lacks 10 (codes "journal" ∷ decimal n ∷ []) (omega arith) (journal-high n few))
 
 -- The fields of the line.
-pub journal-fields : (n : ℕ) → n ≤ most_told → fields_of (join_with_byte 44 (codes "journal" ∷ decimal n ∷ [])) ≡ codes "journal" ∷ decimal n ∷ []
+pub journal-fields : (n : ℕ) → n ≤ MOST_TOLD → fields_of (join_with_byte 44 (codes "journal" ∷ decimal n ∷ [])) ≡ codes "journal" ∷ decimal n ∷ []
 journal-fields n few = split-joined (codes "journal") (decimal n ∷ []) (each-lacks 44 (codes "journal" ∷ decimal n ∷ []) (omega arith) (journal-high n few))
 
 -- A line of such a number has its fields.
-pub journal-body : (n : ℕ) (body line : List ℕ) → n ≤ most_told → line ≡ body ++ 10 ∷ [] → journal_line n ≡ line → fields_of body ≡ codes "journal" ∷ decimal n ∷ []
+pub journal-body : (n : ℕ) (body line : List ℕ) → n ≤ MOST_TOLD → line ≡ body ++ 10 ∷ [] → journal_line n ≡ line → fields_of body ≡ codes "journal" ∷ decimal n ∷ []
 journal-body n body line few is same =
     let inside = append_cancel_right (join_with_byte 44 (codes "journal" ∷ decimal n ∷ [])) body (10 ∷ []) (same ∙ is) in
     sym (ap fields_of inside) ∙ journal-fields n few
 
 -- What the fields of a line tell, the line tells.
 pub tells-line : (body line : List ℕ) (r : Option ℕ) → line ≡ body ++ 10 ∷ [] →
-    MatchOption r ((n : ℕ) → n ≤ most_told → fields_of body ≢ codes "journal" ∷ decimal n ∷ []) (λ n. (n ≤ most_told) × (fields_of body ≡ codes "journal" ∷ decimal n ∷ [])) →
-    MatchOption r ((n : ℕ) → n ≤ most_told → journal_line n ≢ line) (λ n. (n ≤ most_told) × (line ≡ journal_line n))
+    MatchOption r ((n : ℕ) → n ≤ MOST_TOLD → fields_of body ≢ codes "journal" ∷ decimal n ∷ []) (λ n. (n ≤ MOST_TOLD) × (fields_of body ≡ codes "journal" ∷ decimal n ∷ [])) →
+    MatchOption r ((n : ℕ) → n ≤ MOST_TOLD → journal_line n ≢ line) (λ n. (n ≤ MOST_TOLD) × (line ≡ journal_line n))
 tells-line body line None is h = λ n few same. h n few (journal-body n body line few is same)
 tells-line body line (Some n) is h = (h.0, is ∙ ap (λ t. t ++ 10 ∷ []) (sym (join_with_byte-slice_split 44 body) ∙ ap (λ fields. join_with_byte 44 fields) h.1))
 
 -- What the fields after the first one tell.
 pub tells-fields : (old rest : List (List ℕ)) (field word : List ℕ) (r : Option ℕ) → old ≡ field ∷ rest → field ≡ word →
-    MatchOption r ((n : ℕ) → n ≤ most_told → rest ≢ decimal n ∷ []) (λ n. (n ≤ most_told) × (rest ≡ decimal n ∷ [])) →
-    MatchOption r ((n : ℕ) → n ≤ most_told → old ≢ word ∷ decimal n ∷ []) (λ n. (n ≤ most_told) × (old ≡ word ∷ decimal n ∷ []))
+    MatchOption r ((n : ℕ) → n ≤ MOST_TOLD → rest ≢ decimal n ∷ []) (λ n. (n ≤ MOST_TOLD) × (rest ≡ decimal n ∷ [])) →
+    MatchOption r ((n : ℕ) → n ≤ MOST_TOLD → old ≢ word ∷ decimal n ∷ []) (λ n. (n ≤ MOST_TOLD) × (old ≡ word ∷ decimal n ∷ []))
 tells-fields old rest field word None all is h = λ n few e. h n few (ap (drop 1) (sym all ∙ e))
 tells-fields old rest field word (Some n) all is h = (h.0, all ∙ ap (λ f. f ∷ rest) is ∙ ap (λ t. word ∷ t) h.1)
 
-pub tells-other : (old rest : List (List ℕ)) (field word : List ℕ) → old ≡ field ∷ rest → field ≢ word → (n : ℕ) → n ≤ most_told → old ≢ word ∷ decimal n ∷ []
+pub tells-other : (old rest : List (List ℕ)) (field word : List ℕ) → old ≡ field ∷ rest → field ≢ word → (n : ℕ) → n ≤ MOST_TOLD → old ≢ word ∷ decimal n ∷ []
 tells-other old rest field word all ne n few = λ e. ne (ap (λ t. get_or t 0 []) (sym all ∙ e))

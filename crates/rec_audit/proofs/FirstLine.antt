@@ -3,9 +3,9 @@ use Rattle.std.proofs.Common.{◌≡◌, ◌≢◌, ℕ, zero, suc, ◌+◌, ◌
 use Rattle.std.specs.Prelude.{◌==◌, MatchOption}
 use Rattle.std.specs.List.{AllByRecursion, onto_first}
 use Rattle.std.proofs.lemmas.List.{take_all, drop_all}
-use Rattle.acas_lines.specs.Cut.{IsLine, lines_of}
+use Rattle.acas_lines.specs.Split.{IsLine, lines_of}
 use Rattle.acas_lines.specs.Lines.{joined}
-use Rattle.acas_lines.proofs.Cutting.{cut-last, cut-one, joined-cut}
+use Rattle.acas_lines.proofs.Splitting.{split-last, split-one, joined-split}
 
 -- No line feed stands before a place.
 abbrev pub NoFeed : List ℕ → ℕ → Type 0
@@ -35,22 +35,22 @@ front-with (c ∷ cs) (suc n) h here = ap (λ t. c ∷ t) (front-with cs n (omeg
 -- By the place of its first line feed.
 pub first-at : (bytes : List ℕ) (n : ℕ) → n < length bytes → NoFeed bytes n → eqb (get_or bytes n 0) 10 ≡ true → lines_of bytes ≡ take (n + 1) bytes ∷ lines_of (drop (n + 1) bytes)
 first-at bytes n h none here =
-    rw add-one (ap lines_of (split-at bytes n h here) ∙ cut-one (take n bytes) (drop (suc n) bytes) (others bytes n (omega arith) none) ∙ ap (λ t. t ∷ lines_of (drop (suc n) bytes)) (sym (front-with bytes n h here)))
+    rw add-one (ap lines_of (split-at bytes n h here) ∙ split-one (take n bytes) (drop (suc n) bytes) (others bytes n (omega arith) none) ∙ ap (λ t. t ∷ lines_of (drop (suc n) bytes)) (sym (front-with bytes n h here)))
 
 -- Where there is none.
 pub first-all : (bytes : List ℕ) → 0 < length bytes → NoFeed bytes (length bytes) → lines_of bytes ≡ take (length bytes) bytes ∷ lines_of (drop (length bytes) bytes)
 first-all [] some none = absurd (omega arith)
 first-all (c ∷ cs) some none =
     let whole = take_all (length (c ∷ cs)) (c ∷ cs) (omega arith) in
-    let one = cut-last c cs (subst (λ t. AllByRecursion (λ d. d ≢ 10) t) whole (others (c ∷ cs) (length (c ∷ cs)) (omega arith) none)) in
+    let one = split-last c cs (subst (λ t. AllByRecursion (λ d. d ≢ 10) t) whole (others (c ∷ cs) (length (c ∷ cs)) (omega arith) none)) in
     one ∙ ap (λ (x : List ℕ). x ∷ []) (sym whole) ∙ ap (λ (y : List ℕ). take (length (c ∷ cs)) (c ∷ cs) ∷ lines_of y) (sym (drop_all (length (c ∷ cs)) (c ∷ cs) (omega arith)))
 
 -- By a whole line that the text begins with.
 pub first-whole : (bytes line : List ℕ) (r : Option (Bor (List ℕ))) → IsLine line → MatchOption r ((rest : List ℕ) → bytes ≢ line ++ rest) (λ x. bytes ≡ line ++ x.now) →
     MatchOption r ((rest : List (List ℕ)) → lines_of bytes ≢ line ∷ rest) (λ x. lines_of bytes ≡ line ∷ lines_of x.now)
-first-whole bytes line None is h = λ rest e. h (joined rest) (sym (joined-cut bytes) ∙ ap joined e)
+first-whole bytes line None is h = λ rest e. h (joined rest) (sym (joined-split bytes) ∙ ap joined e)
 first-whole bytes line (Some x) is h =
-    ap lines_of (h ∙ ap (λ l. l ++ x.now) is.whole ∙ append_assoc is.body (10 ∷ []) x.now) ∙ cut-one is.body x.now is.inside ∙ ap (λ (l : List ℕ). l ∷ lines_of x.now) (sym is.whole)
+    ap lines_of (h ∙ ap (λ l. l ++ x.now) is.whole ∙ append_assoc is.body (10 ∷ []) x.now) ∙ split-one is.body x.now is.inside ∙ ap (λ (l : List ℕ). l ∷ lines_of x.now) (sym is.whole)
 
 onto-few : (c : ℕ) (cs : List ℕ) (lines : List (List ℕ)) → length lines ≤ length cs → length (onto_first c lines) ≤ length (c ∷ cs)
 onto-few c cs [] h = omega arith

@@ -10,9 +10,10 @@ use Rattle.enc_file.specs.Canonical.{canonical_lines, canonical_text}
 use Rattle.enc_file.specs.Reading.{Says, reading_of}
 use Rattle.enc_file.specs.declared.refusal.Refusal.{Refusal}
 use Rattle.flight.specs.Inside.{IsInside}
-use Rattle.rec_audit.specs.Opening.{HasNoEnd, IsCut, IsWrongAfterHead, IsWrongOpening, IsWrongPart, Opens, end_line, most_told, no_count, no_end, no_head, not_canonical, refused, wrong_after_head, wrong_part}
+use Rattle.rec_audit.specs.Opening.{HasNoEnd, IsCut, IsWrongAfterHead, IsWrongOpening, IsWrongPart, Opens, end_line, no_count, no_end, no_head, not_canonical, refused, wrong_after_head, wrong_part}
 use Rattle.rec_audit.specs.declared.verdict.Reason.{Reason}
 use Rattle.rec_audit.specs.declared.verdict.Reason.TheVariants.{Encounter}
+use Rattle.rec_audit.specs.declared.opening.TheConstants.{MOST_TOLD}
 use Rattle.rec_text.proofs.Ends.{canonical-ends, first-end}
 use Rattle.rec_text.specs.Recording.{journal_line}
 
@@ -58,7 +59,7 @@ canonical-cut e lines rest is = let ends = canonical-ends e in record { front = 
 
 -- ---- the number of entries
 
-pub counts-once : (m n : ℕ) → m ≤ most_told → n ≤ most_told → journal_line m ≡ journal_line n → m ≡ n
+pub counts-once : (m n : ℕ) → m ≤ MOST_TOLD → n ≤ MOST_TOLD → journal_line m ≡ journal_line n → m ≡ n
 counts-once m n h k e = decimal_injective m n (omega arith) (omega arith) (append_cancel_right (decimal m) (decimal n) (10 ∷ []) (ap (drop 8) e))
 
 -- ---- what is wrong, once
@@ -91,12 +92,12 @@ opening-once lines l m r s (wrong_after_head {rest = t} is w) (wrong_after_head 
 
 -- ---- what opens isn't wrong
 
-part-right : (e : Parts) (N l : ℕ) (r : Reason) (rest : List (List ℕ)) → Says (canonical_text e) e → N ≤ most_told → IsWrongPart (canonical_lines e) (journal_line N ∷ rest) l r → ⊥
+part-right : (e : Parts) (N l : ℕ) (r : Reason) (rest : List (List ℕ)) → Says (canonical_text e) e → N ≤ MOST_TOLD → IsWrongPart (canonical_lines e) (journal_line N ∷ rest) l r → ⊥
 part-right e N l r rest says few (refused a h) = says-refused (canonical_text e) e a says h
 part-right e N l r rest says few (not_canonical f k ne) = ne (ap canonical_lines (says-once (canonical_text e) e f says k))
 part-right e N l r rest says few (no_count f k same none) = none N rest few refl
 
-head-right : (e : Parts) (N : ℕ) (lines rest : List (List ℕ)) (l : ℕ) (r : Reason) → Says (canonical_text e) e → N ≤ most_told → lines ≡ canonical_lines e ++ journal_line N ∷ rest → IsWrongAfterHead lines l r → ⊥
+head-right : (e : Parts) (N : ℕ) (lines rest : List (List ℕ)) (l : ℕ) (r : Reason) → Says (canonical_text e) e → N ≤ MOST_TOLD → lines ≡ canonical_lines e ++ journal_line N ∷ rest → IsWrongAfterHead lines l r → ⊥
 head-right e N lines rest l r says few is (no_end h) = cut-ends lines (canonical_lines e) (journal_line N ∷ rest) (canonical-cut e lines (journal_line N ∷ rest) is) h
 head-right e N lines rest l r says few is (wrong_part {part = p} {rest = t} c w) =
     let one = cut-once lines p (canonical_lines e) t (journal_line N ∷ rest) c (canonical-cut e lines (journal_line N ∷ rest) is) in

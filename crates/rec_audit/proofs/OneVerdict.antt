@@ -4,8 +4,8 @@ use Rattle.std.specs.List.{AllByRecursion}
 use Rattle.std.proofs.lemmas.List.{append-nil}
 use Rattle.acas_base.specs.Encounter.{IsEncounter, Parts}
 use Rattle.acas_base.specs.declared.entry.Entry.{Entry}
-use Rattle.acas_lines.proofs.Cutting.{cut-joined}
-use Rattle.acas_lines.specs.Cut.{IsLine, lines_of}
+use Rattle.acas_lines.proofs.Splitting.{split-joined}
+use Rattle.acas_lines.specs.Split.{IsLine, lines_of}
 use Rattle.air_journal.proofs.Bounds.{few-crafts, fits, most-few}
 use Rattle.air_journal.specs.Airs.{air_of}
 use Rattle.air_journal.specs.States.{State}
@@ -18,12 +18,13 @@ use Rattle.rec_audit.proofs.OneOpening.{IsSaid, opening-once, opening-right, ope
 use Rattle.rec_audit.proofs.OneWay.{after-once, after-right, beginning-once, beginning-right, end-once}
 use Rattle.rec_audit.specs.Engine.{ReplayedAll, ReplayedFirst}
 use Rattle.rec_audit.specs.Judging.{IsBeginningOf, IsLoaded, IsPartLoaded, IsRecordingOf, IsWrong, IsWrongAfter, IsWrongBeginning, IsWrongInPart, Judged, after_opening, after_opening_of_part, at_opening, at_opening_of_part}
-use Rattle.rec_audit.specs.Opening.{Opens, most_told}
+use Rattle.rec_audit.specs.Opening.{Opens}
 use Rattle.rec_audit.specs.declared.verdict.Loaded.{Loaded}
 use Rattle.rec_audit.specs.declared.verdict.Loaded.TheVariants as loaded
 use Rattle.rec_audit.specs.declared.verdict.Reason.{Reason}
 use Rattle.rec_audit.specs.declared.verdict.Verdict.{Verdict}
 use Rattle.rec_audit.specs.declared.verdict.Verdict.TheVariants as verdict
+use Rattle.rec_audit.specs.declared.opening.TheConstants.{MOST_TOLD}
 use Rattle.rec_text.proofs.Same.{IsTold, encounter-same, journal-same}
 use Rattle.rec_text.proofs.Whole.{canonical-whole, each-append, entries-whole, recording-whole}
 use Rattle.rec_text.specs.Entries.{entry_lines}
@@ -43,9 +44,9 @@ lined : (bytes : List ℕ) (state : State) → IsRecordingOf bytes state → Lin
 lined bytes state r =
     let e = state.encounter in
     let J = state.journal in
-    let few : length J ≤ most_told = (let f = fits e J r.encounter r.legal in let g = most-few e r.encounter in omega arith) in
+    let few : length J ≤ MOST_TOLD = (let f = fits e J r.encounter r.legal in let g = most-few e r.encounter in omega arith) in
     record {
-      opens = record { encounter = r.encounter; inside = r.inside; told = few; begins = ap lines_of r.bytes_are ∙ cut-joined (recording_lines e J) (recording-whole e J r.encounter r.legal) };
+      opens = record { encounter = r.encounter; inside = r.inside; told = few; begins = ap lines_of r.bytes_are ∙ split-joined (recording_lines e J) (recording-whole e J r.encounter r.legal) };
       all = record { replays = record { legal = r.legal; begins = refl }; count_is = refl; complete = r.complete };
     }
 
@@ -104,7 +105,7 @@ loaded-once bytes (loaded.Wrong l r) (loaded.Wrong m s) said a b = loaded-same l
 abbrev first_lines : Parts → ℕ → List Entry → List (List ℕ)
 first_lines e N J = head_line ∷ (canonical_lines e ++ journal_line N ∷ entry_lines (length e.crafts) J)
 
-first-whole : (e : Parts) (N : ℕ) (J : List Entry) → IsEncounter e → N ≤ most_told → IsLegal (air_of e) J → AllByRecursion IsLine (first_lines e N J)
+first-whole : (e : Parts) (N : ℕ) (J : List Entry) → IsEncounter e → N ≤ MOST_TOLD → IsLegal (air_of e) J → AllByRecursion IsLine (first_lines e N J)
 first-whole e N J is few legal =
     ((recording-whole e J is legal).0, each-append IsLine (canonical_lines e) (journal_line N ∷ entry_lines (length e.crafts) J) (canonical-whole e) (journal-whole N few, entries-whole e J is legal))
 
@@ -113,7 +114,7 @@ begun bytes state b = record {
   encounter = b.encounter;
   inside = b.inside;
   told = b.told;
-  begins = ap lines_of b.bytes_are ∙ cut-joined (first_lines state.encounter b.count state.journal) (first-whole state.encounter b.count state.journal b.encounter b.told b.legal);
+  begins = ap lines_of b.bytes_are ∙ split-joined (first_lines state.encounter b.count state.journal) (first-whole state.encounter b.count state.journal b.encounter b.told b.legal);
 }
 
 first-all : (bytes : List ℕ) (state : State) → (b : IsBeginningOf bytes state) → ReplayedFirst state.encounter (entry_lines (length state.encounter.crafts) state.journal) b.count state.journal

@@ -3,8 +3,8 @@ use Rattle.std.proofs.Common.{◌≡◌, ℕ, List, ◌∷◌, ◌++◌, length,
 use Rattle.std.proofs.lemmas.List.{append-nil}
 use Rattle.acas_base.specs.Encounter.{Parts}
 use Rattle.acas_base.specs.declared.entry.Entry.{Entry}
-use Rattle.acas_lines.proofs.Cutting.{joined-cut}
-use Rattle.acas_lines.specs.Cut.{lines_of}
+use Rattle.acas_lines.proofs.Splitting.{joined-split}
+use Rattle.acas_lines.specs.Split.{lines_of}
 use Rattle.acas_lines.specs.Lines.{joined}
 use Rattle.air_journal.specs.States.{State}
 use Rattle.enc_file.specs.Canonical.{canonical_lines}
@@ -32,7 +32,7 @@ recorded bytes e count after state o same r = subst (λ f. IsRecordingOf bytes (
   inside = o.opens.inside;
   legal = r.replays.legal;
   complete = r.complete;
-  bytes_are = sym (joined-cut bytes) ∙ ap joined (recorded-lines e count state.journal (lines_of bytes) after.left o.opens.begins r);
+  bytes_are = sym (joined-split bytes) ∙ ap joined (recorded-lines e count state.journal (lines_of bytes) after.left o.opens.begins r);
 })
 
 -- ---- beginnings
@@ -45,7 +45,7 @@ first-recorded bytes e count after state o same r = subst (λ f. IsBeginningOf b
   count = count;
   told = o.opens.told;
   within = r.within;
-  bytes_are = sym (joined-cut bytes) ∙ ap joined (o.opens.begins ∙ ap (λ t. head_line ∷ (canonical_lines e ++ journal_line count ∷ t)) (r.replays.begins ∙ append-nil (entry_lines (length e.crafts) state.journal)));
+  bytes_are = sym (joined-split bytes) ∙ ap joined (o.opens.begins ∙ ap (λ t. head_line ∷ (canonical_lines e ++ journal_line count ∷ t)) (r.replays.begins ∙ append-nil (entry_lines (length e.crafts) state.journal)));
 })
 
 -- ---- both

@@ -2,7 +2,7 @@
 use Rattle.std.specs.Prelude.{◌≡◌, ℕ, ◌+◌, ◌<◌, ◌≤◌, List, [], ◌∷◌, ◌++◌, length}
 use Rattle.acas_base.specs.Encounter.{IsEncounter, Parts}
 use Rattle.acas_base.specs.declared.entry.Entry.{Entry}
-use Rattle.acas_lines.specs.Cut.{lines_of}
+use Rattle.acas_lines.specs.Split.{lines_of}
 use Rattle.acas_lines.specs.Lines.{joined}
 use Rattle.air_journal.specs.Airs.{air_of}
 use Rattle.air_journal.specs.States.{State}
@@ -12,6 +12,7 @@ use Rattle.flight.specs.Inside.{IsInside}
 use Rattle.rec_audit.specs.Differing.{DifferAt}
 use Rattle.rec_audit.specs.Opening.{IsWrongOpening, Opens, first_entry}
 use Rattle.rec_audit.specs.Replays.{Replays, StopsAt}
+use Rattle.rec_audit.specs.declared.opening.TheConstants.{MOST_TOLD}
 use Rattle.rec_audit.specs.declared.verdict.Reason.{Reason}
 use Rattle.rec_audit.specs.declared.verdict.Reason.TheVariants.{Spelling, Incomplete, Report}
 use Rattle.rec_audit.specs.declared.verdict.Loaded.{Loaded}
@@ -68,7 +69,7 @@ pub record IsBeginningOf (bytes : List ℕ) (state : State) : Type 0 where
   pub inside : IsInside state.encounter
   pub legal : IsLegal (air_of state.encounter) state.journal
   pub count : ℕ
-  pub told : count ≤ 999999999
+  pub told : count ≤ MOST_TOLD
   pub within : length state.journal ≤ count
   pub bytes_are : bytes ≡ joined (head_line ∷ (canonical_lines state.encounter ++ journal_line count ∷ entry_lines (length state.encounter.crafts) state.journal))
 

@@ -8,19 +8,16 @@ use Rattle.enc_file.specs.Reading.{Says, reading_of}
 use Rattle.enc_file.specs.Spelling.{end_record, line_of}
 use Rattle.enc_file.specs.declared.refusal.Refusal.{Refusal}
 use Rattle.flight.specs.Inside.{IsInside}
+use Rattle.rec_audit.specs.declared.opening.TheConstants.{MOST_TOLD}
 use Rattle.rec_audit.specs.declared.verdict.Reason.{Reason}
 use Rattle.rec_audit.specs.declared.verdict.Reason.TheVariants.{Encounter, Spelling}
 use Rattle.rec_text.specs.Recording.{head_line, journal_line}
-
--- The most entries that a recording can tell of.
-abbrev pub most_told : ℕ
-most_told = 999999999
 
 -- The lines are those of an encounter inside the box, the number of entries, and then the rest.
 pub record Opens (e : Parts) (count : ℕ) (lines rest : List (List ℕ)) : Type 0 where
   pub encounter : IsEncounter e
   pub inside : IsInside e
-  pub told : count ≤ most_told
+  pub told : count ≤ MOST_TOLD
   pub begins : lines ≡ head_line ∷ (canonical_lines e ++ journal_line count ∷ rest)
 
 -- The number of the line after it, from 1.
@@ -34,7 +31,7 @@ end_line = line_of end_record
 
 -- No line of these is the number of entries, or it isn't the first.
 abbrev pub NoCount : List (List ℕ) → Type 0
-NoCount lines = (count : ℕ) (rest : List (List ℕ)) → count ≤ most_told → lines ≢ journal_line count ∷ rest
+NoCount lines = (count : ℕ) (rest : List (List ℕ)) → count ≤ MOST_TOLD → lines ≢ journal_line count ∷ rest
 
 -- What is wrong with the lines of an encounter, or with the one after them.
 pub data IsWrongPart (part rest : List (List ℕ)) : ℕ → Reason → Type 0 where

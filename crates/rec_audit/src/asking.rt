@@ -1,34 +1,45 @@
 // The entries that the state of the air allows.
 ghost use Rattle.std.specs.Prelude.{◌≡◌, ◌≢◌, ℕ, ◌<◌, IsTrue, MatchBool, Some, length, option_map};
+ghost use Rattle.acas_base.specs.Ranges.{IsCycle};
 ghost use Rattle.acas_base.specs.declared.entry.Entry.{Entry};
 ghost use Rattle.air_journal.specs.Airs.{air_of};
 ghost use Rattle.air_journal.specs.EntryRefs.{entry_of};
+ghost use Rattle.air_rules.specs.Journal.{commits};
 ghost use Rattle.rec_audit.specs.Asking.{Asks};
 ghost use Rattle.rec_audit.specs.Keys.{IsKey};
 ghost use Rattle.rec_audit.specs.declared.keys.Key.{Key};
-ghost use Rattle.resume.specs.Crews.{AreReady};
+ghost use Rattle.craft_view.specs.Looking.{AreReady};
 
 use crate::keys::Key;
-use crate::sky::Sky;
 use air_journal::{AirState, Commit, EntryRef, Sent, TookThis};
-use craft_view::is_active;
-use resume::Crew;
+use craft_view::{Surveillance, is_active};
+use flight::Places;
+
+// Makes the places of another cycle. All that look in one cycle share them.
+fn move_to(places: &mut Places<'_>, cycle: u16)
+    requires { IsCycle cycle }
+    ensures { places.new ≡ record { encounter = places.old.encounter; cycle = cycle } }
+{
+    if places.cycle() != cycle {
+        *places = Places::new(places.encounter(), cycle);
+    }
+}
 
 // Commits an aircraft's cycle, where that is allowed.
 fn commit_like(
     state: &mut AirState,
-    crew: &mut Crew,
-    sky: &mut Sky<'_>,
+    surveillance: &mut Surveillance,
+    places: &mut Places<'_>,
     own: u8,
     cycle: u16,
 ) -> bool
-    requires same { sky.old.encounter ≡ state.old.encounter }
+    requires same { places.old.encounter ≡ state.old.encounter }
     requires key { IsKey (length state.old.encounter.crafts) (Key.Commit own cycle) }
-    requires crew { AreReady state.old.encounter state.old.journal crew.old.crafts }
+    requires ready { AreReady state.old.encounter (commits state.old.journal) surveillance.old.crafts }
     ensures encounter { state.new.encounter ≡ state.old.encounter }
-    ensures sky { sky.new.encounter ≡ state.old.encounter }
+    ensures places { places.new.encounter ≡ state.old.encounter }
     ensures asks { Asks (air_of state.old.encounter) state.old.journal state.new.journal (Key.Commit own cycle) result }
-    ensures crew { IsTrue result → AreReady state.old.encounter state.new.journal crew.new.crafts }
+    ensures ready { IsTrue result → AreReady state.old.encounter (commits state.new.journal) surveillance.new.crafts }
 {
     state.legal_law();
     if !is_active(state.enc(), own) {
@@ -40,9 +51,9 @@ fn commit_like(
     if cycle > state.enc().cycles() {
         return false;
     }
-    sky.move_to(cycle);
-    crew.look(own, sky.places());
-    match state.commit(own, &crew.picture) {
+    move_to(places, cycle);
+    surveillance.look(own, places);
+    match state.commit(own, &surveillance.picture) {
         Commit::Done(_) => true,
         _ => false,
     }
@@ -87,17 +98,22 @@ fn take_like(state: &mut AirState, own: u8, send: u32, copy: u8) -> bool
 }
 
 /// Adds the entry that is allowed about a thing, where one is.
-pub(crate) fn ask(state: &mut AirState, crew: &mut Crew, sky: &mut Sky<'_>, about: Key) -> bool
-    requires same { sky.old.encounter ≡ state.old.encounter }
+pub(crate) fn ask(
+    state: &mut AirState,
+    surveillance: &mut Surveillance,
+    places: &mut Places<'_>,
+    about: Key,
+) -> bool
+    requires same { places.old.encounter ≡ state.old.encounter }
     requires key { IsKey (length state.old.encounter.crafts) about }
-    requires crew { AreReady state.old.encounter state.old.journal crew.old.crafts }
+    requires ready { AreReady state.old.encounter (commits state.old.journal) surveillance.old.crafts }
     ensures encounter { state.new.encounter ≡ state.old.encounter }
-    ensures sky { sky.new.encounter ≡ state.old.encounter }
+    ensures places { places.new.encounter ≡ state.old.encounter }
     ensures asks { Asks (air_of state.old.encounter) state.old.journal state.new.journal about result }
-    ensures crew { IsTrue result → AreReady state.old.encounter state.new.journal crew.new.crafts }
+    ensures ready { IsTrue result → AreReady state.old.encounter (commits state.new.journal) surveillance.new.crafts }
 {
     match about {
-        Key::Commit { own, cycle } => commit_like(state, crew, sky, own, cycle),
+        Key::Commit { own, cycle } => commit_like(state, surveillance, places, own, cycle),
         Key::Send { own, target } => send_like(state, own, target),
         Key::Take { own, send, copy } => take_like(state, own, send, copy),
     }

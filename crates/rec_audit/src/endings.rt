@@ -1,19 +1,20 @@
 // What follows the number of entries.
 ghost use Rattle.std.specs.Prelude.{◌≡◌, ◌+◌, [], MatchOption, MatchResult};
+ghost use Rattle.air_rules.specs.Journal.{commits};
 ghost use Rattle.rec_audit.specs.Engine.{DiffersFrom, IsWrongIn, ReplayedTo};
 ghost use Rattle.rec_audit.specs.Opening.{first_entry};
 ghost use Rattle.rec_text.specs.Recording.{closing_lines};
-ghost use Rattle.resume.specs.Crews.{AreReady};
+ghost use Rattle.craft_view.specs.Looking.{AreReady};
 
 use crate::compare::take_text;
 use crate::fault::Fault;
 use crate::lines::TextLines;
 use crate::replay::replay;
-use crate::sky::Sky;
 use crate::verdict::Reason;
 use air_journal::AirState;
+use craft_view::Surveillance;
+use flight::Places;
 use rec_text::Closing;
-use resume::Crew;
 
 // The number of the first line that isn't the one of the report and the close, where there is one.
 fn other_end(state: &AirState, lines: &mut TextLines<'_>) -> Option<u32>
@@ -45,21 +46,21 @@ pub(crate) enum Extent {
 pub(crate) fn replay_to_end(
     extent: Extent,
     state: &mut AirState,
-    crew: &mut Crew,
-    sky: &mut Sky<'_>,
+    surveillance: &mut Surveillance,
+    places: &mut Places<'_>,
     lines: &mut TextLines<'_>,
     count: u32,
 ) -> Result<(), Fault>
-    requires same { sky.old.encounter ≡ state.old.encounter }
+    requires same { places.old.encounter ≡ state.old.encounter }
     requires empty { state.old.journal ≡ [] }
-    requires crew { AreReady state.old.encounter [] crew.old.crafts }
+    requires ready { AreReady state.old.encounter (commits []) surveillance.old.crafts }
     requires first { lines.old.taken + 1 ≡ first_entry state.old.encounter }
     ensures encounter { state.new.encounter ≡ state.old.encounter }
     ensures read { MatchResult result
         (λ _. ReplayedTo extent state.old.encounter lines.old.left count state.new.journal)
         (λ fault. IsWrongIn extent state.old.encounter count lines.old.left fault.line fault.reason) }
 {
-    if let Err(fault) = replay(state, crew, sky, lines, count) {
+    if let Err(fault) = replay(state, surveillance, places, lines, count) {
         return Err(fault);
     }
     let line = lines.number();

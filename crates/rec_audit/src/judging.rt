@@ -7,11 +7,11 @@ ghost use Rattle.rec_audit.specs.Opening.{first_entry};
 use crate::endings::{Extent, replay_to_end};
 use crate::lines::TextLines;
 use crate::opening::{Opened, open};
-use crate::sky::Sky;
 use crate::verdict::{Loaded, Verdict};
 use acas_base::Encounter;
 use air_journal::AirState;
-use resume::crew_of;
+use craft_view::Surveillance;
+use flight::Places;
 use std::alloc::{AllocError, Global};
 
 // Replays what follows the number of entries.
@@ -27,9 +27,17 @@ fn load_entries(
     requires first { lines.taken + 1 ≡ first_entry encounter.now }
     ensures { IsReplayed extent encounter.now count lines.entry.left result }
 {
-    let mut crew = crew_of(&state, encounter);
-    let mut sky = Sky::new(encounter);
-    match replay_to_end(extent, &mut state, &mut crew, &mut sky, &mut lines, count) {
+    state.legal_law();
+    let mut surveillance = Surveillance::new(encounter);
+    let mut places = Places::new(encounter, 1);
+    match replay_to_end(
+        extent,
+        &mut state,
+        &mut surveillance,
+        &mut places,
+        &mut lines,
+        count,
+    ) {
         Ok(()) => Loaded::Legal(state),
         Err(fault) => Loaded::Wrong(fault.line, fault.reason),
     }

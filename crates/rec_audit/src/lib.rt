@@ -13,7 +13,6 @@ mod laws;
 mod lines;
 mod opening;
 mod replay;
-mod sky;
 mod values;
 mod verdict;
 

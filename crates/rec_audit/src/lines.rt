@@ -1,6 +1,6 @@
 // The lines of a text, taken one after the other.
 ghost use Rattle.std.specs.Prelude.{◌≡◌, ◌≢◌, ◌∷◌, ◌+◌, ◌<◌, ◌≤◌, ◌-◌, ◌^◌, ◌↔◌, [], List, ℕ, IsTrue, MatchOption, length, take, drop};
-ghost use Rattle.acas_lines.specs.Cut.{IsLine, lines_of};
+ghost use Rattle.acas_lines.specs.Split.{IsLine, lines_of};
 ghost use Rattle.acas_lines.specs.Lines.{joined};
 ghost use Rattle.rec_audit.specs.Cursors.{TakesLine, Took};
 
@@ -18,7 +18,7 @@ pub(crate) struct TextLines<'a> {
 
 impl<'a> Model for TextLines<'a> {
     ghost use Rattle.std.specs.Prelude.{◌+◌, ◌<◌, length};
-    ghost use Rattle.acas_lines.specs.Cut.{lines_of};
+    ghost use Rattle.acas_lines.specs.Split.{lines_of};
     ghost use Rattle.rec_audit.specs.Cursors.{Cursor};
 
     ghost Value = { Cursor };

@@ -1,11 +1,12 @@
 // What stands before the entries: the first line, the encounter, and the number of entries.
 ghost use Rattle.std.specs.Prelude.{◌≡◌, ◌≢◌, ◌+◌, ◌-◌, ◌<◌, ◌≤◌, ◌^◌, ◌∷◌, [], ℕ, IfOk, MatchBool, MatchOption, MatchResult, codes, length};
 ghost use Rattle.std.specs.Fmt.{decimal};
-ghost use Rattle.acas_lines.specs.Cut.{lines_of};
+ghost use Rattle.acas_lines.specs.Split.{lines_of};
 ghost use Rattle.acas_lines.specs.Lines.{joined};
 ghost use Rattle.rec_audit.specs.Engine.{IsOpened, ReadPart, SkippedPart};
 ghost use Rattle.rec_audit.specs.Cursors.{Took};
-ghost use Rattle.rec_audit.specs.Opening.{HasNoEnd, IsWrongAfterHead, IsWrongOpening, NoCount, most_told};
+ghost use Rattle.rec_audit.specs.Opening.{HasNoEnd, IsWrongAfterHead, IsWrongOpening, NoCount};
+ghost use Rattle.rec_audit.specs.declared.opening.TheConstants.{MOST_TOLD};
 ghost use Rattle.rec_text.specs.Recording.{journal_line};
 
 use crate::compare::take_text;
@@ -31,7 +32,7 @@ pub(crate) struct Opened<'a> {
 
 // The number of entries that the fields after the first one tell.
 fn number_in(fields: &mut Fields<'_>) -> Option<u32>
-    ensures { MatchOption result ((count : ℕ) → count ≤ most_told → fields.old ≢ decimal count ∷ []) (λ count. (count ≤ most_told) × (fields.old ≡ decimal count ∷ [])) }
+    ensures { MatchOption result ((count : ℕ) → count ≤ MOST_TOLD → fields.old ≢ decimal count ∷ []) (λ count. (count ≤ MOST_TOLD) × (fields.old ≡ decimal count ∷ [])) }
 {
     let count = fields.number(0, MOST_TOLD)?;
     if !fields.is_done() {
@@ -42,7 +43,7 @@ fn number_in(fields: &mut Fields<'_>) -> Option<u32>
 
 // The number of entries that fields tell.
 fn told_in(fields: &mut Fields<'_>) -> Option<u32>
-    ensures { MatchOption result ((count : ℕ) → count ≤ most_told → fields.old ≢ codes "journal" ∷ decimal count ∷ []) (λ count. (count ≤ most_told) × (fields.old ≡ codes "journal" ∷ decimal count ∷ [])) }
+    ensures { MatchOption result ((count : ℕ) → count ≤ MOST_TOLD → fields.old ≢ codes "journal" ∷ decimal count ∷ []) (λ count. (count ≤ MOST_TOLD) × (fields.old ≡ codes "journal" ∷ decimal count ∷ [])) }
 {
     let word = fields.next()?;
     if word != b"journal".as_slice() {
@@ -53,7 +54,7 @@ fn told_in(fields: &mut Fields<'_>) -> Option<u32>
 
 // The number of entries that a line tells.
 fn count_of(line: &[u8]) -> Option<u32>
-    ensures { MatchOption result ((count : ℕ) → count ≤ most_told → journal_line count ≢ line.now) (λ count. (count ≤ most_told) × (line.now ≡ journal_line count)) }
+    ensures { MatchOption result ((count : ℕ) → count ≤ MOST_TOLD → journal_line count ≢ line.now) (λ count. (count ≤ MOST_TOLD) × (line.now ≡ journal_line count)) }
 {
     let (body, is_whole) = before_flag(line, b'\n');
     if !is_whole {
@@ -76,7 +77,7 @@ fn skip_part(lines: &mut TextLines<'_>) -> bool
 
 // The number of entries that the next line tells.
 fn take_count(lines: &mut TextLines<'_>) -> Option<u32>
-    ensures { MatchOption result (NoCount lines.old.left) (λ count. (count ≤ most_told) × Took lines.old lines.new (journal_line count ∷ [])) }
+    ensures { MatchOption result (NoCount lines.old.left) (λ count. (count ≤ MOST_TOLD) × Took lines.old lines.new (journal_line count ∷ [])) }
 {
     count_of(lines.next()?)
 }

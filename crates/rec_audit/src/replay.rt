@@ -3,24 +3,25 @@ ghost use Rattle.std.specs.Prelude.{◌≡◌, ◌<◌, ◌≤◌, [], IfOk, Mat
 ghost use Rattle.acas_base.specs.declared.TheConstants.{CRAFTS};
 ghost use Rattle.acas_base.specs.declared.entry.Entry.{Entry};
 ghost use Rattle.air_journal.specs.Airs.{air_of};
+ghost use Rattle.air_rules.specs.Journal.{commits};
 ghost use Rattle.rec_audit.specs.Cursors.{TakesLine};
 ghost use Rattle.rec_audit.specs.Engine.{AddedNext, IsWrongNext, Replayed, StoppedAt};
 ghost use Rattle.rec_audit.specs.Reading.{ReadsFirst};
 ghost use Rattle.rec_text.specs.Entries.{entry_line};
-ghost use Rattle.resume.specs.Crews.{AreReady};
+ghost use Rattle.craft_view.specs.Looking.{AreReady};
 
 use crate::asking::ask;
 use crate::entries::read_entry;
 use crate::fault::Fault;
 use crate::keys::read_key;
 use crate::lines::TextLines;
-use crate::sky::Sky;
 use crate::verdict::Reason;
 use acas_base::Entry;
 use acas_text::Line;
 use air_journal::AirState;
+use craft_view::Surveillance;
+use flight::Places;
 use rec_text::set_entry_line;
-use resume::Crew;
 
 // Takes the next line where it is that of the entry at a position. That line is made again.
 fn take_entry_at(state: &AirState, at: u32, made: &mut Line, lines: &mut TextLines<'_>) -> bool
@@ -52,19 +53,19 @@ fn read_first(lines: &TextLines<'_>, count: u8) -> Option<Entry>
 // wrong, to tell why.
 fn add_next(
     state: &mut AirState,
-    crew: &mut Crew,
-    sky: &mut Sky<'_>,
+    surveillance: &mut Surveillance,
+    places: &mut Places<'_>,
     made: &mut Line,
     lines: &mut TextLines<'_>,
 ) -> Result<(), Reason>
-    requires same { sky.old.encounter ≡ state.old.encounter }
-    requires crew { AreReady state.old.encounter state.old.journal crew.old.crafts }
+    requires same { places.old.encounter ≡ state.old.encounter }
+    requires ready { AreReady state.old.encounter (commits state.old.journal) surveillance.old.crafts }
     ensures encounter { state.new.encounter ≡ state.old.encounter }
-    ensures sky { sky.new.encounter ≡ state.old.encounter }
+    ensures places { places.new.encounter ≡ state.old.encounter }
     ensures added { MatchResult result
         (λ _. AddedNext (air_of state.old.encounter) state.old.journal state.new.journal lines.old lines.new)
         (λ reason. IsWrongNext (air_of state.old.encounter) state.old.journal lines.old.left reason) }
-    ensures crew { IfOk result (λ _. AreReady state.old.encounter state.new.journal crew.new.crafts) }
+    ensures ready { IfOk result (λ _. AreReady state.old.encounter (commits state.new.journal) surveillance.new.crafts) }
 {
     state.legal_law();
     let count = state.enc().crafts().len() as u8;
@@ -72,7 +73,7 @@ fn add_next(
         return Err(Reason::Spelling);
     };
     let at = state.count();
-    if !ask(state, crew, sky, about) {
+    if !ask(state, surveillance, places, about) {
         return match read_first(lines, count) {
             Some(_) => Err(Reason::NotAllowed),
             None => Err(Reason::Spelling),
@@ -90,14 +91,14 @@ fn add_next(
 /// Adds the entries of the lines to the empty journal, at most so many, until a line is wrong. It takes no memory.
 pub(crate) fn replay(
     state: &mut AirState,
-    crew: &mut Crew,
-    sky: &mut Sky<'_>,
+    surveillance: &mut Surveillance,
+    places: &mut Places<'_>,
     lines: &mut TextLines<'_>,
     most: u32,
 ) -> Result<(), Fault>
-    requires same { sky.old.encounter ≡ state.old.encounter }
+    requires same { places.old.encounter ≡ state.old.encounter }
     requires empty { state.old.journal ≡ [] }
-    requires crew { AreReady state.old.encounter [] crew.old.crafts }
+    requires ready { AreReady state.old.encounter (commits []) surveillance.old.crafts }
     ensures encounter { state.new.encounter ≡ state.old.encounter }
     ensures replayed { MatchResult result
         (λ _. Replayed (air_of state.old.encounter) lines.old lines.new most state.new.journal)
@@ -109,7 +110,7 @@ pub(crate) fn replay(
             return Ok(());
         }
         let line = lines.number();
-        if let Err(reason) = add_next(state, crew, sky, &mut made, lines) {
+        if let Err(reason) = add_next(state, surveillance, places, &mut made, lines) {
             return Err(Fault { line, reason });
         }
     }

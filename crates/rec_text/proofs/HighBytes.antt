@@ -17,7 +17,7 @@ use Rattle.acas_base.specs.declared.entry.Entry.{Entry}
 use Rattle.acas_base.specs.declared.entry.Entry.TheVariants.{Commit, Send, Take}
 use Rattle.advisory_report.specs.Cells.{flag, age_text, cell_text, sense_letter, strength_digit}
 use Rattle.acas_base.specs.declared.TheConstants.{CRAFTS}
-use Rattle.acas_lines.specs.Cut.{IsLine}
+use Rattle.acas_lines.specs.Split.{IsLine}
 use Rattle.enc_file.specs.Spelling.{line_of}
 use Rattle.rec_text.specs.Entries.{outcome, entry_fields, entry_line}
 use Rattle.air_journal.specs.Ranges.{IsCell, IsEntry}

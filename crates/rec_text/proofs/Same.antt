@@ -9,8 +9,8 @@ use Rattle.std.proofs.lemmas.List.Elements.{recursion_from_All}
 use Rattle.acas_base.specs.Encounter.{IsEncounter, Parts}
 use Rattle.acas_base.specs.declared.TheConstants.{CRAFTS}
 use Rattle.acas_base.specs.declared.entry.Entry.{Entry}
-use Rattle.acas_lines.proofs.Cutting.{cut-joined}
-use Rattle.acas_lines.specs.Cut.{lines_of}
+use Rattle.acas_lines.proofs.Splitting.{split-joined}
+use Rattle.acas_lines.specs.Split.{lines_of}
 use Rattle.acas_lines.specs.Lines.{joined}
 use Rattle.air_journal.proofs.Bounds.{few-crafts}
 use Rattle.air_journal.proofs.WellFormed.{entries-fit}
@@ -38,7 +38,7 @@ later e journal = journal_line (length journal) ∷ (entry_lines (length e.craft
 
 lines-same : (e f : Parts) (journal other : List Entry) → IsTold e journal → IsTold f other → recording e journal ≡ recording f other → recording_lines e journal ≡ recording_lines f other
 lines-same e f journal other h k same =
-    sym (cut-joined (recording_lines e journal) (recording-whole e journal h.valid h.legal)) ∙ ap lines_of same ∙ cut-joined (recording_lines f other) (recording-whole f other k.valid k.legal)
+    sym (split-joined (recording_lines e journal) (recording-whole e journal h.valid h.legal)) ∙ ap lines_of same ∙ split-joined (recording_lines f other) (recording-whole f other k.valid k.legal)
 
 parts-same : (e f : Parts) (journal other : List Entry) → recording_lines e journal ≡ recording_lines f other → (canonical_lines e ≡ canonical_lines f) × (later e journal ≡ later f other)
 parts-same e f journal other same =

@@ -11,7 +11,7 @@ use Rattle.acas_base.specs.declared.advisory.Strength.{Strength}
 use Rattle.acas_base.specs.declared.advisory.Strength.TheVariants.{Limit2000, Limit1000, Limit500, Level, Positive, Increase}
 use Rattle.acas_base.specs.declared.TheConstants.{CRAFTS}
 use Rattle.acas_base.specs.declared.entry.Entry.{Entry}
-use Rattle.acas_lines.specs.Cut.{IsLine}
+use Rattle.acas_lines.specs.Split.{IsLine}
 use Rattle.acas_text.specs.Hex.{hex}
 use Rattle.advisory_report.specs.Composite.{composite_of, down_word, up_word, word_for, word_of}
 use Rattle.advisory_report.specs.Phrases.{aural_of, phrase_text}

@@ -2,7 +2,7 @@
 ghost use Rattle.std.specs.Prelude.{◌≡◌, ℕ, ◌≤◌};
 ghost use Rattle.acas_base.specs.declared.TheConstants.{CRAFTS};
 ghost use Rattle.acas_base.specs.declared.entry.Entry.{Entry};
-ghost use Rattle.acas_lines.specs.Cut.{IsLine};
+ghost use Rattle.acas_lines.specs.Split.{IsLine};
 ghost use Rattle.rec_text.specs.Entries.{entry_line};
 ghost use Rattle.rec_text.specs.Recording.{recording};
 ghost use Rattle.air_journal.specs.Ranges.{IsEntry};

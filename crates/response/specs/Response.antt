@@ -4,8 +4,7 @@ use Rattle.std.specs.Prelude.{ℕ, ◌+◌, ◌-◌, ◌/◌, Bool, true, false,
 use Rattle.std.specs.Fmt.{decimal}
 use Rattle.std.specs.List.{flat_map, list_any, range_with_len}
 use Rattle.acas_base.specs.Encounter.{Parts}
-use Rattle.acas_base.specs.declared.advisory.Cell.{Cell}
-use Rattle.acas_base.specs.declared.advisory.Cell.TheVariants.{Clear, Traffic, Ra}
+use Rattle.acas_base.specs.Messages.{has_advisory}
 use Rattle.acas_base.specs.declared.advisory.Cells.{Cells}
 use Rattle.acas_base.specs.declared.entry.Entry.{Entry}
 use Rattle.acas_lines.specs.Lines.{count_line, joined, line_of}
@@ -19,16 +18,10 @@ use Rattle.response.specs.Flown.{flown}
 
 -- ---- pairs
 
--- The cell is a resolution advisory.
-abbrev pub is_resolution : Cell → Bool
-is_resolution Clear = false
-is_resolution Traffic = false
-is_resolution (Ra advisory) = true
-
 -- A commit has a resolution advisory against another aircraft.
 abbrev pub advises_against : Option Cells → ℕ → Bool
 advises_against None other = false
-advises_against (Some cells) other = is_resolution (cell_at cells other)
+advises_against (Some cells) other = has_advisory (cell_at cells other)
 
 -- Some of so many commits of an aircraft has one.
 abbrev pub ever_advises_against : List Entry → ℕ → ℕ → ℕ → Bool

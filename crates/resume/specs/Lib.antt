@@ -1,4 +1,3 @@
 pub mod Filling
 pub mod Phases
-pub mod Crews
 pub mod Steps

@@ -3,40 +3,41 @@ ghost use Rattle.std.specs.Prelude.{◌≡◌, List, []};
 ghost use Rattle.acas_base.specs.declared.entry.Entry.{Entry};
 ghost use Rattle.air_journal.specs.Airs.{air_of};
 ghost use Rattle.air_rules.specs.Air.{Air, IsSound};
-ghost use Rattle.air_rules.specs.Journal.{Begins};
+ghost use Rattle.air_rules.specs.Journal.{Begins, commits};
 ghost use Rattle.air_rules.specs.Rules.{IsComplete, IsLegal};
 ghost use Rattle.air_rules.specs.Serial.{IsSerial};
-ghost use Rattle.resume.specs.Crews.{AreReady};
+ghost use Rattle.craft_view.specs.Looking.{AreReady};
 ghost use Rattle.resume.specs.Filling.{Fills, IsFilled};
 ghost use Rattle.resume.specs.Steps.{IsAtRest};
 
-use crate::crew::{Crew, crew_of};
+use crate::looks::surveillance_of;
 use crate::rounds::round;
 use crate::steps::{slowest, step};
 use acas_base::Encounter;
 use air_journal::AirState;
+use craft_view::Surveillance;
 
 // Goes on until all have equally many commits, nobody owes and nothing is due.
-fn catch_up(state: &mut AirState, enc: &Encounter, crew: &mut Crew)
+fn catch_up(state: &mut AirState, enc: &Encounter, surveillance: &mut Surveillance)
     requires same { state.old.encounter ≡ enc.now }
-    requires crew { AreReady enc.now state.old.journal crew.old.crafts }
+    requires ready { AreReady enc.now (commits state.old.journal) surveillance.old.crafts }
     ensures encounter { state.new.encounter ≡ enc.now }
     ensures fills { Fills (air_of enc.now) state.old.journal state.new.journal }
-    ensures crew { AreReady enc.now state.new.journal crew.new.crafts }
+    ensures ready { AreReady enc.now (commits state.new.journal) surveillance.new.crafts }
     ensures rest { IsAtRest (air_of enc.now) state.new.journal }
 {
     state.legal_law();
     loop {
-        if !step(state, enc, crew) {
+        if !step(state, enc, surveillance) {
             return;
         }
     }
 }
 
 // Goes on round by round to the end.
-fn finish(state: &mut AirState, enc: &Encounter, crew: &mut Crew)
+fn finish(state: &mut AirState, enc: &Encounter, surveillance: &mut Surveillance)
     requires same { state.old.encounter ≡ enc.now }
-    requires crew { AreReady enc.now state.old.journal crew.old.crafts }
+    requires ready { AreReady enc.now (commits state.old.journal) surveillance.old.crafts }
     requires rest { IsAtRest (air_of enc.now) state.old.journal }
     ensures encounter { state.new.encounter ≡ enc.now }
     ensures filled { IsFilled (air_of enc.now) state.old.journal state.new.journal }
@@ -46,7 +47,7 @@ fn finish(state: &mut AirState, enc: &Encounter, crew: &mut Crew)
         return;
     };
     for done in state.commits(own)..enc.cycles() {
-        round(state, enc, crew, done);
+        round(state, enc, surveillance, done);
     }
 }
 
@@ -62,9 +63,9 @@ pub fn fill(state: &mut AirState, enc: &Encounter)
     ensures complete { IsComplete (air_of enc.now) state.new.journal }
     ensures begins { Begins state.old.journal state.new.journal }
 {
-    let mut crew = crew_of(state, enc);
-    catch_up(state, enc, &mut crew);
-    finish(state, enc, &mut crew);
+    let mut surveillance = surveillance_of(state, enc);
+    catch_up(state, enc, &mut surveillance);
+    finish(state, enc, &mut surveillance);
     state.legal_law();
 }
 

@@ -4,10 +4,9 @@
 //! owed message, else the first due copy (`specs/Filling`). What it leaves is legal and complete.
 #![tactic(auto)]
 
-mod crew;
 mod filling;
+mod looks;
 mod rounds;
 mod steps;
 
-pub use crew::{Crew, crew_of};
 pub use filling::{fill, filled_law};

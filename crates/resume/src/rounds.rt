@@ -1,21 +1,21 @@
 // Rounds, from an even start.
 ghost use Rattle.std.specs.Prelude.{◌≡◌, ◌+◌, ◌<◌, length};
 ghost use Rattle.air_journal.specs.Airs.{air_of};
-ghost use Rattle.resume.specs.Crews.{AreReady};
+ghost use Rattle.air_rules.specs.Journal.{commits};
+ghost use Rattle.craft_view.specs.Looking.{AreReady};
 ghost use Rattle.resume.specs.Filling.{Fills};
 ghost use Rattle.resume.specs.Phases.{BeforeCommit, BeforeSends, BeforeTakes};
 
-use crate::crew::Crew;
 use acas_base::Encounter;
 use air_journal::{AirState, Sent, Took};
-use craft_view::is_active;
+use craft_view::{Surveillance, is_active};
 use flight::Places;
 
 // Commits an aircraft's cycle of a round.
 fn commit_of(
     state: &mut AirState,
     enc: &Encounter,
-    crew: &mut Crew,
+    surveillance: &mut Surveillance,
     own: u8,
     done: u16,
     places: &Places,
@@ -24,19 +24,19 @@ fn commit_of(
     requires own { own < length enc.now.crafts }
     requires left { done < enc.now.cycles }
     requires places { places.now ≡ record { encounter = enc.now; cycle = done + 1 } }
-    requires crew { AreReady enc.now state.old.journal crew.old.crafts }
+    requires ready { AreReady enc.now (commits state.old.journal) surveillance.old.crafts }
     requires before { BeforeCommit (air_of enc.now) state.old.journal own done }
     ensures encounter { state.new.encounter ≡ enc.now }
     ensures fills { Fills (air_of enc.now) state.old.journal state.new.journal }
-    ensures crew { AreReady enc.now state.new.journal crew.new.crafts }
+    ensures ready { AreReady enc.now (commits state.new.journal) surveillance.new.crafts }
     ensures after { BeforeCommit (air_of enc.now) state.new.journal (own + 1) done }
 {
     enc.valid_law();
     if !is_active(enc, own) {
         return;
     }
-    crew.look(own, places);
-    let _ = state.commit(own, &crew.picture);
+    surveillance.look(own, places);
+    let _ = state.commit(own, &surveillance.picture);
 }
 
 // Sends all that an aircraft owes.
@@ -79,20 +79,20 @@ fn takes_of(state: &mut AirState, enc: &Encounter, own: u8, rounds: u16)
     }
 }
 
-fn all_commits(state: &mut AirState, enc: &Encounter, crew: &mut Crew, done: u16)
+fn all_commits(state: &mut AirState, enc: &Encounter, surveillance: &mut Surveillance, done: u16)
     requires same { state.old.encounter ≡ enc.now }
     requires left { done < enc.now.cycles }
-    requires crew { AreReady enc.now state.old.journal crew.old.crafts }
+    requires ready { AreReady enc.now (commits state.old.journal) surveillance.old.crafts }
     requires before { BeforeCommit (air_of enc.now) state.old.journal 0 done }
     ensures encounter { state.new.encounter ≡ enc.now }
     ensures fills { Fills (air_of enc.now) state.old.journal state.new.journal }
-    ensures crew { AreReady enc.now state.new.journal crew.new.crafts }
+    ensures ready { AreReady enc.now (commits state.new.journal) surveillance.new.crafts }
     ensures after { BeforeCommit (air_of enc.now) state.new.journal (length enc.now.crafts) done }
 {
     enc.valid_law();
     let places = Places::new(enc, done + 1);
     for own in 0..enc.crafts().len() as u8 {
-        commit_of(state, enc, crew, own, done, &places);
+        commit_of(state, enc, surveillance, own, done, &places);
     }
 }
 
@@ -121,18 +121,23 @@ fn all_takes(state: &mut AirState, enc: &Encounter, rounds: u16)
 }
 
 /// One round: all commit, then all send, then all take.
-pub(crate) fn round(state: &mut AirState, enc: &Encounter, crew: &mut Crew, done: u16)
+pub(crate) fn round(
+    state: &mut AirState,
+    enc: &Encounter,
+    surveillance: &mut Surveillance,
+    done: u16,
+)
     requires same { state.old.encounter ≡ enc.now }
     requires left { done < enc.now.cycles }
-    requires crew { AreReady enc.now state.old.journal crew.old.crafts }
+    requires ready { AreReady enc.now (commits state.old.journal) surveillance.old.crafts }
     requires before { BeforeCommit (air_of enc.now) state.old.journal 0 done }
     ensures encounter { state.new.encounter ≡ enc.now }
     ensures fills { Fills (air_of enc.now) state.old.journal state.new.journal }
-    ensures crew { AreReady enc.now state.new.journal crew.new.crafts }
+    ensures ready { AreReady enc.now (commits state.new.journal) surveillance.new.crafts }
     ensures after { BeforeCommit (air_of enc.now) state.new.journal 0 (done + 1) }
 {
     enc.valid_law();
-    all_commits(state, enc, crew, done);
+    all_commits(state, enc, surveillance, done);
     all_sends(state, enc, done + 1);
     all_takes(state, enc, done + 1);
 }

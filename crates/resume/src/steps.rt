@@ -4,15 +4,15 @@ ghost use Rattle.air_journal.specs.Airs.{air_of};
 ghost use Rattle.air_journal.specs.Calls.{Committed, IsFree};
 ghost use Rattle.air_rules.specs.Air.{is_active};
 ghost use Rattle.air_rules.specs.Due.{NobodyIsDue, NothingDue};
+ghost use Rattle.air_rules.specs.Journal.{commits};
 ghost use Rattle.air_rules.specs.Owed.{NobodyOwes, OwesNothing};
 ghost use Rattle.craft_view.specs.Kept.{IsActive};
-ghost use Rattle.resume.specs.Crews.{AreReady};
+ghost use Rattle.craft_view.specs.Looking.{AreReady};
 ghost use Rattle.resume.specs.Steps.{DidSend, DidTake, HasToWait, IsAtRest, IsSlowestOf, IsSomeAhead, MayGo, NobodyAhead, SentOne, SlowestSoFar, Stepped, TookOne};
 
-use crate::crew::Crew;
 use acas_base::Encounter;
 use air_journal::{AirState, Sent, Took};
-use craft_view::is_active;
+use craft_view::{Surveillance, is_active};
 use flight::Places;
 
 /// The active aircraft of least index among those with the fewest commits.
@@ -135,27 +135,27 @@ fn take_first(state: &mut AirState, enc: &Encounter) -> bool
 }
 
 // Commits the aircraft's next cycle, which nothing hinders.
-fn commit_next(state: &mut AirState, enc: &Encounter, crew: &mut Crew, own: u8)
+fn commit_next(state: &mut AirState, enc: &Encounter, surveillance: &mut Surveillance, own: u8)
     requires same { state.old.encounter ≡ enc.now }
     requires active { IsActive enc.now own }
-    requires crew { AreReady enc.now state.old.journal crew.old.crafts }
+    requires ready { AreReady enc.now (commits state.old.journal) surveillance.old.crafts }
     requires free { IsFree (air_of enc.now) state.old.journal own }
     ensures encounter { state.new.encounter ≡ enc.now }
     ensures commits { Committed (air_of enc.now) state.old.journal own state.new.journal (length state.old.journal) }
-    ensures crew { AreReady enc.now state.new.journal crew.new.crafts }
+    ensures ready { AreReady enc.now (commits state.new.journal) surveillance.new.crafts }
 {
     enc.valid_law();
     let places = Places::new(enc, state.commits(own) + 1);
-    crew.look(own, &places);
-    let _ = state.commit(own, &crew.picture);
+    surveillance.look(own, &places);
+    let _ = state.commit(own, &surveillance.picture);
 }
 
 /// Adds the entry that comes next, until all have equally many commits, nobody owes and nothing is due.
-pub(crate) fn step(state: &mut AirState, enc: &Encounter, crew: &mut Crew) -> bool
+pub(crate) fn step(state: &mut AirState, enc: &Encounter, surveillance: &mut Surveillance) -> bool
     requires same { state.old.encounter ≡ enc.now }
-    requires crew { AreReady enc.now state.old.journal crew.old.crafts }
+    requires ready { AreReady enc.now (commits state.old.journal) surveillance.old.crafts }
     ensures encounter { state.new.encounter ≡ enc.now }
-    ensures crew { AreReady enc.now state.new.journal crew.new.crafts }
+    ensures ready { AreReady enc.now (commits state.new.journal) surveillance.new.crafts }
     ensures stepped { MatchBool result (Stepped (air_of enc.now) state.old.journal state.new.journal) (IsAtRest (air_of enc.now) state.new.journal × (state.new.journal ≡ state.old.journal)) }
 {
     state.legal_law();
@@ -163,7 +163,7 @@ pub(crate) fn step(state: &mut AirState, enc: &Encounter, crew: &mut Crew) -> bo
         return false;
     };
     if may_go(state, enc, own) {
-        commit_next(state, enc, crew, own);
+        commit_next(state, enc, surveillance, own);
         return true;
     }
     if send_first(state, enc) {

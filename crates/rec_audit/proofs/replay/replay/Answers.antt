@@ -3,15 +3,16 @@ use Rattle.acas_base.specs.Encounter.{Parts}
 use Rattle.acas_base.specs.declared.entry.Entry.{Entry}
 use Rattle.std.proofs.Common.{List}
 use Rattle.air_journal.specs.Airs.{air_of}
+use Rattle.air_rules.specs.Journal.{commits}
 use Rattle.rec_audit.proofs.Making.{reaches-more, reaches-none, stopped-at}
-use Rattle.resume.specs.Crews.{AreReady}
+use Rattle.craft_view.specs.Looking.{AreReady}
 use Rattle.rec_audit.proofs.replay.replay.Goals as goal
 
 pub loop-init : goal.loop-init
 loop-init c = record {
   encounter = refl;
-  sky = c.requires.same;
-  crew = subst (λ (K : List Entry). AreReady c.args.state.now.encounter K c.args.crew.now.crafts) (sym c.requires.empty) c.requires.crew;
+  places = c.requires.same;
+  ready = subst (λ (K : List Entry). AreReady c.args.state.now.encounter (commits K) c.args.surveillance.now.crafts) (sym c.requires.empty) c.requires.ready;
   reaches = reaches-none (air_of c.args.state.now.encounter) c.args.lines.now c.args.state.now.journal c.requires.empty;
 }
 
@@ -21,8 +22,8 @@ loop-preserved c =
     let added = rw (i.encounter) at c.in_default.ensures.added in
     record {
       encounter = c.add_next.ensures.encounter ∙ i.encounter;
-      sky = c.add_next.ensures.sky ∙ i.encounter;
-      crew = subst (λ (e : Parts). AreReady e c.add_next.new.state.journal c.add_next.new.crew.crafts) i.encounter c.in_default.ensures.crew;
+      places = c.add_next.ensures.places ∙ i.encounter;
+      ready = subst (λ (e : Parts). AreReady e (commits c.add_next.new.state.journal) c.add_next.new.surveillance.crafts) i.encounter c.in_default.ensures.ready;
       reaches = reaches-more (air_of c.args.state.now.encounter) c.args.lines.now c.loop.lines c.add_next.new.lines c.loop.counter c.loop.state.journal c.add_next.new.state.journal i.reaches added;
     }
 

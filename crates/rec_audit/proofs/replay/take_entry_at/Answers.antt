@@ -1,7 +1,7 @@
 use Rattle.std.proofs.Common.{◌≡◌, ◌∙◌, List, ℕ, ap, length, subst, sym}
 use Rattle.std.specs.Prelude.{option_map}
 use Rattle.acas_base.specs.Encounter.{Parts}
-use Rattle.acas_lines.specs.Cut.{IsLine}
+use Rattle.acas_lines.specs.Split.{IsLine}
 use Rattle.air_journal.proofs.Bounds.{few-crafts}
 use Rattle.air_journal.proofs.WellFormed.{entries-fit}
 use Rattle.air_journal.specs.EntryRefs.{entry_of}

@@ -15,7 +15,7 @@ loop-init c = record {
   same = c.requires.same;
   valid = subst IsEncounter c.requires.same c.legal_law.ensures.valid;
   legal = subst (λ (e : Parts). IsLegal (air_of e) c.args.state.now.journal) c.requires.same c.legal_law.ensures.legal;
-  crew = c.requires.crew;
+  ready = c.requires.ready;
   fills = unfilled;
 }
 
@@ -28,7 +28,7 @@ loop-preserved c =
       same = c.step.ensures.encounter;
       valid = i.valid;
       legal = legal-step air c.loop.state.journal c.step.new.state.journal i.legal s;
-      crew = c.step.ensures.crew;
+      ready = c.step.ensures.ready;
       fills = fills-step air c.args.state.now.journal c.loop.state.journal c.step.new.state.journal i.fills s;
     }
 
@@ -49,6 +49,6 @@ returns-then-not-step c =
     record {
       encounter = c.step.ensures.encounter;
       fills = subst (λ (J : List Entry). Fills (air_of c.args.enc.now) c.args.state.now.journal J) (sym r.1) i.fills;
-      crew = c.step.ensures.crew;
+      ready = c.step.ensures.ready;
       rest = r.0;
     }

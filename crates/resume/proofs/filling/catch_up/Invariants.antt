@@ -1,9 +1,10 @@
 use Rattle.std.proofs.Common.{◌≡◌, ◌-◌, length}
 use Rattle.acas_base.specs.Encounter.{IsEncounter}
 use Rattle.air_journal.specs.Airs.{air_of}
+use Rattle.air_rules.specs.Journal.{commits}
 use Rattle.air_rules.specs.Length.{most_entries}
 use Rattle.air_rules.specs.Rules.{IsLegal}
-use Rattle.resume.specs.Crews.{AreReady}
+use Rattle.craft_view.specs.Looking.{AreReady}
 use Rattle.resume.specs.Filling.{Fills}
 use Rattle.resume.proofs.filling.catch_up.Given as goal
 
@@ -12,7 +13,7 @@ invariant-loop l = record {
   same : l.state.encounter ≡ l.enc;
   valid : IsEncounter l.enc;
   legal : IsLegal (air_of l.enc) l.state.journal;
-  crew : AreReady l.enc l.state.journal l.crew.crafts;
+  ready : AreReady l.enc (commits l.state.journal) l.surveillance.crafts;
   fills : Fills (air_of l.enc) l.fn.state.journal l.state.journal;
 }
 

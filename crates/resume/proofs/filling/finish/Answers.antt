@@ -16,7 +16,7 @@ loop-done-init c =
     let sound = sound-of e (subst IsEncounter c.requires.same c.legal_law.ensures.valid) in
     record {
       same = c.requires.same;
-      crew = c.requires.crew;
+      ready = c.requires.ready;
       fills = unfilled;
       before = subst (λ (n : ℕ). BeforeCommit (air_of e) c.args.state.now.journal 0 n) (sym c.commits-done.ensures)
           (from-idle (air_of e) c.args.state.now.journal (commits c.args.state.now.journal c.in-Some.own) (level-at-rest (air_of e) c.args.state.now.journal c.in-Some.own sound c.requires.rest c.in-Some.ensures) c.requires.rest.idle);
@@ -25,7 +25,7 @@ loop-done-init c =
 pub loop-done-preserved : goal.loop-done-preserved
 loop-done-preserved c = record {
   same = c.round.ensures.encounter;
-  crew = c.round.ensures.crew;
+  ready = c.round.ensures.ready;
   fills = fills-on (air_of c.args.enc.now) c.args.state.now.journal c.loop-done.state.journal c.round.new.state.journal c.loop-done.invariant.fills c.round.ensures.fills;
   before = c.round.ensures.after;
 }

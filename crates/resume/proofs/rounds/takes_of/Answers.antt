@@ -7,7 +7,7 @@ use Rattle.air_journal.specs.declared.answers.Took.TheVariants as took
 use Rattle.air_rules.specs.Length.{most_entries}
 use Rattle.air_rules.specs.Rules.{IsLegal}
 use Rattle.craft_view.specs.Kept.{IsActive}
-use Rattle.resume.proofs.Activity.{to-active, told-active}
+use Rattle.air_journal.proofs.Activity.{to-active, told-active}
 use Rattle.resume.proofs.Turns.{fills-on, taken-all, taken-one, takes-skip}
 use Rattle.resume.specs.Filling.{unfilled}
 use Rattle.resume.proofs.rounds.takes_of.Goals as goal

@@ -1,11 +1,11 @@
 use Rattle.std.proofs.Common.{rules, ◌≡◌, ℕ, ◌<◌, List, Option, None, get_or, set, length, length-set, get_or-set_same, get_or-set_other, below_more, sym, ap, ◌∙◌, subst, arith, inl, inr}
 use Rattle.std.proofs.lemmas.Bool.{cases_lt}
-use Rattle.air_journal.proofs.Bounds.{below, few-crafts}
+use Rattle.air_journal.proofs.Bounds.{active-is, below, few-crafts}
 use Rattle.air_rules.specs.Journal.{commits}
 use Rattle.craft_view.specs.Kept.{Kept}
-use Rattle.resume.proofs.Readying.{ready-none}
-use Rattle.resume.proofs.crew.crew_of.Goals as goal
-use Rattle.resume.specs.Crews.{IsReady}
+use Rattle.craft_view.proofs.Looking.{ready-none}
+use Rattle.resume.proofs.looks.surveillance_of.Goals as goal
+use Rattle.craft_view.specs.Looking.{IsReady}
 
 pub loop-own-init : goal.loop-own-init
 loop-own-init c = record {
@@ -41,5 +41,5 @@ returns c = λ own h.
     elim (cases_lt own c.loop-own.own) [
       | inl lt ↦ i.done own lt
       | inr ge ↦ subst (IsReady e own (commits c.args.state.now.journal own)) (sym (i.rest own ge h))
-          (ready-none e own (commits c.args.state.now.journal own) (λ a. let b = below e c.crafts.ensures.valid own a in omega arith))
+          (ready-none e own (commits c.args.state.now.journal own) (λ a. let b = below e c.crafts.ensures.valid own (active-is e own a) in omega arith))
     ]

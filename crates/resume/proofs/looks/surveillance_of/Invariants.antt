@@ -1,8 +1,8 @@
 use Rattle.std.proofs.Common.{◌≡◌, ℕ, ◌<◌, ◌≤◌, None, get_or, length}
 use Rattle.acas_base.specs.declared.TheConstants.{CRAFTS}
 use Rattle.air_rules.specs.Journal.{commits}
-use Rattle.resume.proofs.crew.crew_of.Given as goal
-use Rattle.resume.specs.Crews.{IsReady}
+use Rattle.resume.proofs.looks.surveillance_of.Given as goal
+use Rattle.craft_view.specs.Looking.{IsReady}
 
 abbrev pub invariant-loop-own : goal.invariant-loop-own
 invariant-loop-own l = record {

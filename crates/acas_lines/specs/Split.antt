@@ -1,8 +1,8 @@
--- A text cut into its lines.
+-- A text split into its lines.
 use Rattle.std.specs.Prelude.{◌≡◌, ◌≢◌, ℕ, ◌==◌, if◌then◌else◌, List, [], ◌∷◌, ◌++◌}
 use Rattle.std.specs.List.{AllByRecursion, onto_first}
 
--- A text is cut after each line feed. So each line ends with its line feed, which the last one may lack.
+-- A text is split after each line feed. So each line ends with its line feed, which the last one may lack.
 abbrev pub lines_of : List ℕ → List (List ℕ)
 lines_of [] = []
 lines_of (c ∷ cs) = if c == 10 then (10 ∷ []) ∷ lines_of cs else onto_first c (lines_of cs)

@@ -2,7 +2,7 @@ use Rattle.std.proofs.Common.{ap, arith}
 use Rattle.acas_base.specs.Encounter.{Parts}
 use Rattle.air_journal.specs.Airs.{air_of}
 use Rattle.air_rules.proofs.Waiting.{commits-within}
-use Rattle.resume.proofs.crew.craft_at.Goals as goal
+use Rattle.resume.proofs.looks.craft_at.Goals as goal
 
 pub look-requires-clause-left : goal.look-requires-clause-left
 look-requires-clause-left c =

@@ -1,0 +1,10 @@
+use Rattle.std.proofs.lemmas.List.Elements.{recursion_from_All}
+use Rattle.acas_lines.specs.Split.{IsLine}
+use Rattle.acas_lines.proofs.Splitting.{split-joined, joined-split}
+use Rattle.acas_lines.proofs.split.split_law.Goals as goal
+
+pub returns-clause-split : goal.returns-clause-split
+returns-clause-split c = λ lines each. split-joined lines (recursion_from_All IsLine lines each)
+
+pub returns-clause-joined : goal.returns-clause-joined
+returns-clause-joined c = joined-split
