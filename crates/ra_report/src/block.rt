@@ -1,5 +1,6 @@
 // Blocks and their words. The layout is this project's own.
 ghost use Rattle.std.specs.Prelude.{◌≡◌, ◌↔◌, ◌<◌, ◌+◌, ◌*◌, ◌^◌, None, Some};
+ghost use Rattle.acas_base.specs.Ranges.{IsAddress};
 ghost use Rattle.ra_report.specs.Words.{Word, IsBlockWord, bit_at, read_block, word_of};
 ghost use Rattle.ra_report.specs.declared.block.RaBlock.{RaBlock};
 ghost use Rattle.res_message.specs.Words.{bit_of};
@@ -111,3 +112,8 @@ fn read(word: u64) -> Option<RaBlock>
         None
     }
 }
+
+/// A law: the word of a block is read as that block, so `decode(encode(&b))` is `b`.
+pub fn read_law()
+    ensures { (b : RaBlock) → IsAddress b.threat → read_block (word_of b) ≡ Some b }
+{}

@@ -12,5 +12,5 @@ mod lines;
 mod story;
 mod table;
 
-pub use block::{RaBlock, decode, encode};
+pub use block::{RaBlock, decode, encode, read_law};
 pub use lines::{Reports, write};
