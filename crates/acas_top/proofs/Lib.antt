@@ -3,5 +3,4 @@ pub mod OneStatus
 pub mod FewEach
 pub mod FiveWords
 pub mod OneWord
-pub mod Tools
 pub mod Seated
