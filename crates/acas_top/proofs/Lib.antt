@@ -3,4 +3,3 @@ pub mod OneStatus
 pub mod FewEach
 pub mod FiveWords
 pub mod OneWord
-pub mod Tools

@@ -2,28 +2,25 @@
 use Rattle.std.specs.Prelude.{◌≡◌, ℕ, List}
 use Rattle.acas_base.specs.Encounter.{Parts}
 use Rattle.acas_base.specs.declared.entry.Entry.{Entry}
+use Rattle.acas_lines.specs.Lines.{joined}
 use Rattle.acas_top.specs.declared.words.Tool.{Tool}
 use Rattle.acas_top.specs.declared.words.Tool.TheVariants.{Reports, Response, Watch, Why}
 use Rattle.air_journal.specs.States.{State}
-use Rattle.pair_watch.specs.Watching.{watch_lines, watch_text}
-use Rattle.ra_report.specs.Blocks.{report_lines, report_text}
-use Rattle.reasons.specs.Reasons.{reasons_parts, reasons_text}
+use Rattle.pair_watch.specs.Watching.{watch_lines}
+use Rattle.ra_report.specs.Blocks.{report_lines}
+use Rattle.reasons.specs.Reasons.{reasons_lines}
 use Rattle.rec_audit.specs.Judging.{IsRecordingOf}
-use Rattle.response.specs.Response.{response_lines, response_text}
+use Rattle.response.specs.Response.{response_lines}
 
--- A tool's text of an encounter and its journal.
-abbrev pub tool_text : Tool → Parts → List Entry → List ℕ
-tool_text Reports e journal = report_text e journal
-tool_text Response e journal = response_text e journal
-tool_text Watch e journal = watch_text e journal
-tool_text Why e journal = reasons_text e journal
-
--- The same text, as it is put.
+-- The lines that a tool tells of an encounter and its journal, and their text.
 abbrev pub tool_lines : Tool → Parts → List Entry → List (List ℕ)
 tool_lines Reports e journal = report_lines e journal
 tool_lines Response e journal = response_lines e journal
 tool_lines Watch e journal = watch_lines e journal
-tool_lines Why e journal = reasons_parts e journal
+tool_lines Why e journal = reasons_lines e journal
+
+abbrev pub tool_text : Tool → Parts → List Entry → List ℕ
+tool_text tool e journal = joined (tool_lines tool e journal)
 
 -- The bytes are the recording of an encounter and a legal and complete journal, and the text is the tool's of both.
 pub record Tells (tool : Tool) (bytes text : List ℕ) : Type 0 where

@@ -1,12 +1,12 @@
 -- The rule that applies, and what it gives.
-use Rattle.std.proofs.Common.{◌≡◌, ◌≢◌, ◌+◌, ◌<◌, ◌∙◌, ℕ, List, Bool, true, false, length, refl, sym, ap, subst, arith, ne_eqb}
+use Rattle.std.proofs.Common.{◌≡◌, ◌≢◌, ◌+◌, ◌<◌, ◌∙◌, ℕ, List, Bool, true, false, length, inl, inr, refl, sym, ap, subst, arith, ne_eqb}
 use Rattle.std.specs.Prelude.{◌==◌, ◌&&◌, ◌||◌, if◌then◌else◌, nat_le, nat_lt, not}
 use Rattle.std.proofs.lemmas.Bool.Decides.{nat_tests}
 use Rattle.std.proofs.lemmas.List.FromFn.{get_or-map-range_with_len}
-use Rattle.acas_base.specs.Choice.{calls_for_reversal, strength_after, weakens as weakens_to_level}
+use Rattle.acas_base.specs.Choice.{calls_for_reversal, is_fresh_after, strength_after, weakens as weakens_to_level}
 use Rattle.acas_base.specs.Encounter.{IsEncounter, Parts}
 use Rattle.acas_base.specs.Next.{cell_after, changes_sense, continuation_of, continuing_cell, ends, following_cell, is_turned_after, new_advisory, reversal_of, starting_cell, starting_sense, traffic_cell}
-use Rattle.acas_base.specs.Strengths.{place_of}
+use Rattle.acas_base.specs.Strengths.{is_allowed, place_of}
 use Rattle.acas_base.specs.declared.TheConstants.{CRAFTS}
 use Rattle.acas_base.specs.declared.advisory.Cell.{Cell}
 use Rattle.acas_base.specs.declared.advisory.Cell.TheVariants as cells
@@ -28,19 +28,22 @@ use Rattle.air_rules.specs.Takes.{complement_from}
 use Rattle.craft_view.specs.Sight.{sight_of}
 use Rattle.craft_view.specs.Views.{view_of}
 use Rattle.reasons.proofs.Looking.{rank-known}
-use Rattle.reasons.specs.Explained.{AdvisesNothing, AreExplained, Explains, GoesOn, untested, starts, starts_as_told, traffic, quiet, ends_below_level, ends_without_threat, obeys, reverses, strengthens, keeps, weakens, capped}
+use Rattle.reasons.specs.Explained.{AdvisesNothing, AreExplained, Explains, ExplainsOnce, GoesOn, untested, starts, starts_as_told, traffic, quiet, ends_below_level, ends_without_threat, obeys, reverses, strengthens, keeps, weakens, capped}
+use Rattle.reasons.specs.Reasons.{reason_of}
 use Rattle.reasons.specs.Rules.{rule_of, starting_rule, strength_rule, tested_rule, told_rule, turning_rule}
 use Rattle.reasons.specs.Seen.{seen_of}
+use Rattle.reasons.specs.Shown.{shown_of}
 use Rattle.reasons.specs.declared.rules.Rule.{Rule}
-use Rattle.reasons.specs.declared.rules.Rule.TheVariants.{Untested, Traffic, Quiet, EndsBelowLevel, EndsWithoutThreat, Strengthens, Keeps, Weakens, Capped}
+use Rattle.reasons.specs.declared.rules.Rule.TheVariants.{Untested, StartsAsTold, Traffic, Quiet, EndsBelowLevel, EndsWithoutThreat, Reverses, Strengthens, Keeps, Weakens, Capped}
+use Rattle.strength_pick.proofs.Finding.{next-found}
 
 -- ---- truth values
 
-both : (a b : Bool) → (a && b) ≡ true → (a ≡ true) × (b ≡ true)
+pub both : (a b : Bool) → (a && b) ≡ true → (a ≡ true) × (b ≡ true)
 both true b h = (refl, h)
 both false b h = absurd cc
 
-not-so : (a : Bool) → not a ≡ true → a ≡ false
+pub not-so : (a : Bool) → not a ≡ true → a ≡ false
 not-so true h = absurd cc
 not-so false h = refl
 
@@ -76,6 +79,18 @@ starting view complement rank before none tested = go view.threat refl
 
 -- ---- there was one
 
+-- Where the next strength is weaker and doesn't weaken to Level, the strength before isn't allowed any more: else the choice would
+-- reach it.
+not-allowed : (it : Intent) (view : View) → weakens_to_level it view ≡ false → place_of (strength_after it view) < place_of it.strength → is_allowed view it.sense it.strength (is_fresh_after it.strength) ≡ false
+not-allowed it view stays less = go (is_allowed view it.sense it.strength (is_fresh_after it.strength)) refl
+  where
+    go : (b : Bool) → is_allowed view it.sense it.strength (is_fresh_after it.strength) ≡ b → b ≡ false
+    go false e = refl
+    go true e = elim (next-found it view (ap not stays)) [
+      | inl w ↦ (let reached = w.0.1 in absurd (omega arith))
+      | inr n ↦ absurd (n.1.1 it.strength less e)
+    ]
+
 by-strength : (it : Intent) (view : View) (complement : Vrc) (rank : Rank) → GoesOn it view → changes_sense it view complement rank ≡ false → Explains view complement rank (cells.Ra it) (strength_rule it view) (continuation_of it view)
 by-strength it view complement rank goes stays = stronger (nat_lt was is) refl
   where
@@ -87,7 +102,7 @@ by-strength it view complement rank goes stays = stronger (nat_lt was is) refl
 
     weaker : (b : Bool) → weakens_to_level it view ≡ b → is < was → Explains view complement rank (cells.Ra it) (if b then Weakens else Capped) (continuation_of it view)
     weaker true e h = weakens goes stays h e
-    weaker false e h = capped goes stays h e
+    weaker false e h = capped goes stays h e (not-allowed it view e h)
 
     equal : (b : Bool) → (was == is) ≡ b → nat_lt was is ≡ false → Explains view complement rank (cells.Ra it) (if b then Keeps else if weakens_to_level it view then Weakens else Capped) (continuation_of it view)
     equal true e h = keeps goes stays (same was is e)
@@ -171,11 +186,127 @@ cell-is e K own cycle made other may within few apart =
     yes a b h = grind (arith, nat_tests)
 
 pub commit-explained : (e : Parts) (J : List Entry) → IsEncounter e → IsLegal (air_of e) J → AreExplained e J
+unfolding reason_of shown_of seen_of
 commit-explained e J valid legal = λ K own cycle made other begins within apart.
     let crafts = few-crafts e valid in
     let may : MayCommit (air_of e) K own cycle made = allowed (legal-begins (air_of e) begins legal) in
     let seen = seen_of (sight_of e own cycle) other in
     let complement = complement_from (air_of e) K own other in
     let before = last_cell K own other in
-    subst (Explains seen.view complement seen.rank before (rule_of before seen.view complement seen.rank)) (sym (cell-is e K own cycle made other may within (omega arith) (λ same. apart (sym same))))
+    subst (Explains (view_of e own other cycle) complement seen.rank before (rule_of before seen.view complement seen.rank)) (sym (cell-is e K own cycle made other may within (omega arith) (λ same. apart (sym same))))
     (explained before seen.view complement seen.rank)
+
+-- ---- only one rule applies
+
+-- There was no advisory.
+from-nothing : (view : View) (complement : Vrc) (rank : Rank) (before : Cell) → AdvisesNothing before → view.tested ≡ true
+    → (rule_of before view complement rank ≡ starting_rule view complement) × (following_cell before view complement rank ≡ starting_cell view complement)
+from-nothing view complement rank cells.Clear none tested = rw tested (refl, refl)
+from-nothing view complement rank cells.Traffic none tested = rw tested (refl, refl)
+from-nothing view complement rank (cells.Ra it) none tested = absurd none
+
+told-starts : (complement : Vrc) → complement ≢ Nil → told_rule complement ≡ StartsAsTold
+told-starts Nil told = absurd (told refl)
+told-starts NotBelow told = refl
+told-starts NotAbove told = refl
+
+-- There was one, and it goes on.
+from-advisory : (view : View) (complement : Vrc) (rank : Rank) (it : Intent) → GoesOn it view
+    → (rule_of (cells.Ra it) view complement rank ≡ (if changes_sense it view complement rank then turning_rule rank else strength_rule it view)) × (following_cell (cells.Ra it) view complement rank ≡ continuing_cell it view complement rank)
+from-advisory view complement rank it goes =
+    let tested = goes.tested in
+    let resolves = goes.resolves in
+    let lasts = goes.lasts in
+    rw (tested, resolves, lasts) (refl, refl)
+
+turned-round : (view : View) (complement : Vrc) (rank : Rank) (it : Intent) → rank ≢ Second → calls_for_reversal view it.sense ≡ true → it.turned ≡ false
+    → (changes_sense it view complement rank ≡ true) × (turning_rule rank ≡ Reverses) × (is_turned_after it rank ≡ true)
+turned-round view complement First it other calls turned = (rw (calls, turned) refl, refl, refl)
+turned-round view complement Second it other calls turned = absurd (other refl)
+turned-round view complement Free it other calls turned = (rw (calls, turned) refl, refl, refl)
+
+-- The sense changes, or it stays.
+turning : (view : View) (complement : Vrc) (rank : Rank) (it : Intent) → GoesOn it view → changes_sense it view complement rank ≡ true
+    → (rule_of (cells.Ra it) view complement rank ≡ turning_rule rank) × (following_cell (cells.Ra it) view complement rank ≡ reversal_of it view (is_turned_after it rank))
+turning view complement rank it goes turns =
+    let from = from-advisory view complement rank it goes in
+    (from.0 ∙ (rw turns refl), from.1 ∙ (rw turns refl))
+
+staying : (view : View) (complement : Vrc) (rank : Rank) (it : Intent) → GoesOn it view → changes_sense it view complement rank ≡ false
+    → (rule_of (cells.Ra it) view complement rank ≡ strength_rule it view) × (following_cell (cells.Ra it) view complement rank ≡ continuation_of it view)
+staying view complement rank it goes stays =
+    let from = from-advisory view complement rank it goes in
+    (from.0 ∙ (rw stays refl), from.1 ∙ (rw stays refl))
+
+-- The rule of two places in the order of strengths.
+rule-by : ℕ → ℕ → Bool → Rule
+rule-by was is w = if nat_lt was is then Strengthens else if was == is then Keeps else if w then Weakens else Capped
+
+rule-rises : (was is : ℕ) (w : Bool) → was < is → rule-by was is w ≡ Strengthens
+unfolding rule-by
+rule-rises was is w h = let e : nat_lt was is ≡ true = grind (arith, nat_tests) in rw e refl
+
+rule-stays : (was is : ℕ) (w : Bool) → was ≡ is → rule-by was is w ≡ Keeps
+unfolding rule-by
+rule-stays was is w h =
+    let e : nat_lt was is ≡ false = grind (arith, nat_tests) in
+    let f : (was == is) ≡ true = grind (arith, nat_tests) in
+    rw (e, f) refl
+
+rule-falls : (was is : ℕ) (w : Bool) → is < was → rule-by was is w ≡ (if w then Weakens else Capped)
+unfolding rule-by
+rule-falls was is w h =
+    let e : nat_lt was is ≡ false = grind (arith, nat_tests) in
+    let f : (was == is) ≡ false = grind (arith, nat_tests) in
+    rw (e, f) refl
+
+by-places : (it : Intent) (view : View) → strength_rule it view ≡ rule-by (place_of it.strength) (place_of (strength_after it view)) (weakens_to_level it view)
+unfolding rule-by
+by-places it view = refl
+
+-- What applies is what the definitions give.
+abbrev IsGiven : View → Vrc → Rank → Cell → Rule → Cell → Type 0
+IsGiven view complement rank before rule cell = (rule ≡ rule_of before view complement rank) × (cell ≡ following_cell before view complement rank)
+
+applies : (view : View) (complement : Vrc) (rank : Rank) (before : Cell) (rule : Rule) (cell : Cell) → Explains view complement rank before rule cell → IsGiven view complement rank before rule cell
+applies view complement rank before rule cell (untested tested) = rw tested (refl, refl)
+applies view complement rank before rule cell (starts none tested threat nil) =
+    let from = from-nothing view complement rank before none tested in
+    ((rw (threat, nil) refl) ∙ sym from.0, (rw (threat, nil) refl) ∙ sym from.1)
+applies view complement rank before rule cell (starts_as_told none tested threat told) =
+    let from = from-nothing view complement rank before none tested in
+    ((rw threat (sym (told-starts complement told))) ∙ sym from.0, (rw threat refl) ∙ sym from.1)
+applies view complement rank before rule cell (traffic none tested threat there) =
+    let from = from-nothing view complement rank before none tested in
+    ((rw (threat, there) refl) ∙ sym from.0, (rw (threat, there) refl) ∙ sym from.1)
+applies view complement rank before rule cell (quiet none tested threat there) =
+    let from = from-nothing view complement rank before none tested in
+    ((rw (threat, there) refl) ∙ sym from.0, (rw (threat, there) refl) ∙ sym from.1)
+applies view complement rank before rule cell (ends_below_level tested resolves) = rw (tested, resolves) (refl, refl)
+applies view complement rank before rule cell (ends_without_threat tested resolves threat old) = rw (tested, resolves, threat, old) (refl, refl)
+applies view complement rank before rule cell (obeys {it = it} goes second forbidden) =
+    let turns : changes_sense it view complement rank ≡ true = rw second forbidden in
+    let from = turning view complement rank it goes turns in
+    ((rw second refl) ∙ sym from.0, (rw second refl) ∙ sym from.1)
+applies view complement rank before rule cell (reverses {it = it} goes other calls turned) =
+    let round = turned-round view complement rank it other calls turned in
+    let from = turning view complement rank it goes round.0 in
+    (sym round.1 ∙ sym from.0, ap (λ (b : Bool). reversal_of it view b) (sym round.2) ∙ sym from.1)
+applies view complement rank before rule cell (strengthens {it = it} goes stays rises) =
+    let from = staying view complement rank it goes stays in
+    (sym (rule-rises _ _ (weakens_to_level it view) rises) ∙ sym (by-places it view) ∙ sym from.0, sym from.1)
+applies view complement rank before rule cell (keeps {it = it} goes stays same) =
+    let from = staying view complement rank it goes stays in
+    (sym (rule-stays _ _ (weakens_to_level it view) same) ∙ sym (by-places it view) ∙ sym from.0, sym from.1)
+applies view complement rank before rule cell (weakens {it = it} goes stays falls level) =
+    let from = staying view complement rank it goes stays in
+    ((rw level refl) ∙ sym (rule-falls _ _ (weakens_to_level it view) falls) ∙ sym (by-places it view) ∙ sym from.0, sym from.1)
+applies view complement rank before rule cell (capped {it = it} goes stays falls level barred) =
+    let from = staying view complement rank it goes stays in
+    ((rw level refl) ∙ sym (rule-falls _ _ (weakens_to_level it view) falls) ∙ sym (by-places it view) ∙ sym from.0, sym from.1)
+
+pub once : ExplainsOnce
+once view complement rank before one two cell_one cell_two h g =
+    let a = applies view complement rank before one cell_one h in
+    let b = applies view complement rank before two cell_two g in
+    (a.0 ∙ sym b.0, a.1 ∙ sym b.1)

@@ -9,7 +9,7 @@ use Rattle.air_rules.specs.Air.{Air}
 use Rattle.air_rules.specs.Journal.{Sent, commits, sent_at}
 use Rattle.air_rules.specs.Takes.{Taken, complement_from, complement_read, is_from, last_take, read_copy, vrc_in_force}
 use Rattle.journal_reader.specs.Reading.{taken_at}
-use Rattle.reasons.specs.Aboard.{Heard, committed, heard_in, told, with_message}
+use Rattle.reasons.specs.Aboard.{Heard, committed, heard_in, told, with_message, without_positions}
 use Rattle.reasons.specs.Reasons.{told_by, told_of}
 use Rattle.reasons.specs.declared.told.Told.{Told}
 
@@ -98,10 +98,6 @@ nowhere at = 0
 abbrev without-place : Taken → ℕ
 without-place taken = 0
 
--- What was told, without its positions.
-abbrev pub unplaced-told : Told → Told
-unplaced-told it = record { complement = it.complement; sent_at = 0; taken_at = 0; commits_since = it.commits_since }
-
 unfoldable pub told-heard : List Heard → ℕ → Option Told
 told-heard heard other = told_by (in-force heard other) (made heard) (newest heard other) (option_map without-place (newest heard other))
 
@@ -118,7 +114,7 @@ placed air (Send own target number word ∷ K) craft other = placed air K craft 
 placed air (Take own send copy good ∷ K) craft other = by-place (good && (own == craft && is_from (sent_at K send) other)) _ _ (taken_at K craft other) (last_take air K craft other) (placed air K craft other)
 
 unplaced-by : (complement : Vrc) (n : ℕ) (taken : Option Taken) (place : Option ℕ) → option_map nowhere place ≡ option_map without-place taken
-    → option_map unplaced-told (told_by complement n taken place) ≡ told_by complement n (option_map unplaced taken) (option_map without-place (option_map unplaced taken))
+    → option_map without_positions (told_by complement n taken place) ≡ told_by complement n (option_map unplaced taken) (option_map without-place (option_map unplaced taken))
 unplaced-by Nil n taken place same = refl
 unplaced-by NotBelow n None place same = refl
 unplaced-by NotBelow n (Some taken) None same = absurd cc
@@ -127,7 +123,7 @@ unplaced-by NotAbove n None place same = refl
 unplaced-by NotAbove n (Some taken) None same = absurd cc
 unplaced-by NotAbove n (Some taken) (Some at) same = refl
 
-pub told-is : (air : Air) (K : List Entry) (craft other : ℕ) → option_map unplaced-told (told_of air K craft other) ≡ told-heard (heard_in air K craft) other
+pub told-is : (air : Air) (K : List Entry) (craft other : ℕ) → option_map without_positions (told_of air K craft other) ≡ told-heard (heard_in air K craft) other
 unfolding told_of told-heard
 told-is air K craft other =
     unplaced-by (complement_from air K craft other) (commits K craft) (last_take air K craft other) (taken_at K craft other) (placed air K craft other)

@@ -4,9 +4,11 @@ pub mod Separated
 pub mod Looking
 pub mod Pairing
 pub mod Ready
-pub mod Texts
 pub mod Reading
 pub mod Explaining
+pub mod Testing
+pub mod Sighted
+pub mod Columned
 pub mod Hearing
 pub mod OnBoard
 pub mod Naming

@@ -1,4 +1,4 @@
--- The message that a line names.
+-- The message that a reason names.
 use Rattle.std.proofs.Common.{◌≡◌, ◌≢◌, ℕ, ◌+◌, ◌<◌, ◌≤◌, Bool, true, false, List, [], ◌∷◌, length, Option, Some, None, refl, sym, ap, subst, ◌∙◌, arith, eqb-true, inl, inr}
 use Rattle.std.specs.Prelude.{◌==◌, ◌&&◌, if◌then◌else◌, nat_lt}
 use Rattle.std.proofs.lemmas.Bool.{and_parts}
@@ -15,7 +15,7 @@ use Rattle.air_rules.specs.Journal.{Begins, commits, is_commit_of, more, sent_at
 use Rattle.air_rules.specs.Takes.{Taken, complement_from, complement_read, is_from, lapse, last_take, read_copy, vrc_in_force}
 use Rattle.journal_reader.specs.Reading.{taken_at}
 use Rattle.reasons.specs.Aboard.{IsNamed, NamesItsMessage}
-use Rattle.reasons.specs.Reasons.{told_by, told_from, told_of}
+use Rattle.reasons.specs.Reasons.{reason_of, told_by, told_from, told_of}
 use Rattle.reasons.specs.declared.told.Told.{Told}
 
 -- The last good take, and its place.
@@ -109,8 +109,8 @@ is-told NotAbove n (Some taken) None it e = absurd cc
 is-told NotAbove n (Some taken) (Some place) it e = record { taken = taken; place = place; last_is = refl; at_is = refl; binds = λ never. cc; told_is = cc }
 
 pub names-its-message : NamesItsMessage
-unfolding told_of
-names-its-message e K own other it told =
+unfolding told_of reason_of
+names-its-message e K own cycle cells other it told =
     let air = air_of e in
     let made = commits K own in
     let complement = complement_from air K own other in

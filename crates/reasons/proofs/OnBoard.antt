@@ -1,8 +1,6 @@
--- What a line tells follows from what was on board.
-use Rattle.std.proofs.Common.{◌≡◌, ◌≢◌, ℕ, ◌+◌, ◌-◌, ◌<◌, ◌≤◌, Bool, true, false, List, [], ◌∷◌, ◌++◌, length, Option, Some, None, refl, sym, ap, ap₂, ◌∙◌, arith, eqb-true}
-use Rattle.std.specs.Prelude.{◌==◌, ◌&&◌, if◌then◌else◌, nat_lt, not, option_map, slice_set, take, drop}
-use Rattle.std.proofs.lemmas.List.{append_assoc, length-append, set-append_left, set-append_right}
-use Rattle.std.proofs.Math.Seq.{drop-append_seam, take-append_seam}
+-- What a reason says follows from what was on board.
+use Rattle.std.proofs.Common.{◌≡◌, ◌≢◌, ℕ, ◌+◌, ◌<◌, ◌≤◌, Bool, true, false, List, [], ◌∷◌, length, Option, Some, None, refl, sym, ap, ◌∙◌, arith, eqb-true}
+use Rattle.std.specs.Prelude.{◌==◌, ◌&&◌, if◌then◌else◌, nat_lt, not}
 use Rattle.std.proofs.lemmas.List.FromFn.{get_or-map-range_with_len}
 use Rattle.acas_base.specs.Encounter.{Parts}
 use Rattle.acas_base.specs.Next.{following_cell}
@@ -10,10 +8,8 @@ use Rattle.acas_base.specs.declared.TheConstants.{CRAFTS}
 use Rattle.acas_base.specs.declared.advisory.Cell.{Cell}
 use Rattle.acas_base.specs.declared.advisory.Cell.TheVariants as cells
 use Rattle.acas_base.specs.declared.advisory.Cells.{Cells}
-use Rattle.acas_base.specs.declared.advisory.Vrc.{Vrc}
 use Rattle.acas_base.specs.declared.entry.Entry.{Entry}
 use Rattle.acas_base.specs.declared.entry.Entry.TheVariants.{Commit, Send, Take}
-use Rattle.acas_base.specs.declared.view.View.{View}
 use Rattle.air_journal.proofs.Alike.{sees-the-same}
 use Rattle.air_journal.proofs.Bounds.{few-crafts}
 use Rattle.air_journal.specs.Airs.{air_of}
@@ -26,115 +22,32 @@ use Rattle.air_rules.specs.Worlds.{SeesTheSame}
 use Rattle.craft_view.specs.Facts.{SeesAlike}
 use Rattle.craft_view.specs.Sight.{Sight, sight_of}
 use Rattle.reasons.proofs.Explaining.{cell-is}
-use Rattle.reasons.proofs.Hearing.{commits-heard, complement-heard, in-force, made, told-heard, told-is, unplaced-told}
-use Rattle.reasons.specs.Aboard.{GoesByBoth, GoesByHearing, GoesBySight, Heard, committed, heard_in, told, told_side, with_message, without_names}
-use Rattle.reasons.specs.Columns.{chosen_fields, decided_fields, projected_fields, told_fields}
-use Rattle.reasons.specs.Reasons.{reason_row, told_of}
-use Rattle.reasons.specs.Rows.{Row, back_fields, front_fields}
+use Rattle.reasons.proofs.Hearing.{commits-heard, complement-heard, in-force, made, told-heard, told-is}
+use Rattle.reasons.specs.Aboard.{GoesByBoth, GoesByHearing, GoesBySight, Heard, committed, heard_in, told, with_message, without_names}
+use Rattle.reasons.specs.Reasons.{reason_of}
 use Rattle.reasons.specs.Rules.{rule_of}
 use Rattle.reasons.specs.Seen.{seen_of}
+use Rattle.reasons.specs.Shown.{continued_after, shown_of}
+use Rattle.reasons.specs.declared.reason.Reason.{Reason}
 use Rattle.reasons.specs.declared.rules.Rule.{Rule}
 use Rattle.reasons.specs.declared.seen.Seen.{Seen}
 use Rattle.reasons.specs.declared.told.Told.{Told}
-
--- ---- the groups of a line's back
-
-either : (b : Bool) (xs ys : List (List ℕ)) (n : ℕ) → length xs ≡ n → length ys ≡ n → length (if b then xs else ys) ≡ n
-either true xs ys n h g = h
-either false xs ys n h g = g
-
-projected-seven : (view : View) → length (projected_fields view) ≡ 7
-projected-seven view = either (view.tested && view.resolves) _ _ 7 refl refl
-
-chosen-five : (view : View) (before : Cell) → length (chosen_fields view before) ≡ 5
-chosen-five view cells.Clear = refl
-chosen-five view cells.Traffic = refl
-chosen-five view (cells.Ra it) = either (view.tested && view.resolves) _ _ 5 refl refl
-
-told-four : (it : Option Told) → length (told_fields it) ≡ 4
-told-four None = refl
-told-four (Some it) = refl
-
--- The fields of what was told, without the positions.
-hidden : Option Told → List (List ℕ)
-hidden it = slice_set (slice_set (told_fields it) 1 []) 2 []
-
-hidden-is : (it : Option Told) → hidden it ≡ hidden (option_map unplaced-told it)
-unfolding hidden
-hidden-is None = refl
-hidden-is (Some it) = refl
-
-hidden-four : (it : Option Told) → length (hidden it) ≡ 4
-unfolding hidden
-hidden-four None = refl
-hidden-four (Some it) = refl
-
--- A field of the third group of four is set within that group.
-set-third : (p c t d : List (List ℕ)) (n : ℕ) → length p ≡ 7 → length c ≡ 5 → 12 ≤ n → n - 7 - 5 < length t → slice_set (p ++ (c ++ (t ++ d))) n [] ≡ p ++ (c ++ (slice_set t (n - 7 - 5) [] ++ d))
-set-third p c t d n seven five past within =
-    set-append_right p (c ++ (t ++ d)) 7 n [] seven (omega arith)
-    ∙ ap (λ (xs : List (List ℕ)). p ++ xs) (set-append_right c (t ++ d) 5 (n - 7) [] five (omega arith))
-    ∙ ap (λ (xs : List (List ℕ)). p ++ (c ++ xs)) (set-append_left t d (n - 7 - 5) [] within)
-
-hidden-back : (view : View) (it : Option Told) (before cell : Cell) (rule : Rule)
-    → slice_set (slice_set (back_fields view it before cell rule) 13 []) 14 [] ≡ projected_fields view ++ (chosen_fields view before ++ (hidden it ++ decided_fields before cell rule))
-unfolding hidden
-hidden-back view it before cell rule =
-    let p = projected_fields view in
-    let c = chosen_fields view before in
-    let d = decided_fields before cell rule in
-    let four = told-four it in
-    ap (λ (xs : List (List ℕ)). slice_set xs 14 []) (set-third p c (told_fields it) d 13 (projected-seven view) (chosen-five view before) (omega arith) (omega (arith, four)))
-    ∙ set-third p c (slice_set (told_fields it) 1 []) d 14 (projected-seven view) (chosen-five view before) (omega arith) (by_one it)
-  where
-    by_one : (it : Option Told) → 2 < length (slice_set (told_fields it) 1 [])
-    by_one None = omega arith
-    by_one (Some it) = omega arith
 
 -- ---- by sight
 
 seen-alike : (e f : Parts) (own cycle other : ℕ) → SeesAlike e f own cycle → seen_of (sight_of e own cycle) other ≡ seen_of (sight_of f own cycle) other
 seen-alike e f own cycle other alike = ap (λ (s : Sight). seen_of s other) alike
 
-first-seven : (p rest : List (List ℕ)) → length p ≡ 7 → take 7 (p ++ rest) ≡ p
-first-seven p rest seven = ap (λ (n : ℕ). take n (p ++ rest)) (sym seven) ∙ take-append_seam p rest
-
 pub goes-by-sight : GoesBySight
-unfolding reason_row
-goes-by-sight e f own cycle alike J L a b other =
-    let seen = seen-alike e f own cycle other alike in
-    let v = (seen_of (sight_of e own cycle) other).view in
-    let w = (seen_of (sight_of f own cycle) other).view in
-    record {
-      front = ap (λ (s : Seen). slice_set (slice_set (front_fields cycle 0 0 s) 1 []) 2 []) seen;
-      projected = first-seven (projected_fields v) _ (projected-seven v) ∙ ap (λ (s : Seen). projected_fields s.view) seen ∙ sym (first-seven (projected_fields w) _ (projected-seven w));
-    }
+unfolding reason_of
+goes-by-sight e f own cycle alike J L a b other = ap (λ (s : Seen). shown_of s) (seen-alike e f own cycle other alike)
 
 -- ---- by what was heard
 
-middle-four : (p c t d : List (List ℕ)) → length p ≡ 7 → length c ≡ 5 → length t ≡ 4 → take 4 (drop 12 (p ++ (c ++ (t ++ d)))) ≡ t
-middle-four p c t d seven five four =
-    let twelve : length (p ++ c) ≡ 12 = length-append p c ∙ ap₂ (λ (a b : ℕ). a + b) seven five in
-    ap (λ (xs : List (List ℕ)). take 4 (drop 12 xs)) (sym (append_assoc p c (t ++ d)))
-    ∙ ap (λ (n : ℕ). take 4 (drop n ((p ++ c) ++ (t ++ d)))) (sym twelve)
-    ∙ ap (λ (xs : List (List ℕ)). take 4 xs) (drop-append_seam (p ++ c) (t ++ d))
-    ∙ ap (λ (n : ℕ). take n (t ++ d)) (sym four)
-    ∙ take-append_seam t d
-
-told-side-is : (e : Parts) (J : List Entry) (own cycle other : ℕ) (a : Cells) → told_side (reason_row e J own cycle a other) ≡ hidden (told-heard (heard_in (air_of e) J own) other)
-unfolding reason_row
-told-side-is e J own cycle other a =
-    let seen = seen_of (sight_of e own cycle) other in
-    let before = last_cell J own other in
-    let it = told_of (air_of e) J own other in
-    ap (λ (xs : List (List ℕ)). take 4 (drop 12 xs)) (hidden-back seen.view it before (cell_at a other) _)
-    ∙ middle-four (projected_fields seen.view) (chosen_fields seen.view before) (hidden it) _ (projected-seven seen.view) (chosen-five seen.view before) (hidden-four it)
-    ∙ hidden-is it
-    ∙ ap hidden (told-is (air_of e) J own other)
-
 pub goes-by-hearing : GoesByHearing
+unfolding reason_of
 goes-by-hearing e f own J L same c d a b other =
-    told-side-is e J own c other a ∙ ap (λ (heard : List Heard). hidden (told-heard heard other)) same ∙ sym (told-side-is f L own d other b)
+    told-is (air_of e) J own other ∙ ap (λ (heard : List Heard). told-heard heard other) same ∙ sym (told-is (air_of f) L own other)
 
 -- ---- by both
 
@@ -190,32 +103,32 @@ replayed-alike one two own last sees (committed ∷ heard) within other =
     λ i. if nat_lt other (sees.count i) && not (own == other) then following_cell (before i) (views i) (in-force heard other) (sees.ranks other i) else cells.Clear
 replayed-alike one two own last sees (told sender complement ∷ heard) within other = replayed-alike one two own last sees heard within other
 
--- What a line tells, of what it is made of.
-line-of : ℕ → Seen → Option Told → Cell → Cell → Rule → Row
-line-of cycle seen it before cell rule = record {
-  first = [];
-  front = slice_set (slice_set (front_fields cycle 0 0 seen) 1 []) 2 [];
-  back = projected_fields seen.view ++ (chosen_fields seen.view before ++ (hidden it ++ decided_fields before cell rule));
+-- A reason without its names, of what it is made of.
+without-names-of : ℕ → Seen → Option Told → Cell → Cell → Rule → Reason
+without-names-of cycle seen it before cell rule = record {
+  position = 0;
+  cycle = cycle;
+  own = 0;
+  other = 0;
+  seen = shown_of seen;
+  continued = continued_after seen.view before;
+  told = it;
+  before = before;
+  cell = cell;
+  rule = rule;
 }
 
-line-is : (e : Parts) (J : List Entry) (own cycle other : ℕ) (a : Cells) → without_names (reason_row e J own cycle a other)
-    ≡ line-of cycle (seen_of (sight_of e own cycle) other) (told-heard (heard_in (air_of e) J own) other) (last_cell J own other) (cell_at a other)
+reason-is-of : (e : Parts) (J : List Entry) (own cycle other : ℕ) (a : Cells) → without_names (reason_of e J own cycle a other)
+    ≡ without-names-of cycle (seen_of (sight_of e own cycle) other) (told-heard (heard_in (air_of e) J own) other) (last_cell J own other) (cell_at a other)
     (rule_of (last_cell J own other) (seen_of (sight_of e own cycle) other).view (in-force (heard_in (air_of e) J own) other) (seen_of (sight_of e own cycle) other).rank)
-unfolding reason_row line-of
-line-is e J own cycle other a =
+unfolding reason_of without-names-of
+reason-is-of e J own cycle other a =
     let air = air_of e in
     let seen = seen_of (sight_of e own cycle) other in
     let before = last_cell J own other in
-    let cell = cell_at a other in
-    let it = told_of air J own other in
-    let heard = heard_in air J own in
-    let shown = projected_fields seen.view in
-    let chosen = chosen_fields seen.view before in
-    let rule = rule_of before seen.view (complement_from air J own other) seen.rank in
-    let back = hidden-back seen.view it before cell rule
-    ∙ ap (λ (xs : List (List ℕ)). shown ++ (chosen ++ (xs ++ decided_fields before cell rule))) (hidden-is it ∙ ap hidden (told-is air J own other))
-    ∙ ap (λ (v : Vrc). shown ++ (chosen ++ (hidden (told-heard heard other) ++ decided_fields before cell (rule_of before seen.view v seen.rank)))) (complement-heard air J own other) in
-    λ i. record { first = []; front = slice_set (slice_set (front_fields cycle 0 0 seen) 1 []) 2 []; back = back i }
+    let told = told-is air J own other in
+    let force = complement-heard air J own other in
+    λ i. without-names-of cycle seen (told i) before (cell_at a other) (rule_of before seen.view (force i) seen.rank)
 
 pub goes-by-both : GoesByBoth
 goes-by-both e f own cycle K M a b valid legal_one legal_two alike same other within apart =
@@ -241,6 +154,6 @@ goes-by-both e f own cycle K M a b valid legal_one legal_two alike same other wi
     let cell = cell-is e K own cycle a other here within few other_one
     ∙ (λ i. following_cell (before i) (seen i).view (complement i) (seen i).rank)
     ∙ sym (cell-is f M own cycle b other there (omega arith) few other_one) in
-    line-is e K own cycle other a
-    ∙ (λ i. line-of cycle (seen i) (told i) (before i) (cell i) (rule_of (before i) (seen i).view (force i) (seen i).rank))
-    ∙ sym (line-is f M own cycle other b)
+    reason-is-of e K own cycle other a
+    ∙ (λ i. without-names-of cycle (seen i) (told i) (before i) (cell i) (rule_of (before i) (seen i).view (force i) (seen i).rank))
+    ∙ sym (reason-is-of f M own cycle other b)

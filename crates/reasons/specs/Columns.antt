@@ -1,130 +1,61 @@
--- The fields of a line, group by group. Estimates are in 1/1024 ft, rates in 1/1024 ft/s.
-use Rattle.std.specs.Prelude.{ℕ, ◌/◌, ◌&&◌, true, false, if◌then◌else◌, ℤ, ◌-ℤ◌, unsigned_abs, List, [], ◌∷◌, ◌++◌, Option, Some, None, codes, replicate}
+-- The columns of the text: the name of each, and what it tells of a line.
+use Rattle.std.specs.Prelude.{ℕ, List, [], ◌∷◌, ◌++◌, Option, codes, map}
 use Rattle.std.specs.Fmt.{decimal, signed_decimal}
-use Rattle.acas_base.specs.Choice.{is_fresh_after, least_strength, separation_of, strongest}
-use Rattle.acas_base.specs.Senses.{other_sense}
-use Rattle.acas_base.specs.declared.advisory.Cell.{Cell}
-use Rattle.acas_base.specs.declared.advisory.Cell.TheVariants.{Clear, Traffic, Ra}
-use Rattle.acas_base.specs.declared.advisory.Intent.{Intent}
 use Rattle.acas_base.specs.declared.advisory.Rank.{Rank}
 use Rattle.acas_base.specs.declared.advisory.Rank.TheVariants.{First, Second, Free}
 use Rattle.acas_base.specs.declared.advisory.Sense.{Sense}
 use Rattle.acas_base.specs.declared.advisory.Sense.TheVariants.{Up, Down}
 use Rattle.acas_base.specs.declared.advisory.Vrc.{Vrc}
 use Rattle.acas_base.specs.declared.advisory.Vrc.TheVariants.{Nil, NotBelow, NotAbove}
-use Rattle.acas_base.specs.declared.level.Row.{Row}
-use Rattle.acas_base.specs.declared.view.View.{View}
+use Rattle.acas_lines.specs.Lines.{line_of}
 use Rattle.acas_text.specs.Hex.{hex}
 use Rattle.advisory_report.specs.Cells.{cell_text, strength_digit}
-use Rattle.craft_view.specs.declared.motion.Motion.{Motion}
-use Rattle.craft_view.specs.declared.own.OwnAircraft.{OwnAircraft}
 use Rattle.flight.specs.declared.measuring.Meas.{Meas}
-use Rattle.reasons.specs.Fields.{if_any, mark, tenths, tenths_a_minute}
-use Rattle.reasons.specs.Seconds.{altitude_seconds, range_seconds}
+use Rattle.reasons.specs.Fields.{if_any, mark, with_point}
+use Rattle.reasons.specs.declared.reason.Reason.{Reason}
 use Rattle.reasons.specs.declared.rules.Rule.{Rule}
 use Rattle.reasons.specs.declared.rules.Rule.TheVariants as rules
+use Rattle.reasons.specs.declared.shown.Continued.{Continued}
+use Rattle.reasons.specs.declared.shown.Projected.{Projected}
+use Rattle.reasons.specs.declared.shown.TestSeconds.{TestSeconds}
+use Rattle.reasons.specs.declared.shown.Tested.{Tested}
 use Rattle.reasons.specs.declared.told.Told.{Told}
 
--- So many fields with nothing in them.
-abbrev pub nothing : ℕ → List (List ℕ)
-nothing count = replicate count []
+-- A column of a text about such values.
+pub record Column (T : Type 0) : Type 0 where
+  pub name : List ℕ
+  pub text : T → List ℕ
 
--- ---- who and when
+abbrev pub column : {T : Type 0} → List ℕ → (T → List ℕ) → Column T
+column name text = record { name = name; text = text }
+
+-- The fields of a value, or as many with nothing in them.
+abbrev pub texts : {T : Type 0} → List (Column T) → T → List (List ℕ)
+texts columns value = map (λ c. c.text value) columns
+
+abbrev pub texts_if_any : {T : Type 0} → List (Column T) → Option T → List (List ℕ)
+texts_if_any columns value = map (λ c. if_any c.text value) columns
+
+-- Columns about a part of a reason that there may be.
+abbrev pub where_any : {T : Type 0} → (Reason → Option T) → List (Column T) → List (Column Reason)
+where_any part columns = map (λ c. column c.name (λ reason. if_any c.text (part reason))) columns
+
+-- ---- words
 
 abbrev pub rank_text : Rank → List ℕ
 rank_text First = codes "first"
 rank_text Second = codes "second"
 rank_text Free = codes "free"
 
--- The cycle, both addresses, and the rank of the first one against the second.
-abbrev pub named_fields : ℕ → ℕ → ℕ → Rank → List (List ℕ)
-named_fields cycle own other rank = decimal cycle ∷ hex 6 own ∷ hex 6 other ∷ rank_text rank ∷ []
-
--- ---- what was measured
-
--- Of the other aircraft, where its reply wasn't missed.
-abbrev pub reply_fields : Option Meas → List (List ℕ)
-reply_fields None = nothing 2
-reply_fields (Some meas) = decimal meas.range ∷ signed_decimal meas.alt ∷ []
-
--- Of own aircraft: its altitude and its height above ground in ft, its sensitivity level, and whether it may climb.
-abbrev pub own_fields : ℤ → OwnAircraft → ℕ → List (List ℕ)
-own_fields altitude own level = signed_decimal altitude ∷ signed_decimal own.height ∷ decimal level ∷ mark own.climbs ∷ []
-
--- ---- what is tracked, where the pair is tested
-
-abbrev pub tracked_fields : Option Motion → List (List ℕ)
-tracked_fields None = nothing 5
-tracked_fields (Some m) =
-    tenths m.range.est ∷ tenths m.range.rate ∷ tenths (m.target.est -ℤ m.own.est) ∷ tenths_a_minute (m.target.rate -ℤ m.own.rate) ∷ tenths_a_minute m.own.rate ∷ []
-
--- ---- what the tests need, where the pair is tested
-
--- The seconds of both tests with the thresholds of a row, where there is one.
-abbrev pub seconds_fields : Motion → Option Row → List (List ℕ)
-seconds_fields m None = nothing 2
-seconds_fields m (Some row) =
-    if_any decimal (range_seconds m.range.est m.range.rate row) ∷ if_any decimal (altitude_seconds (m.target.est -ℤ m.own.est) (m.target.rate -ℤ m.own.rate) row) ∷ []
-
-abbrev pub tau_text : Row → List ℕ
-tau_text row = decimal (unsigned_abs row.tau)
-
--- What the traffic advisory needs and what the resolution advisory needs, tau of both, and whether there is traffic and a
--- threat.
-abbrev pub tested_fields : OwnAircraft → View → Option Motion → List (List ℕ)
-tested_fields own view None = nothing 8
-tested_fields own view (Some m) =
-    seconds_fields m (Some own.traffic) ++ (seconds_fields m own.resolution
-    ++ (tau_text own.traffic ∷ if_any tau_text own.resolution ∷ mark view.traffic ∷ mark view.threat ∷ []))
-
--- ---- what the senses would give, where own aircraft resolves
-
 abbrev pub sense_text : Sense → List ℕ
 sense_text Up = codes "up"
 sense_text Down = codes "down"
-
--- The strongest allowed strength of a fresh choice, and what it gives.
-abbrev pub best_fields : View → Sense → List (List ℕ)
-best_fields view sense = strength_digit (strongest view sense true) ∷ tenths (separation_of view sense (strongest view sense true) true) ∷ []
-
--- The half-seconds to closest approach, ALIM in ft, the sense that doesn't cross, and both senses.
-abbrev pub projected_fields : View → List (List ℕ)
-projected_fields view =
-    if view.tested && view.resolves
-    then decimal view.halves ∷ decimal (unsigned_abs view.alim / 1024) ∷ sense_text view.side ∷ (best_fields view Up ++ best_fields view Down)
-    else nothing 7
-
--- What an advisory may go on with: whether the choice of its strength is fresh, the least strength of that choice and what
--- it gives; and what the strongest allowed strengths give with the later response, in its sense and, freshly chosen, in
--- the other one.
-abbrev pub advised_fields : View → Intent → List (List ℕ)
-advised_fields view before =
-    let fresh = is_fresh_after before.strength in
-    let need = least_strength view before.sense fresh in
-    let other = other_sense before.sense in
-    mark fresh ∷ strength_digit need ∷ tenths (separation_of view before.sense need fresh)
-    ∷ tenths (separation_of view before.sense (strongest view before.sense false) false) ∷ tenths (separation_of view other (strongest view other true) false) ∷ []
-
--- The same, where there was an advisory.
-abbrev pub chosen_fields : View → Cell → List (List ℕ)
-chosen_fields view Clear = nothing 5
-chosen_fields view Traffic = nothing 5
-chosen_fields view (Ra before) = if view.tested && view.resolves then advised_fields view before else nothing 5
-
--- ---- what own aircraft was told
 
 -- "Do not pass below" is `below`, "do not pass above" is `above`.
 abbrev pub complement_text : Vrc → List ℕ
 complement_text Nil = []
 complement_text NotBelow = codes "below"
 complement_text NotAbove = codes "above"
-
--- The complement in force, the positions of the send and of the take of its message, and the commits since.
-abbrev pub told_fields : Option Told → List (List ℕ)
-told_fields None = nothing 4
-told_fields (Some told) = complement_text told.complement ∷ decimal told.sent_at ∷ decimal told.taken_at ∷ decimal told.commits_since ∷ []
-
--- ---- what was decided
 
 abbrev pub rule_text : Rule → List ℕ
 rule_text rules.Untested = codes "untested"
@@ -141,5 +72,136 @@ rule_text rules.Keeps = codes "keeps"
 rule_text rules.Weakens = codes "weakens"
 rule_text rules.Capped = codes "capped"
 
-abbrev pub decided_fields : Cell → Cell → Rule → List (List ℕ)
-decided_fields before cell rule = cell_text before ∷ cell_text cell ∷ rule_text rule ∷ []
+-- ---- the columns, group by group
+
+-- The commit.
+abbrev pub position_column : Column Reason
+position_column = column (codes "position") (λ reason. decimal reason.position)
+
+-- When and who.
+abbrev pub named_columns : List (Column Reason)
+named_columns =
+    column (codes "cycle") (λ reason. decimal reason.cycle)
+    ∷ column (codes "own") (λ reason. hex 6 reason.own)
+    ∷ column (codes "other") (λ reason. hex 6 reason.other)
+    ∷ column (codes "rank") (λ reason. rank_text reason.seen.rank)
+    ∷ []
+
+-- What was measured of the other aircraft, where its reply wasn't missed.
+abbrev pub reply_columns : List (Column Meas)
+reply_columns =
+    column (codes "measured_range_ft") (λ meas. decimal meas.range)
+    ∷ column (codes "reported_alt_ft") (λ meas. signed_decimal meas.alt)
+    ∷ []
+
+-- What own aircraft measures of itself.
+abbrev pub own_columns : List (Column Reason)
+own_columns =
+    column (codes "own_alt_ft") (λ reason. signed_decimal reason.seen.altitude)
+    ∷ column (codes "agl_ft") (λ reason. signed_decimal reason.seen.height)
+    ∷ column (codes "level") (λ reason. decimal reason.seen.level)
+    ∷ column (codes "climbs") (λ reason. mark reason.seen.climbs)
+    ∷ []
+
+-- What is tracked, where the pair is tested.
+abbrev pub tracked_columns : List (Column Tested)
+tracked_columns =
+    column (codes "range_ft") (λ tested. with_point tested.range)
+    ∷ column (codes "range_rate_fps") (λ tested. with_point tested.range_rate)
+    ∷ column (codes "alt_diff_ft") (λ tested. with_point tested.height)
+    ∷ column (codes "alt_diff_rate_fpm") (λ tested. with_point tested.height_rate)
+    ∷ column (codes "own_rate_fpm") (λ tested. with_point tested.own_rate)
+    ∷ []
+
+-- The seconds that a test needs, where there are any.
+abbrev pub seconds_text : Option ℕ → List ℕ
+seconds_text seconds = if_any decimal seconds
+
+abbrev pub range_text : TestSeconds → List ℕ
+range_text needs = seconds_text needs.range
+
+abbrev pub altitude_text : TestSeconds → List ℕ
+altitude_text needs = seconds_text needs.altitude
+
+abbrev pub tau_text : TestSeconds → List ℕ
+tau_text needs = decimal needs.tau
+
+-- What the tests need, and whether they hold.
+abbrev pub test_columns : List (Column Tested)
+test_columns =
+    column (codes "ta_range_s") (λ tested. range_text tested.ta)
+    ∷ column (codes "ta_alt_s") (λ tested. altitude_text tested.ta)
+    ∷ column (codes "ra_range_s") (λ tested. if_any range_text tested.ra)
+    ∷ column (codes "ra_alt_s") (λ tested. if_any altitude_text tested.ra)
+    ∷ column (codes "ta_tau_s") (λ tested. tau_text tested.ta)
+    ∷ column (codes "ra_tau_s") (λ tested. if_any tau_text tested.ra)
+    ∷ column (codes "traffic") (λ tested. mark tested.traffic)
+    ∷ column (codes "threat") (λ tested. mark tested.threat)
+    ∷ []
+
+abbrev pub tested_columns : List (Column Tested)
+tested_columns = tracked_columns ++ test_columns
+
+-- What the senses would give, where own aircraft resolves besides.
+abbrev pub projected_columns : List (Column Projected)
+projected_columns =
+    column (codes "halves") (λ projected. decimal projected.halves)
+    ∷ column (codes "alim_ft") (λ projected. decimal projected.alim)
+    ∷ column (codes "side") (λ projected. sense_text projected.side)
+    ∷ column (codes "up_strength") (λ projected. strength_digit projected.up.strength)
+    ∷ column (codes "up_ft") (λ projected. with_point projected.up.separation)
+    ∷ column (codes "down_strength") (λ projected. strength_digit projected.down.strength)
+    ∷ column (codes "down_ft") (λ projected. with_point projected.down.separation)
+    ∷ column (codes "chosen") (λ projected. sense_text projected.chosen)
+    ∷ []
+
+-- What an advisory may go on with, where there was one besides.
+abbrev pub continued_columns : List (Column Continued)
+continued_columns =
+    column (codes "fresh") (λ continued. mark continued.fresh)
+    ∷ column (codes "need") (λ continued. strength_digit continued.need)
+    ∷ column (codes "need_ft") (λ continued. with_point continued.separation)
+    ∷ column (codes "same_later_ft") (λ continued. with_point continued.same_later)
+    ∷ column (codes "other_later_ft") (λ continued. with_point continued.other_later)
+    ∷ column (codes "has_alim") (λ continued. mark continued.has_alim)
+    ∷ []
+
+-- The complement in force, where there is one, the positions of the send and of the take of its message, and the commits since.
+abbrev pub told_columns : List (Column Told)
+told_columns =
+    column (codes "complement") (λ told. complement_text told.complement)
+    ∷ column (codes "sent_at") (λ told. decimal told.sent_at)
+    ∷ column (codes "taken_at") (λ told. decimal told.taken_at)
+    ∷ column (codes "commits_since") (λ told. decimal told.commits_since)
+    ∷ []
+
+-- What was decided.
+abbrev pub decided_columns : List (Column Reason)
+decided_columns =
+    column (codes "before") (λ reason. cell_text reason.before)
+    ∷ column (codes "cell") (λ reason. cell_text reason.cell)
+    ∷ column (codes "rule") (λ reason. rule_text reason.rule)
+    ∷ []
+
+-- ---- all columns, in order
+
+abbrev pub further_columns : List (Column Reason)
+further_columns =
+    named_columns
+    ++ (where_any (λ reason. reason.seen.reply) reply_columns
+    ++ (own_columns
+    ++ (where_any (λ reason. reason.seen.tested) tested_columns
+    ++ (where_any (λ reason. reason.seen.projected) projected_columns
+    ++ (where_any (λ reason. reason.continued) continued_columns
+    ++ (where_any (λ reason. reason.told) told_columns
+    ++ decided_columns))))))
+
+abbrev pub columns : List (Column Reason)
+columns = position_column ∷ further_columns
+
+-- The line with their names, and the line of a reason.
+unfoldable pub names_line : List ℕ
+names_line = line_of (map (λ (c : Column Reason). c.name) columns)
+
+unfoldable pub reason_line : Reason → List ℕ
+reason_line reason = line_of (texts columns reason)

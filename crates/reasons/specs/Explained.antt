@@ -1,9 +1,9 @@
 -- What holds where a cell followed by a rule, and what the rule gives.
 use Rattle.std.specs.Prelude.{◌≡◌, ◌≢◌, ℕ, ◌<◌, ◌&&◌, true, false, not, nat_le, List, ◌∷◌, length}
-use Rattle.acas_base.specs.Choice.{calls_for_reversal, chosen_sense, strength_after, weakens as weakens_to_level}
+use Rattle.acas_base.specs.Choice.{calls_for_reversal, chosen_sense, is_fresh_after, strength_after, weakens as weakens_to_level}
 use Rattle.acas_base.specs.Complements.{forbids}
 use Rattle.acas_base.specs.Next.{changes_sense, continuation_of, new_advisory, reversal_of, starting_sense, traffic_cell}
-use Rattle.acas_base.specs.Strengths.{place_of}
+use Rattle.acas_base.specs.Strengths.{is_allowed, place_of}
 use Rattle.acas_base.specs.Encounter.{Parts}
 use Rattle.acas_base.specs.declared.advisory.Cell.{Cell}
 use Rattle.acas_base.specs.declared.advisory.Cell.TheVariants as cells
@@ -17,11 +17,10 @@ use Rattle.acas_base.specs.declared.entry.Entry.{Entry}
 use Rattle.acas_base.specs.declared.entry.Entry.TheVariants.{Commit}
 use Rattle.acas_base.specs.declared.view.View.{View}
 use Rattle.air_journal.specs.Airs.{air_of}
-use Rattle.air_rules.specs.Journal.{Begins, cell_at, last_cell}
+use Rattle.air_rules.specs.Journal.{Begins}
 use Rattle.air_rules.specs.Takes.{complement_from}
-use Rattle.craft_view.specs.Sight.{sight_of}
-use Rattle.reasons.specs.Rules.{rule_of}
-use Rattle.reasons.specs.Seen.{seen_of}
+use Rattle.craft_view.specs.Views.{view_of}
+use Rattle.reasons.specs.Reasons.{reason_of}
 use Rattle.reasons.specs.declared.rules.Rule.{Rule}
 use Rattle.reasons.specs.declared.rules.Rule.TheVariants.{Untested, Starts, StartsAsTold, Traffic, Quiet, EndsBelowLevel, EndsWithoutThreat, Obeys, Reverses, Strengthens, Keeps, Weakens, Capped}
 
@@ -51,17 +50,24 @@ pub data Explains (view : View) (complement : Vrc) (rank : Rank) : Cell → Rule
   strengthens : {it : Intent} → GoesOn it view → changes_sense it view complement rank ≡ false → place_of it.strength < place_of (strength_after it view) → Explains view complement rank (cells.Ra it) Strengthens (continuation_of it view)
   keeps : {it : Intent} → GoesOn it view → changes_sense it view complement rank ≡ false → place_of it.strength ≡ place_of (strength_after it view) → Explains view complement rank (cells.Ra it) Keeps (continuation_of it view)
   weakens : {it : Intent} → GoesOn it view → changes_sense it view complement rank ≡ false → place_of (strength_after it view) < place_of it.strength → weakens_to_level it view ≡ true → Explains view complement rank (cells.Ra it) Weakens (continuation_of it view)
-  capped : {it : Intent} → GoesOn it view → changes_sense it view complement rank ≡ false → place_of (strength_after it view) < place_of it.strength → weakens_to_level it view ≡ false → Explains view complement rank (cells.Ra it) Capped (continuation_of it view)
+  capped : {it : Intent} → GoesOn it view → changes_sense it view complement rank ≡ false → place_of (strength_after it view) < place_of it.strength → weakens_to_level it view ≡ false → is_allowed view it.sense it.strength (is_fresh_after it.strength) ≡ false → Explains view complement rank (cells.Ra it) Capped (continuation_of it view)
 
--- The cell of a commit for another aircraft is the one that the rule gives, by which it is said to follow.
-abbrev pub CommitIsExplained : Parts → List Entry → ℕ → ℕ → Cells → ℕ → Type 0
-CommitIsExplained e journal own cycle cells other =
-    let seen = seen_of (sight_of e own cycle) other in
-    let complement = complement_from (air_of e) journal own other in
-    let before = last_cell journal own other in
-    Explains seen.view complement seen.rank before (rule_of before seen.view complement seen.rank) (cell_at cells other)
+-- By one view, complement and rank, and after one cell, at most one rule applies, and it gives one cell.
+abbrev pub ExplainsOnce : Type 0
+ExplainsOnce = (view : View) (complement : Vrc) (rank : Rank) (before : Cell) (one two : Rule) (cell_one cell_two : Cell) →
+    Explains view complement rank before one cell_one → Explains view complement rank before two cell_two → (one ≡ two) × (cell_one ≡ cell_two)
 
--- So is each cell of a journal's commits.
+-- The cell of a reason is the one that its rule gives after the cell before, by its rank, the view in the cycle and the complement
+-- in force.
+abbrev pub IsExplained : Parts → List Entry → ℕ → ℕ → Cells → ℕ → Type 0
+IsExplained e journal own cycle cells other =
+    let reason = reason_of e journal own cycle cells other in
+    Explains (view_of e own other cycle) (complement_from (air_of e) journal own other) reason.seen.rank reason.before reason.rule reason.cell
+
+-- What holds of the reason of each commit of a journal, against each other aircraft.
+abbrev pub OfEachReason : (Parts → List Entry → ℕ → ℕ → Cells → ℕ → Type 0) → Parts → List Entry → Type 0
+OfEachReason Holds e journal =
+    (earlier : List Entry) (own cycle : ℕ) (cells : Cells) (other : ℕ) → Begins (Commit own cycle cells ∷ earlier) journal → other < length e.crafts → other ≢ own → Holds e earlier own cycle cells other
+
 abbrev pub AreExplained : Parts → List Entry → Type 0
-AreExplained e journal =
-    (earlier : List Entry) (own cycle : ℕ) (cells : Cells) (other : ℕ) → Begins (Commit own cycle cells ∷ earlier) journal → other < length e.crafts → other ≢ own → CommitIsExplained e earlier own cycle cells other
+AreExplained e journal = OfEachReason IsExplained e journal

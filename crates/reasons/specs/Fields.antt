@@ -1,5 +1,5 @@
 -- The texts of single fields.
-use Rattle.std.specs.Prelude.{ℕ, ◌/◌, ◌%◌, Bool, if◌then◌else◌, ℤ, pos, ◌*ℤ◌, int_lt, unsigned_abs, List, [], ◌∷◌, ◌++◌, Option, codes}
+use Rattle.std.specs.Prelude.{ℕ, ◌/◌, ◌%◌, Bool, if◌then◌else◌, ℤ, pos, ◌*ℤ◌, int_lt, unsigned_abs, List, [], ◌∷◌, ◌++◌, Option, codes, replicate}
 use Rattle.std.specs.Fmt.{decimal}
 use Rattle.std.specs.Int.{int_div_euclid}
 use Rattle.std.specs.Option.{option_map_or}
@@ -11,6 +11,10 @@ with_field line field = line ++ 44 ∷ field
 abbrev pub with_fields : List ℕ → List (List ℕ) → List ℕ
 with_fields line [] = line
 with_fields line (field ∷ rest) = with_fields (with_field line field) rest
+
+-- So many fields with nothing in them.
+abbrev pub nothing : ℕ → List (List ℕ)
+nothing count = replicate count []
 
 -- Nothing, where there is nothing to say.
 abbrev pub if_any : {X : Type 0} → (X → List ℕ) → Option X → List ℕ
@@ -24,14 +28,11 @@ mark holds = if holds then codes "1" else codes "0"
 abbrev pub with_point : ℤ → List ℕ
 with_point tenths = (if int_lt tenths (pos 0) then codes "-" else []) ++ decimal (unsigned_abs tenths / 10) ++ codes "." ++ decimal (unsigned_abs tenths % 10)
 
--- The tenths in a number of 1/1024, rounded down.
+-- The tenths in a number of 1/1024, rounded down: tenths of a foot of a length in 1/1024 ft, tenths of ft/s of a rate in
+-- 1/1024 ft/s.
 abbrev pub tenths_of : ℤ → ℤ
 tenths_of n = int_div_euclid (pos 10 *ℤ n) (pos 1024)
 
--- A length in 1/1024 ft, in ft; a rate in 1/1024 ft/s, in ft/s.
-abbrev pub tenths : ℤ → List ℕ
-tenths n = with_point (tenths_of n)
-
--- A rate in 1/1024 ft/s, in ft/min.
-abbrev pub tenths_a_minute : ℤ → List ℕ
-tenths_a_minute rate = tenths (pos 60 *ℤ rate)
+-- Tenths of ft/min of a rate in 1/1024 ft/s, rounded down.
+abbrev pub tenths_a_minute_of : ℤ → ℤ
+tenths_a_minute_of rate = tenths_of (pos 60 *ℤ rate)

@@ -1,6 +1,5 @@
--- The text of the reasons of a journal. The newest entry of a journal stands first.
+-- The reasons of a journal, and their text. The newest entry of a journal stands first.
 use Rattle.std.specs.Prelude.{ℕ, ◌-◌, ◌==◌, if◌then◌else◌, List, [], ◌∷◌, ◌++◌, length, map, Option, None, option_map, codes}
-use Rattle.std.specs.Fmt.{decimal}
 use Rattle.std.specs.List.{flat_map, range_with_len}
 use Rattle.std.specs.Option.{option_and_then}
 use Rattle.acas_base.specs.Encounter.{Parts}
@@ -16,9 +15,11 @@ use Rattle.air_rules.specs.Journal.{cell_at, commits, last_cell}
 use Rattle.air_rules.specs.Takes.{Taken, complement_from, last_take}
 use Rattle.craft_view.specs.Sight.{sight_of}
 use Rattle.journal_reader.specs.Reading.{taken_at}
-use Rattle.reasons.specs.Rows.{Row, back_fields, columns, front_fields, row_line, row_parts}
+use Rattle.reasons.specs.Columns.{names_line, reason_line}
 use Rattle.reasons.specs.Rules.{rule_of}
 use Rattle.reasons.specs.Seen.{seen_of}
+use Rattle.reasons.specs.Shown.{continued_after, shown_of}
+use Rattle.reasons.specs.declared.reason.Reason.{Reason}
 use Rattle.reasons.specs.declared.seen.Seen.{Seen}
 use Rattle.reasons.specs.declared.told.Told.{Told}
 
@@ -36,47 +37,49 @@ told_by NotAbove made taken at = option_and_then (λ (t : Taken). option_map (to
 unfoldable pub told_of : Air → List Entry → ℕ → ℕ → Option Told
 told_of air journal own other = told_by (complement_from air journal own other) (commits journal own) (last_take air journal own other) (taken_at journal own other)
 
--- The line of a commit against another aircraft, after the journal before it.
-abbrev pub row_of : Parts → List Entry → ℕ → ℕ → Cells → ℕ → Seen → Row
-row_of e journal own cycle cells other seen =
+-- Why the cell of a commit against another aircraft is what it is, after the journal before it and by what own aircraft sees.
+abbrev pub reason_by : Parts → List Entry → ℕ → ℕ → Cells → ℕ → Seen → Reason
+reason_by e journal own cycle cells other seen =
     let air = air_of e in
     let before = last_cell journal own other in
     record {
-      first = decimal (length journal);
-      front = front_fields cycle (address_of e own) (address_of e other) seen;
-      back = back_fields seen.view (told_of air journal own other) before (cell_at cells other) (rule_of before seen.view (complement_from air journal own other) seen.rank);
+      position = length journal;
+      cycle = cycle;
+      own = address_of e own;
+      other = address_of e other;
+      seen = shown_of seen;
+      continued = continued_after seen.view before;
+      told = told_of air journal own other;
+      before = before;
+      cell = cell_at cells other;
+      rule = rule_of before seen.view (complement_from air journal own other) seen.rank;
     }
 
-unfoldable pub reason_row : Parts → List Entry → ℕ → ℕ → Cells → ℕ → Row
-reason_row e journal own cycle cells other = row_of e journal own cycle cells other (seen_of (sight_of e own cycle) other)
+unfoldable pub reason_of : Parts → List Entry → ℕ → ℕ → Cells → ℕ → Reason
+reason_of e journal own cycle cells other = reason_by e journal own cycle cells other (seen_of (sight_of e own cycle) other)
 
 -- Against each other aircraft, by index.
-abbrev pub pair_rows : Parts → List Entry → ℕ → ℕ → Cells → ℕ → List Row
-pair_rows e journal own cycle cells other = if other == own then [] else reason_row e journal own cycle cells other ∷ []
+abbrev pub pair_reasons : Parts → List Entry → ℕ → ℕ → Cells → ℕ → List Reason
+pair_reasons e journal own cycle cells other = if other == own then [] else reason_of e journal own cycle cells other ∷ []
 
-abbrev pub commit_rows : Parts → List Entry → ℕ → ℕ → Cells → List Row
-commit_rows e journal own cycle cells = flat_map (pair_rows e journal own cycle cells) (range_with_len 0 (length e.crafts))
+abbrev pub commit_reasons : Parts → List Entry → ℕ → ℕ → Cells → List Reason
+commit_reasons e journal own cycle cells = flat_map (pair_reasons e journal own cycle cells) (range_with_len 0 (length e.crafts))
 
 -- Of each commit, by position.
-abbrev pub entry_rows : Parts → List Entry → Entry → List Row
-entry_rows e journal (Commit own cycle cells) = commit_rows e journal own cycle cells
-entry_rows e journal (Send own target number word) = []
-entry_rows e journal (Take own send copy good) = []
+abbrev pub entry_reasons : Parts → List Entry → Entry → List Reason
+entry_reasons e journal (Commit own cycle cells) = commit_reasons e journal own cycle cells
+entry_reasons e journal (Send own target number word) = []
+entry_reasons e journal (Take own send copy good) = []
 
-abbrev pub reason_rows : Parts → List Entry → List Row
-reason_rows e [] = []
-reason_rows e (entry ∷ earlier) = reason_rows e earlier ++ entry_rows e earlier entry
+abbrev pub reasons_of : Parts → List Entry → List Reason
+reasons_of e [] = []
+reasons_of e (entry ∷ earlier) = reasons_of e earlier ++ entry_reasons e earlier entry
 
 -- ---- the text
 
--- How many lines follow that with the names of the columns.
-abbrev pub head_line : Parts → List Entry → List ℕ
-head_line e journal = count_line (codes "why") (length (reason_rows e journal))
+-- How many lines follow that with the names of the columns; these names; and the line of each reason.
+abbrev pub reasons_lines : Parts → List Entry → List (List ℕ)
+reasons_lines e journal = count_line (codes "why") (length (reasons_of e journal)) ∷ names_line ∷ map reason_line (reasons_of e journal)
 
--- The head, the names of the columns, and the lines.
 abbrev pub reasons_text : Parts → List Entry → List ℕ
-reasons_text e journal = joined (head_line e journal ∷ map row_line (columns ∷ reason_rows e journal))
-
--- The same text, as it is put.
-unfoldable pub reasons_parts : Parts → List Entry → List (List ℕ)
-reasons_parts e journal = head_line e journal ∷ flat_map row_parts (columns ∷ reason_rows e journal)
+reasons_text e journal = joined (reasons_lines e journal)

@@ -22,9 +22,13 @@ altitude_seconds dz dzdot row =
     else if are_opposite dz dzdot then Some (need (unsigned_abs dz) (unsigned_abs dzdot))
     else None
 
--- There are so many seconds, and no more than a row's tau.
+-- There are so many seconds, and no more than tau.
+abbrev pub is_within : Option ℕ → ℕ → Bool
+is_within seconds tau = option_map_or (λ s. nat_le s tau) seconds false
+
+-- The same with the tau of a row.
 abbrev pub is_within_tau : Option ℕ → Row → Bool
-is_within_tau seconds row = option_map_or (λ s. nat_le s (unsigned_abs row.tau)) seconds false
+is_within_tau seconds row = is_within seconds (unsigned_abs row.tau)
 
 -- The tests hold exactly where the seconds that they need are within tau.
 abbrev pub RangeTestGoesBySeconds : Type 0

@@ -1,6 +1,5 @@
 // The lines of a journal's commits.
-ghost use Rattle.std.specs.Prelude.{◌≡◌, ◌+◌, ◌<◌, ◌≤◌, ◌∷◌, ◌++◌, [], List, codes, length};
-ghost use Rattle.std.specs.List.{flat_map, join_with_byte};
+ghost use Rattle.std.specs.Prelude.{◌≡◌, ◌+◌, ◌<◌, ◌≤◌, ◌∷◌, List, length, map};
 ghost use Rattle.acas_base.specs.declared.TheConstants.{CRAFTS};
 ghost use Rattle.acas_base.specs.declared.entry.Entry.{Entry};
 ghost use Rattle.air_journal.specs.Airs.{air_of};
@@ -12,15 +11,16 @@ ghost use Rattle.craft_view.specs.Kept.{Belongs, IsActive};
 ghost use Rattle.craft_view.specs.Sight.{sight_of};
 ghost use Rattle.reasons.specs.Bounds.{IsSeen};
 ghost use Rattle.reasons.specs.Crews.{AreReady, HasLooked, IsReady};
-ghost use Rattle.reasons.specs.Fields.{with_fields};
-ghost use Rattle.reasons.specs.Reasons.{commit_rows, entry_rows, reason_row, reason_rows};
-ghost use Rattle.reasons.specs.Rows.{row_parts};
+ghost use Rattle.reasons.specs.Columns.{reason_line};
+ghost use Rattle.reasons.specs.Reasons.{commit_reasons, entry_reasons, reason_of, reasons_of};
 ghost use Rattle.reasons.specs.Seen.{seen_of};
 
+use crate::columns::set_line;
 use crate::crew::crew_of;
-use crate::halves::{set_back, set_front};
+use crate::reason::Reason;
 use crate::rules::rule_of;
 use crate::seen::{Seen, own_side_of, seen_of};
+use crate::shown::{continued_after, shown_of};
 use crate::told::told_of;
 use acas_base::{CRAFTS, Cells, Encounter};
 use acas_lines::LineSink;
@@ -39,61 +39,33 @@ struct Next<'a> {
     cells: &'a Cells,
 }
 
-// Makes the front of the line of a commit against another aircraft.
-#[tactic(auto, unfolding(crate::specs::Reasons::reason_row))]
-fn make_front(line: &mut Line, reader: &Reader<'_>, commit: &Next<'_>, other: u8, seen: &Seen)
-    requires same { commit.now.encounter.now ≡ reader.now.encounter }
-    requires own { commit.now.own < length reader.now.encounter.crafts }
-    requires other { other < length reader.now.encounter.crafts }
-    requires seen { seen.now ≡ seen_of (sight_of reader.now.encounter commit.now.own commit.now.cycle) other }
-    requires bounds { IsSeen seen.now }
-    ensures { let row = reason_row reader.now.encounter reader.now.read commit.now.own commit.now.cycle commit.now.cells.now other in line.new ≡ join_with_byte 44 (row.first ∷ row.front) }
-{
-    let crafts = commit.encounter.crafts();
-    let own = crafts[usize::from(commit.own)].address;
-    let target = crafts[usize::from(other)].address;
-    set_front(line, reader.position(), commit.cycle, own, target, seen);
-}
-
-// Makes its back.
-#[tactic(auto, unfolding(crate::specs::Reasons::reason_row))]
-fn make_back(line: &mut Line, reader: &Reader<'_>, commit: &Next<'_>, other: u8, seen: &Seen)
-    requires own { commit.now.own < CRAFTS }
-    requires other { other < CRAFTS }
-    requires seen { seen.now ≡ seen_of (sight_of reader.now.encounter commit.now.own commit.now.cycle) other }
-    requires bounds { IsSeen seen.now }
-    ensures { line.new ≡ with_fields [] (reason_row reader.now.encounter reader.now.read commit.now.own commit.now.cycle commit.now.cells.now other).back ++ codes "\n" }
-{
-    let own = commit.own;
-    let complement = reader.complement(own, other);
-    let told = told_of(reader, own, other, complement);
-    let before = reader.last_cell(own, other);
-    let rule = rule_of(&before, &seen.view, complement, seen.rank);
-    let cell = &commit.cells.list[usize::from(other)];
-    set_back(line, &seen.view, &told, &before, cell, rule);
-}
-
-// Puts the line of a commit against another aircraft.
-fn put_pair<S: LineSink>(
-    reader: &Reader<'_>,
-    commit: &Next<'_>,
-    other: u8,
-    seen: &Seen,
-    line: &mut Line,
-    sink: &mut S,
-)
+// Why the cell of a commit against another aircraft is what it is.
+#[tactic(auto, unfolding(crate::specs::Reasons::reason_of))]
+fn reason_of(reader: &Reader<'_>, commit: &Next<'_>, other: u8, seen: &Seen) -> Reason
     requires same { commit.now.encounter.now ≡ reader.now.encounter }
     requires own { commit.now.own < length reader.now.encounter.crafts }
     requires other { other < length reader.now.encounter.crafts }
     requires few { length reader.now.encounter.crafts ≤ CRAFTS }
     requires seen { seen.now ≡ seen_of (sight_of reader.now.encounter commit.now.own commit.now.cycle) other }
     requires bounds { IsSeen seen.now }
-    ensures { S.took sink.old sink.new (row_parts (reason_row reader.now.encounter reader.now.read commit.now.own commit.now.cycle commit.now.cells.now other)) }
+    ensures { result ≡ reason_of reader.now.encounter reader.now.read commit.now.own commit.now.cycle commit.now.cells.now other }
 {
-    make_front(line, reader, commit, other, seen);
-    sink.line(line);
-    make_back(line, reader, commit, other, seen);
-    sink.line(line);
+    let crafts = commit.encounter.crafts();
+    let own = commit.own;
+    let complement = reader.complement(own, other);
+    let before = reader.last_cell(own, other);
+    Reason {
+        position: reader.position(),
+        cycle: commit.cycle,
+        own: crafts[usize::from(own)].address,
+        other: crafts[usize::from(other)].address,
+        seen: shown_of(seen),
+        continued: continued_after(&seen.view, &before),
+        told: told_of(reader, own, other, complement),
+        before,
+        cell: commit.cells.list[usize::from(other)],
+        rule: rule_of(&before, &seen.view, complement, seen.rank),
+    }
 }
 
 // Puts the lines of a commit, whose aircraft looks in its cycle.
@@ -104,7 +76,7 @@ fn put_commit<S: LineSink>(reader: &Reader<'_>, commit: &Next<'_>, craft: &mut C
     requires next { commit.now.cycle ≡ craft.old.cycle + 1 }
     requires run { commit.now.cycle ≤ reader.now.encounter.cycles }
     ensures looked { HasLooked reader.now.encounter commit.now.own commit.now.cycle craft.new }
-    ensures lines { S.took sink.old sink.new (flat_map row_parts (commit_rows reader.now.encounter reader.now.read commit.now.own commit.now.cycle commit.now.cells.now)) }
+    ensures lines { S.took sink.old sink.new (map reason_line (commit_reasons reader.now.encounter reader.now.read commit.now.own commit.now.cycle commit.now.cells.now)) }
 {
     // No run is longer than 600 cycles.
     commit.encounter.valid_law();
@@ -117,7 +89,8 @@ fn put_commit<S: LineSink>(reader: &Reader<'_>, commit: &Next<'_>, craft: &mut C
             continue;
         }
         let seen = seen_of(&places, craft, &picture, &own, other);
-        put_pair(reader, commit, other, &seen, &mut line, sink);
+        set_line(&mut line, &reason_of(reader, commit, other, &seen));
+        sink.line(&line);
     }
 }
 
@@ -135,7 +108,7 @@ fn put_by<S: LineSink>(
     requires next { commit.now.cycle ≡ commits reader.now.read commit.now.own + 1 }
     requires run { commit.now.cycle ≤ reader.now.encounter.cycles }
     ensures ready { IsReady reader.now.encounter commit.now.own commit.now.cycle craft.new }
-    ensures lines { S.took sink.old sink.new (flat_map row_parts (commit_rows reader.now.encounter reader.now.read commit.now.own commit.now.cycle commit.now.cells.now)) }
+    ensures lines { S.took sink.old sink.new (map reason_line (commit_reasons reader.now.encounter reader.now.read commit.now.own commit.now.cycle commit.now.cells.now)) }
 {
     match craft {
         Some(craft) => put_commit(reader, commit, craft, sink),
@@ -155,7 +128,7 @@ fn put_entry<S: LineSink>(
     requires legal { IsLegal (air_of reader.now.encounter) (entry_of entry.now ∷ reader.now.read) }
     requires ready { AreReady reader.now.encounter reader.now.read crafts.old }
     ensures ready { AreReady reader.now.encounter (entry_of entry.now ∷ reader.now.read) crafts.new }
-    ensures lines { S.took sink.old sink.new (flat_map row_parts (entry_rows reader.now.encounter reader.now.read (entry_of entry.now))) }
+    ensures lines { S.took sink.old sink.new (map reason_line (entry_reasons reader.now.encounter reader.now.read (entry_of entry.now))) }
 {
     // No encounter has more than 16 aircraft.
     encounter.valid_law();
@@ -172,7 +145,7 @@ fn put_entry<S: LineSink>(
 
 /// Puts the lines of all commits, in order.
 pub(crate) fn put_commits<S: LineSink>(state: &AirState, sink: &mut S)
-    ensures { S.took sink.old sink.new (flat_map row_parts (reason_rows state.now.encounter state.now.journal)) }
+    ensures { S.took sink.old sink.new (map reason_line (reasons_of state.now.encounter state.now.journal)) }
 {
     state.legal_law();
     let mut reader = Reader::new(state);
@@ -185,9 +158,9 @@ pub(crate) fn put_commits<S: LineSink>(state: &AirState, sink: &mut S)
 }
 
 // How many lines an entry has, after whatever journal.
-fn rows_of(encounter: &Encounter, entry: &EntryRef<'_>) -> u32
+fn reasons_in(encounter: &Encounter, entry: &EntryRef<'_>) -> u32
     requires { IsEntry (length encounter.now.crafts) (entry_of entry.now) }
-    ensures value { (journal : List Entry) → result ≡ length (entry_rows encounter.now journal (entry_of entry.now)) }
+    ensures value { (journal : List Entry) → result ≡ length (entry_reasons encounter.now journal (entry_of entry.now)) }
     ensures few { result ≤ 15 }
 {
     match entry {
@@ -197,15 +170,15 @@ fn rows_of(encounter: &Encounter, entry: &EntryRef<'_>) -> u32
 }
 
 /// How many lines the commits have.
-pub(crate) fn row_count(state: &AirState) -> u32
-    ensures { result ≡ length (reason_rows state.now.encounter state.now.journal) }
+pub(crate) fn reason_count(state: &AirState) -> u32
+    ensures { result ≡ length (reasons_of state.now.encounter state.now.journal) }
 {
     state.legal_law();
     let mut reader = Reader::new(state);
     let mut count = 0;
     'entries: while let Some(entry) = reader.next() {
         reader.reading_law();
-        count += rows_of(state.enc(), &entry);
+        count += reasons_in(state.enc(), &entry);
     }
     count
 }

@@ -6,16 +6,19 @@
 mod columns;
 mod commits;
 mod crew;
-mod fields;
-mod halves;
 mod laws;
+mod reason;
 mod rules;
 mod seconds;
 mod seen;
+mod shown;
+mod tenths;
 mod text;
 mod told;
 
-pub use laws::{heard_law, message_law, on_board_law, reason_law, rule_law, seen_law};
+pub use laws::{
+    columns_law, heard_law, message_law, on_board_law, reason_law, rule_law, seen_law, unique_law,
+};
 pub use rules::{Rule, rule_of};
 pub use seconds::test_law;
 pub use text::{Reasons, write};

@@ -1,5 +1,5 @@
 // How many seconds the tests of an advisory need.
-ghost use Rattle.std.specs.Prelude.{◌≡◌, ℕ, ◌≤◌, ◌<◌, ◌*◌, ◌^◌, IfSome, pos, unsigned_abs};
+ghost use Rattle.std.specs.Prelude.{◌≡◌, ℕ, ◌≤◌, ◌<◌, ◌*◌, ◌^◌, pos, unsigned_abs};
 ghost use Rattle.acas_base.specs.Ranges.{IsBetween};
 ghost use Rattle.acas_num.specs.Seconds.{need};
 ghost use Rattle.reasons.specs.Seconds.{altitude_seconds, range_seconds, AltitudeTestGoesBySeconds, RangeTestGoesBySeconds};
@@ -35,12 +35,11 @@ fn modified_tau(r: u64, rate: u64, dmod: u64) -> u64
 /// The least whole number of seconds for which the range test of a slant range `r` (1/1024 ft) that changes by `rdot`
 /// (1/1024 ft/s) holds: 0 within the DMOD of a row, else modified tau; none where the range doesn't close (Munoz et al. 2013).
 #[tactic(auto, unfolding(crate::specs::Seconds::range_seconds))]
-pub(crate) fn range_seconds(r: i64, rdot: i64, row: &Row) -> Option<u64>
+pub(crate) fn range_seconds(r: i64, rdot: i64, row: &Row) -> Option<u32>
     requires range { IsBetween (pos 0) (pos (2 ^ 28)) r }
     requires rate { unsigned_abs rdot ≤ 2 ^ 23 }
     requires row { IsTableRow row.now }
-    ensures value { result ≡ range_seconds r rdot row.now }
-    ensures bound { IfSome result (λ s. s ≤ 2 ^ 28) }
+    ensures { result ≡ range_seconds r rdot row.now }
 {
     if r <= row.dmod {
         return Some(0);
@@ -48,11 +47,12 @@ pub(crate) fn range_seconds(r: i64, rdot: i64, row: &Row) -> Option<u64>
     if rdot >= 0 {
         return None;
     }
-    Some(modified_tau(
+    let seconds = modified_tau(
         r.unsigned_abs(),
         rdot.unsigned_abs(),
         row.dmod.unsigned_abs(),
-    ))
+    );
+    Some(seconds as u32)
 }
 
 // One number is below zero and the other above it.
@@ -66,10 +66,9 @@ fn are_opposite(a: i64, b: i64) -> bool
 /// (1/1024 ft/s) holds: 0 within the ZTHR of a row, else the time to the same altitude; none where the height doesn't shrink
 /// (Munoz et al. 2013).
 #[tactic(auto, unfolding(crate::specs::Seconds::altitude_seconds))]
-pub(crate) fn altitude_seconds(dz: i64, dzdot: i64, row: &Row) -> Option<u64>
+pub(crate) fn altitude_seconds(dz: i64, dzdot: i64, row: &Row) -> Option<u32>
     requires { unsigned_abs dz ≤ 2 ^ 28 }
-    ensures value { result ≡ altitude_seconds dz dzdot row.now }
-    ensures bound { IfSome result (λ s. s ≤ 2 ^ 28) }
+    ensures { result ≡ altitude_seconds dz dzdot row.now }
 {
     if dz.unsigned_abs() <= row.zthr.unsigned_abs() {
         return Some(0);
@@ -77,7 +76,7 @@ pub(crate) fn altitude_seconds(dz: i64, dzdot: i64, row: &Row) -> Option<u64>
     if !are_opposite(dz, dzdot) {
         return None;
     }
-    Some(need(dz.unsigned_abs(), dzdot.unsigned_abs()))
+    Some(need(dz.unsigned_abs(), dzdot.unsigned_abs()) as u32)
 }
 
 /// A law: each test of an advisory holds exactly where the seconds that it needs are within the row's tau.

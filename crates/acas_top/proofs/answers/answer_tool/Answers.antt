@@ -1,5 +1,5 @@
+use Rattle.std.proofs.Common.{refl}
 use Rattle.std.proofs.lemmas.List.{append-nil}
-use Rattle.acas_top.proofs.Tools.{told}
 use Rattle.acas_top.specs.Answers.{verdict_line}
 use Rattle.rec_audit.specs.declared.verdict.Verdict.TheVariants.{Wrong}
 use Rattle.acas_top.proofs.answers.answer_tool.Goals as goal
@@ -8,7 +8,7 @@ pub returns-in-Legal : goal.returns-in-Legal
 returns-in-Legal c = record {
   state = c.in-Legal.state;
   recording = rw c.in-Legal.is at c.in_ok-state.ensures;
-  text_is = told c.args.tool c.in-Legal.state.encounter c.in-Legal.state.journal;
+  text_is = refl;
 }
 
 pub returns-in-Wrong : goal.returns-in-Wrong

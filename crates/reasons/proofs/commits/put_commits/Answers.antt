@@ -3,7 +3,7 @@ use Rattle.air_journal.specs.Airs.{air_of}
 use Rattle.air_journal.specs.EntryRefs.{entry_of}
 use Rattle.air_rules.proofs.Beginnings.{begins-length}
 use Rattle.air_rules.proofs.Legal.{legal-begins}
-use Rattle.reasons.proofs.Reading.{read-on, ready-on, rows-on}
+use Rattle.reasons.proofs.Reading.{read-on, ready-on, lines-on}
 use Rattle.reasons.proofs.commits.put_commits.Goals as goal
 use Rattle.reasons.proofs.commits.put_commits.Given as given
 
@@ -29,6 +29,6 @@ entries-preserved g c =
       encounter = c.next.ensures.encounter ∙ c.entries.invariant.encounter;
       journal = c.next.ensures.journal ∙ c.entries.invariant.journal;
       ready = ready-on e reader.encounter reader.read c.next.new.self.read (entry_of c.in-Some.entry) c.put_entry.new.crafts c.entries.invariant.encounter (read-is g c) c.put_entry.ensures.ready;
-      lines = subst (g.S.LineSink.took c.args.sink.now c.put_entry.new.sink) (rows-on e reader.encounter reader.read c.next.new.self.read (entry_of c.in-Some.entry) c.entries.invariant.encounter (read-is g c))
+      lines = subst (g.S.LineSink.took c.args.sink.now c.put_entry.new.sink) (lines-on e reader.encounter reader.read c.next.new.self.read (entry_of c.in-Some.entry) c.entries.invariant.encounter (read-is g c))
           (g.met.S.LineSink.then _ _ _ _ _ c.entries.invariant.lines c.put_entry.ensures.lines);
     }

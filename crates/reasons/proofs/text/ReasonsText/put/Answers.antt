@@ -1,8 +1,12 @@
-use Rattle.reasons.specs.Reasons.{reasons_parts}
+use Rattle.std.proofs.Common.{◌∙◌, ap}
+use Rattle.std.specs.Prelude.{codes}
+use Rattle.acas_lines.specs.Lines.{count_line}
 use Rattle.reasons.proofs.text.ReasonsText.put.Goals as goal
 
 pub returns : goal.returns
-unfolding reasons_parts
 returns g c =
     let then = g.met.S.LineSink.then in
-    rw (← c.head_line.ensures) (then _ _ _ _ _ c.line.ensures (then _ _ _ _ _ c.put_columns.ensures c.put_commits.ensures))
+    let head = c.count_line.ensures ∙ ap (count_line (codes "why")) c.reason_count.ensures in
+    let first = rw head at c.line.ensures in
+    let second = rw c.names_line.ensures at c.line-2.ensures in
+    then _ _ _ _ _ first (then _ _ _ _ _ second c.put_commits.ensures)

@@ -10,20 +10,20 @@ use Rattle.air_journal.specs.Ranges.{IsEntry}
 use Rattle.air_rules.proofs.Beginnings.{begins-length}
 use Rattle.air_rules.specs.Journal.{Begins}
 use Rattle.reasons.proofs.Reading.{begins-empty}
-use Rattle.reasons.specs.Reasons.{reason_rows}
-use Rattle.reasons.proofs.commits.row_count.Goals as goal
+use Rattle.reasons.specs.Reasons.{reasons_of}
+use Rattle.reasons.proofs.commits.reason_count.Goals as goal
 
 pub entries-init : goal.entries-init
 entries-init c = record {
   encounter = c.new-reader.ensures.encounter;
   journal = c.new-reader.ensures.journal;
   begins = subst (λ (K : List Entry). Begins K c.new-reader.result.journal) (sym c.new-reader.ensures.read) (begins-empty c.new-reader.result.journal);
-  counted = ap (λ (K : List Entry). length (reason_rows c.args.state.now.encounter K)) (sym c.new-reader.ensures.read);
+  counted = ap (λ (K : List Entry). length (reasons_of c.args.state.now.encounter K)) (sym c.new-reader.ensures.read);
   few = omega arith;
 }
 
-pub rows_of-count-requires : goal.rows_of-count-requires
-rows_of-count-requires c =
+pub reasons_in-count-requires : goal.reasons_in-count-requires
+reasons_in-count-requires c =
     let e = c.next.new.self.encounter in
     let same = c.in-Some.ensures.encounter ∙ c.entries.invariant.encounter ∙ sym c.enc.ensures in
     let all = entries-fit e c.next.new.self.read c.reading_law.ensures.valid c.reading_law.ensures.read in
@@ -37,8 +37,8 @@ overflow_add-count c =
     let most = most-few e c.reading_law.ensures.valid in
     let size = ap length c.in-Some.ensures.read in
     let few = c.entries.invariant.few in
-    let one = c.rows_of-count.ensures.few in
-    let fit : c.entries.count + c.rows_of-count.result < 2 ^ 32 = omega arith in
+    let one = c.reasons_in-count.ensures.few in
+    let fit : c.entries.count + c.reasons_in-count.result < 2 ^ 32 = omega arith in
     search rules
 
 pub entries-smaller : goal.entries-smaller

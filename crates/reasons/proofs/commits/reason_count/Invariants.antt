@@ -1,7 +1,7 @@
 use Rattle.std.proofs.Common.{◌≡◌, ◌≤◌, ◌*◌, ◌-◌, length}
 use Rattle.air_rules.specs.Journal.{Begins}
-use Rattle.reasons.specs.Reasons.{reason_rows}
-use Rattle.reasons.proofs.commits.row_count.Given as goal
+use Rattle.reasons.specs.Reasons.{reasons_of}
+use Rattle.reasons.proofs.commits.reason_count.Given as goal
 
 -- The lines of what was read were counted.
 abbrev pub invariant-entries : goal.invariant-entries
@@ -9,7 +9,7 @@ invariant-entries l = record {
   encounter : l.reader.encounter ≡ l.state.encounter;
   journal : l.reader.journal ≡ l.state.journal;
   begins : Begins l.reader.read l.reader.journal;
-  counted : l.count ≡ length (reason_rows l.state.encounter l.reader.read);
+  counted : l.count ≡ length (reasons_of l.state.encounter l.reader.read);
   few : l.count ≤ 15 * length l.reader.read;
 }
 

@@ -1,0 +1,108 @@
+-- What a line tells of what own aircraft saw. Lengths and rates of tracks and separations are in tenths, rounded down.
+use Rattle.std.specs.Prelude.{Bool, true, false, ◌&&◌, if◌then◌else◌, ◌/◌, ◌-ℤ◌, int_le, unsigned_abs, Option, Some, None, option_map}
+use Rattle.acas_base.specs.Choice.{chosen_sense, is_fresh_after, least_strength, present_separation, separation_of, strongest}
+use Rattle.acas_base.specs.Senses.{other_sense}
+use Rattle.acas_base.specs.declared.advisory.Cell.{Cell}
+use Rattle.acas_base.specs.declared.advisory.Cell.TheVariants.{Clear, Traffic, Ra}
+use Rattle.acas_base.specs.declared.advisory.Intent.{Intent}
+use Rattle.acas_base.specs.declared.advisory.Sense.{Sense}
+use Rattle.acas_base.specs.declared.advisory.Sense.TheVariants.{Up, Down}
+use Rattle.acas_base.specs.declared.level.Row.{Row}
+use Rattle.acas_base.specs.declared.view.View.{View}
+use Rattle.craft_view.specs.declared.motion.Motion.{Motion}
+use Rattle.craft_view.specs.declared.own.OwnAircraft.{OwnAircraft}
+use Rattle.reasons.specs.Fields.{tenths_a_minute_of, tenths_of}
+use Rattle.reasons.specs.Seconds.{altitude_seconds, range_seconds}
+use Rattle.reasons.specs.declared.seen.Seen.{Seen}
+use Rattle.reasons.specs.declared.shown.Best.{Best}
+use Rattle.reasons.specs.declared.shown.Continued.{Continued}
+use Rattle.reasons.specs.declared.shown.Projected.{Projected}
+use Rattle.reasons.specs.declared.shown.Shown.{Shown}
+use Rattle.reasons.specs.declared.shown.TestSeconds.{TestSeconds}
+use Rattle.reasons.specs.declared.shown.Tested.{Tested}
+
+-- ---- where the pair is tested
+
+-- What both tests need with the thresholds of a row.
+unfoldable pub test_seconds : Motion → Row → TestSeconds
+test_seconds m row = record {
+  range = range_seconds m.range.est m.range.rate row;
+  altitude = altitude_seconds (m.target.est -ℤ m.own.est) (m.target.rate -ℤ m.own.rate) row;
+  tau = unsigned_abs row.tau;
+}
+
+-- What is tracked, and what is tested with the thresholds of own aircraft.
+unfoldable pub tested_of : OwnAircraft → View → Motion → Tested
+tested_of own view m = record {
+  range = tenths_of m.range.est;
+  range_rate = tenths_of m.range.rate;
+  height = tenths_of (m.target.est -ℤ m.own.est);
+  height_rate = tenths_a_minute_of (m.target.rate -ℤ m.own.rate);
+  own_rate = tenths_a_minute_of m.own.rate;
+  ta = test_seconds m own.traffic;
+  ra = option_map (test_seconds m) own.resolution;
+  traffic = view.traffic;
+  threat = view.threat;
+}
+
+-- ---- where the pair is tested and own aircraft resolves
+
+-- Lines tell of the choice of a sense and a strength in this case alone.
+abbrev pub is_projected : View → Bool
+is_projected view = view.tested && view.resolves
+
+-- The strongest allowed strength of a fresh choice, and what it gives.
+unfoldable pub best_of : View → Sense → Best
+best_of view sense = record { strength = strongest view sense true; separation = tenths_of (separation_of view sense (strongest view sense true) true) }
+
+-- What the senses would give, and the sense that a new choice has.
+unfoldable pub projected_of : View → Projected
+projected_of view = record {
+  halves = view.halves;
+  alim = unsigned_abs view.alim / 1024;
+  side = view.side;
+  up = best_of view Up;
+  down = best_of view Down;
+  chosen = chosen_sense view;
+}
+
+-- This sense has ALIM already.
+abbrev pub has_alim : View → Sense → Bool
+has_alim view sense = int_le view.alim (present_separation view sense)
+
+-- What an advisory may go on with: whether the choice of its strength is fresh, the least strength of that choice and what it
+-- gives; what the strongest allowed strengths give with the later response, in its sense and, freshly chosen, in the other one;
+-- and whether its sense has ALIM already.
+unfoldable pub continued_of : View → Intent → Continued
+continued_of view before =
+    let fresh = is_fresh_after before.strength in
+    let need = least_strength view before.sense fresh in
+    let other = other_sense before.sense in
+    record {
+      fresh = fresh;
+      need = need;
+      separation = tenths_of (separation_of view before.sense need fresh);
+      same_later = tenths_of (separation_of view before.sense (strongest view before.sense false) false);
+      other_later = tenths_of (separation_of view other (strongest view other true) false);
+      has_alim = has_alim view before.sense;
+    }
+
+-- The same, where there was an advisory.
+abbrev pub continued_after : View → Cell → Option Continued
+continued_after view Clear = None
+continued_after view Traffic = None
+continued_after view (Ra before) = if is_projected view then Some (continued_of view before) else None
+
+-- ---- all together
+
+unfoldable pub shown_of : Seen → Shown
+shown_of seen = record {
+  rank = seen.rank;
+  reply = seen.reply;
+  altitude = seen.own.altitude;
+  height = seen.own.aircraft.height;
+  level = seen.own.level;
+  climbs = seen.own.aircraft.climbs;
+  tested = option_map (tested_of seen.own.aircraft seen.view) seen.motion;
+  projected = if is_projected seen.view then Some (projected_of seen.view) else None;
+}

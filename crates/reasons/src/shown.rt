@@ -1,0 +1,314 @@
+// What a line tells of what own aircraft saw.
+ghost use Rattle.std.specs.Prelude.{◌≡◌, ◌≤◌, ◌^◌, ◌-ℤ◌, IfSome, None, Some, if◌then◌else◌, option_map, unsigned_abs};
+ghost use Rattle.acas_base.specs.Choice.{is_fresh_after, separation_of};
+ghost use Rattle.craft_view.specs.KnownTracks.{IsMotion};
+ghost use Rattle.craft_view.specs.Own.{AreRows};
+ghost use Rattle.reasons.specs.Bounds.{IsModerate, IsSeen};
+ghost use Rattle.reasons.specs.Fields.{tenths_of};
+ghost use Rattle.reasons.specs.Shown.{best_of, continued_after, continued_of, has_alim, is_projected, projected_of, shown_of, test_seconds, tested_of};
+ghost use Rattle.sens_table.specs.Levels.{IsTableRow};
+
+use crate::seconds::{altitude_seconds, range_seconds};
+use crate::seen::Seen;
+use crate::tenths::{tenths_a_minute_of, tenths_of};
+use acas_base::{Cell, Intent, Rank, Row, Sense, Strength, View, separation, strongest};
+use craft_view::{Motion, OwnAircraft};
+use flight::Meas;
+use sense_pick::pick;
+use strength_pick::least;
+
+/// What the tests of an advisory need with the thresholds of a row.
+#[derive(Clone, Copy, Debug, PartialEq, Eq)]
+pub struct TestSeconds {
+    /// The least whole seconds of the range test; none where the range doesn't close.
+    pub range: Option<u32>,
+    /// The least whole seconds of the altitude test; none where the altitude difference doesn't close.
+    pub altitude: Option<u32>,
+    /// Tau of the row, in s: a test holds where its seconds are no more.
+    pub tau: u16,
+}
+
+/// What own aircraft saw of a pair that is tested: what is tracked, and what the tests gave.
+#[derive(Clone, Copy, Debug, PartialEq, Eq)]
+pub struct Tested {
+    /// The range's estimate, in tenths of a foot.
+    pub range: i32,
+    /// Its rate, in tenths of ft/s.
+    pub range_rate: i32,
+    /// The other's altitude estimate less own, in tenths of a foot.
+    pub height: i32,
+    /// The other's altitude rate less own, in tenths of ft/min.
+    pub height_rate: i32,
+    /// Own altitude rate, in tenths of ft/min.
+    pub own_rate: i32,
+    /// What a traffic advisory needs.
+    pub ta: TestSeconds,
+    /// What a resolution advisory needs, where own aircraft resolves.
+    pub ra: Option<TestSeconds>,
+    /// There is traffic.
+    pub traffic: bool,
+    /// There is a threat.
+    pub threat: bool,
+}
+
+/// The strongest allowed strength of a fresh choice in a sense, and its separation with the first response, in tenths of a foot.
+#[derive(Clone, Copy, Debug, PartialEq, Eq)]
+pub struct Best {
+    pub strength: Strength,
+    pub separation: i32,
+}
+
+/// What the senses would give, where the pair is tested and own aircraft resolves.
+#[derive(Clone, Copy, Debug, PartialEq, Eq)]
+pub struct Projected {
+    /// Half-seconds to closest approach.
+    pub halves: u16,
+    /// ALIM, in ft.
+    pub alim: u16,
+    /// The sense that doesn't cross.
+    pub side: Sense,
+    pub up: Best,
+    pub down: Best,
+    /// The sense that a new choice has.
+    pub chosen: Sense,
+}
+
+/// What an advisory may go on with, where the pair is tested and own aircraft resolves. Separations are in tenths of a foot.
+#[derive(Clone, Copy, Debug, PartialEq, Eq)]
+pub struct Continued {
+    /// A choice that keeps the sense is fresh.
+    pub fresh: bool,
+    /// The least strength of that choice.
+    pub need: Strength,
+    /// Its separation.
+    pub separation: i32,
+    /// The separation of the strongest strength in the same sense, with the later response.
+    pub same_later: i32,
+    /// That of the strongest strength of a fresh choice in the other sense, with the later response.
+    pub other_later: i32,
+    /// The same sense has ALIM already.
+    pub has_alim: bool,
+}
+
+/// What a line tells of what own aircraft saw of another one.
+#[derive(Clone, Copy, Debug, PartialEq, Eq)]
+pub struct Shown {
+    /// The rank against the other aircraft.
+    pub rank: Rank,
+    /// What was measured of it in this cycle.
+    pub reply: Option<Meas>,
+    /// Own altitude, in ft.
+    pub altitude: i32,
+    /// Own height above ground, in ft.
+    pub height: i32,
+    /// Own sensitivity level.
+    pub level: u8,
+    /// Own aircraft may climb.
+    pub climbs: bool,
+    pub tested: Option<Tested>,
+    pub projected: Option<Projected>,
+}
+
+// How far the other aircraft is above own one.
+fn height_of(motion: &Motion) -> i64
+    requires { IsMotion motion.now }
+    ensures value { result ≡ motion.now.target.est -ℤ motion.now.own.est }
+    ensures bound { unsigned_abs result ≤ 2 ^ 28 }
+{
+    motion.target.est - motion.own.est
+}
+
+// How fast that grows.
+fn height_rate_of(motion: &Motion) -> i64
+    requires { IsMotion motion.now }
+    ensures value { result ≡ motion.now.target.rate -ℤ motion.now.own.rate }
+    ensures bound { unsigned_abs result ≤ 2 ^ 28 }
+{
+    motion.target.rate - motion.own.rate
+}
+
+// What both tests need with the thresholds of a row.
+#[tactic(auto, unfolding(crate::specs::Shown::test_seconds))]
+fn test_seconds(motion: &Motion, row: &Row) -> TestSeconds
+    requires motion { IsMotion motion.now }
+    requires row { IsTableRow row.now }
+    ensures { result ≡ test_seconds motion.now row.now }
+{
+    TestSeconds {
+        range: range_seconds(motion.range.est, motion.range.rate, row),
+        altitude: altitude_seconds(height_of(motion), height_rate_of(motion), row),
+        tau: row.tau.unsigned_abs() as u16,
+    }
+}
+
+// The same, where there is a row.
+fn seconds_if_any(motion: &Motion, row: &Option<Row>) -> Option<TestSeconds>
+    requires motion { IsMotion motion.now }
+    requires row { IfSome row.now IsTableRow }
+    ensures { result ≡ option_map (test_seconds motion.now) row.now }
+{
+    match row {
+        None => None,
+        Some(row) => Some(test_seconds(motion, row)),
+    }
+}
+
+// What is tracked, and what the tests gave.
+#[tactic(auto, unfolding(crate::specs::Shown::tested_of))]
+fn tested_of(own: &OwnAircraft, view: &View, motion: &Motion) -> Tested
+    requires rows { AreRows own.now }
+    requires motion { IsMotion motion.now }
+    ensures { result ≡ tested_of own.now view.now motion.now }
+{
+    Tested {
+        range: tenths_of(motion.range.est),
+        range_rate: tenths_of(motion.range.rate),
+        height: tenths_of(height_of(motion)),
+        height_rate: tenths_a_minute_of(height_rate_of(motion)),
+        own_rate: tenths_a_minute_of(motion.own.rate),
+        ta: test_seconds(motion, &own.traffic),
+        ra: seconds_if_any(motion, &own.resolution),
+        traffic: view.traffic,
+        threat: view.threat,
+    }
+}
+
+// The same, where the pair is tested.
+fn tested_if_any(own: &OwnAircraft, view: &View, motion: &Option<Motion>) -> Option<Tested>
+    requires rows { AreRows own.now }
+    requires motion { IfSome motion.now IsMotion }
+    ensures { result ≡ option_map (tested_of own.now view.now) motion.now }
+{
+    match motion {
+        None => None,
+        Some(motion) => Some(tested_of(own, view, motion)),
+    }
+}
+
+// What a strength gives, in tenths of a foot.
+fn separation_in_tenths(view: &View, sense: Sense, strength: Strength, fresh: bool) -> i32
+    requires { IsModerate view.now }
+    ensures { result ≡ tenths_of (separation_of view.now sense strength fresh) }
+{
+    tenths_of(separation(view, sense, strength, fresh))
+}
+
+// The strongest allowed strength of a fresh choice, and what it gives.
+#[tactic(auto, unfolding(crate::specs::Shown::best_of))]
+fn best_of(view: &View, sense: Sense) -> Best
+    requires { IsModerate view.now }
+    ensures { result ≡ best_of view.now sense }
+{
+    let strength = strongest(view, sense, true);
+    Best {
+        strength,
+        separation: separation_in_tenths(view, sense, strength, true),
+    }
+}
+
+// What the senses would give.
+#[tactic(auto, unfolding(crate::specs::Shown::projected_of))]
+fn projected_of(view: &View) -> Projected
+    requires { IsModerate view.now }
+    ensures { result ≡ projected_of view.now }
+{
+    Projected {
+        halves: view.halves,
+        alim: (view.alim.unsigned_abs() / 1_024) as u16,
+        side: view.side,
+        up: best_of(view, Sense::Up),
+        down: best_of(view, Sense::Down),
+        chosen: pick(view),
+    }
+}
+
+// The same, where the pair is tested and own aircraft resolves.
+fn projected_if_any(view: &View) -> Option<Projected>
+    requires { IsModerate view.now }
+    ensures { result ≡ (if is_projected view.now then Some (projected_of view.now) else None) }
+{
+    if view.tested && view.resolves {
+        Some(projected_of(view))
+    } else {
+        None
+    }
+}
+
+// The choice of a strength after this one is fresh.
+fn is_fresh_after(strength: Strength) -> bool
+    ensures { result ≡ is_fresh_after strength }
+{
+    strength.place() < Strength::Positive.place()
+}
+
+// A sense has ALIM already: the present separation in it is at least as much.
+fn has_alim(view: &View, sense: Sense) -> bool
+    ensures { result ≡ has_alim view.now sense }
+{
+    let alim = view.alim;
+    match sense {
+        Sense::Up => alim <= view.gap,
+        Sense::Down => match view.gap.checked_neg() {
+            Some(separation) => alim <= separation,
+            None => true,
+        },
+    }
+}
+
+// What an advisory may go on with.
+#[tactic(auto, unfolding(crate::specs::Shown::continued_of))]
+fn continued_of(view: &View, before: &Intent) -> Continued
+    requires { IsModerate view.now }
+    ensures { result ≡ continued_of view.now before.now }
+{
+    let fresh = is_fresh_after(before.strength);
+    let same = before.sense;
+    let other = same.other();
+    let need = least(view, same, fresh);
+    let kept = strongest(view, same, false);
+    let turned = strongest(view, other, true);
+    Continued {
+        fresh,
+        need,
+        separation: separation_in_tenths(view, same, need, fresh),
+        same_later: separation_in_tenths(view, same, kept, false),
+        other_later: separation_in_tenths(view, other, turned, false),
+        has_alim: has_alim(view, same),
+    }
+}
+
+/// What an advisory may go on with, where there was one, the pair is tested and own aircraft resolves.
+pub(crate) fn continued_after(view: &View, before: &Cell) -> Option<Continued>
+    requires { IsModerate view.now }
+    ensures { result ≡ continued_after view.now before.now }
+{
+    match before {
+        Cell::Clear | Cell::Traffic => None,
+        Cell::Ra(before) => {
+            if view.tested && view.resolves {
+                Some(continued_of(view, before))
+            } else {
+                None
+            }
+        }
+    }
+}
+
+/// What a line tells of what own aircraft saw.
+#[tactic(auto, unfolding(crate::specs::Shown::shown_of))]
+pub(crate) fn shown_of(seen: &Seen) -> Shown
+    requires { IsSeen seen.now }
+    ensures { result ≡ shown_of seen.now }
+{
+    let own = &seen.own;
+    Shown {
+        rank: seen.rank,
+        reply: seen.reply,
+        altitude: own.altitude,
+        height: own.aircraft.height,
+        level: own.level,
+        climbs: own.aircraft.climbs,
+        tested: tested_if_any(&own.aircraft, &seen.view, &seen.motion),
+        projected: projected_if_any(&seen.view),
+    }
+}
