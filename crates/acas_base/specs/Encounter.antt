@@ -81,9 +81,10 @@ is_ra_kind Ra = true
 is_ra_kind Ta = false
 is_ra_kind Xpdr = false
 
--- What stands where there is no copy.
-abbrev pub no_copy : CopyPlan
-no_copy = record { hold = 0; mask = 0 }
+-- A plain copy isn't held back, and no bit of it is flipped. Where a message has fewer than three copies, the plans of the
+-- others are that of a plain copy.
+abbrev pub plain_copy : CopyPlan
+plain_copy = record { hold = 0; mask = 0 }
 
 -- The most aircraft of a format.
 abbrev pub most_crafts : ℕ → ℕ
@@ -138,7 +139,7 @@ pub record IsCopy (place copies : ℕ) (plan : CopyPlan) : Type 0 where
   pub hold : plan.hold ≤ 60
   pub byte : plan.mask < 256
   pub mask : count_ones plan.mask ≤ 3
-  pub unused : copies ≤ place → plan ≡ no_copy
+  pub unused : copies ≤ place → plan ≡ plain_copy
 
 -- At most three copies.
 pub record AreCopies (copies : ℕ) (one two three : CopyPlan) : Type 0 where

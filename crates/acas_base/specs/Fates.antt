@@ -1,7 +1,7 @@
 -- What becomes of a message: its copies.
 use Rattle.std.specs.Prelude.{ℕ, ◌==◌, ◌&&◌, Bool, List, [], ◌∷◌, take, find, unwrap_or}
 use Rattle.std.specs.Option.{option_map_or}
-use Rattle.acas_base.specs.Encounter.{Parts, no_copy}
+use Rattle.acas_base.specs.Encounter.{Parts, plain_copy}
 use Rattle.acas_base.specs.declared.link.CopyPlan.{CopyPlan}
 use Rattle.acas_base.specs.declared.link.Fate.{Fate}
 use Rattle.acas_base.specs.declared.link.LinkPlan.{LinkPlan}
@@ -31,9 +31,9 @@ plain_fate sender receiver number = record {
   receiver = receiver;
   number = number;
   copies = 1;
-  first = no_copy;
-  second = no_copy;
-  third = no_copy;
+  first = plain_copy;
+  second = plain_copy;
+  third = plain_copy;
 }
 
 -- The fate of a message without a record of its own.

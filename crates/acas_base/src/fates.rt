@@ -1,7 +1,7 @@
 // What becomes of a message.
 ghost use Rattle.std.specs.Prelude.{◌≡◌, ◌≤◌, false, find, length, true};
 ghost use Rattle.std.specs.List.Sorted.{IsPartitionPoint};
-ghost use Rattle.acas_base.specs.Encounter.{no_copy};
+ghost use Rattle.acas_base.specs.Encounter.{plain_copy};
 ghost use Rattle.acas_base.specs.Fates.{fate_by, is_fate_of, is_plan_of, plain_fate};
 ghost use Rattle.acas_base.specs.Order.{IsRising, below_by, fate_below, has_key, is_below, plan_below};
 

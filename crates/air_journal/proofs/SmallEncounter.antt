@@ -2,7 +2,7 @@
 use Rattle.std.proofs.Common.{ℕ, zero, suc, ◌≤◌, [], ◌∷◌, AllPairs, refl, arith}
 use Rattle.std.specs.Int.Count.{ones}
 use Rattle.std.proofs.lemmas.List.Elements.{All-cons, All-nil}
-use Rattle.acas_base.specs.Encounter.{AreApart, AreCopies, IsCopy, IsCraft, IsEncounter, IsFate, IsLeg, IsMiss, IsPair, IsPlan, no_copy}
+use Rattle.acas_base.specs.Encounter.{AreApart, AreCopies, IsCopy, IsCraft, IsEncounter, IsFate, IsLeg, IsMiss, IsPair, IsPlan, plain_copy}
 use Rattle.air_journal.specs.Pinned.{craft_at, damaged, fate, later, plan, small}
 
 is-craft : (address : ℕ) → 1 ≤ address → address ≤ 16777214 → IsCraft (craft_at address)
@@ -14,15 +14,15 @@ is-craft address low high = record {
   ceiling = tt;
 }
 
-no : (place copies : ℕ) → IsCopy place copies no_copy
+no : (place copies : ℕ) → IsCopy place copies plain_copy
 unfolding ones
 no place copies = record { hold = omega arith; byte = omega arith; mask = omega arith; unused = λ _. refl }
 
-one : AreCopies 1 later no_copy no_copy
+one : AreCopies 1 later plain_copy plain_copy
 unfolding ones
 one = record { few = omega arith; first = record { hold = omega arith; byte = omega arith; mask = omega arith; unused = λ h. absurd (omega arith) }; second = no 1 1; third = no 2 1 }
 
-two : AreCopies 2 no_copy damaged no_copy
+two : AreCopies 2 plain_copy damaged plain_copy
 unfolding ones
 two = record { few = omega arith; first = no 0 2; second = record { hold = omega arith; byte = omega arith; mask = omega arith; unused = λ h. absurd (omega arith) }; third = no 2 2 }
 

@@ -1,7 +1,7 @@
 -- What an air is by itself, and the air of a small encounter.
 use Rattle.std.specs.Prelude.{◌≡◌, ℕ, pos, [], ◌∷◌, length, None, option_map, slice_get}
 use Rattle.std.specs.Option.{option_map_or}
-use Rattle.acas_base.specs.Encounter.{IsEncounter, Parts, no_copy}
+use Rattle.acas_base.specs.Encounter.{IsEncounter, Parts, plain_copy}
 use Rattle.acas_base.specs.declared.TheConstants.{CRAFTS}
 use Rattle.acas_base.specs.declared.craft.CraftSpec.{CraftSpec}
 use Rattle.acas_base.specs.declared.craft.Kind.TheVariants as kinds
@@ -38,10 +38,10 @@ abbrev pub damaged : CopyPlan
 damaged = record { hold = 0; mask = 7 }
 
 abbrev pub plan : LinkPlan
-plan = record { sender = 0; receiver = 1; copies = 1; first = later; second = no_copy; third = no_copy }
+plan = record { sender = 0; receiver = 1; copies = 1; first = later; second = plain_copy; third = plain_copy }
 
 abbrev pub fate : Fate
-fate = record { sender = 0; receiver = 1; number = 2; copies = 2; first = no_copy; second = damaged; third = no_copy }
+fate = record { sender = 0; receiver = 1; number = 2; copies = 2; first = plain_copy; second = damaged; third = plain_copy }
 
 abbrev pub small : Parts
 small = record {
@@ -62,8 +62,8 @@ small = record {
 pub record HasSmallCopies : Type 0 where
   pub encounter : IsEncounter small
   pub before : (air_of small).copies 0 1 1 ≡ later ∷ []
-  pub own : (air_of small).copies 0 1 2 ≡ no_copy ∷ damaged ∷ []
+  pub own : (air_of small).copies 0 1 2 ≡ plain_copy ∷ damaged ∷ []
   pub after : (air_of small).copies 0 1 3 ≡ later ∷ []
-  pub back_before : (air_of small).copies 1 0 1 ≡ no_copy ∷ []
-  pub back : (air_of small).copies 1 0 2 ≡ no_copy ∷ []
-  pub back_after : (air_of small).copies 1 0 3 ≡ no_copy ∷ []
+  pub back_before : (air_of small).copies 1 0 1 ≡ plain_copy ∷ []
+  pub back : (air_of small).copies 1 0 2 ≡ plain_copy ∷ []
+  pub back_after : (air_of small).copies 1 0 3 ≡ plain_copy ∷ []

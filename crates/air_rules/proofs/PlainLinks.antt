@@ -2,7 +2,7 @@
 use Rattle.std.proofs.Common.{◌≡◌, ℕ, suc, ◌+◌, ◌<◌, ◌≤◌, Bool, true, false, ◌&&◌, eqb, List, [], ◌∷◌, length, Option, Some, None, is_some, option_and_then, sym, refl, ap, ◌∙◌, subst, arith, inl, inr, eqb-true, eq-eqb, ne_eqb, le-leb, zero-le, zero, slice_get}
 use Rattle.std.proofs.lemmas.Bool.{cond-false, cond-true, and_parts, and_from, and_cases, and_right, or_cases, cases_Bool, not-false}
 use Rattle.acas_base.specs.Complements.{forbidden_sense}
-use Rattle.acas_base.specs.Encounter.{no_copy}
+use Rattle.acas_base.specs.Encounter.{plain_copy}
 use Rattle.acas_base.specs.declared.advisory.Cells.{Cells}
 use Rattle.acas_base.specs.declared.advisory.ResMsg.{ResMsg}
 use Rattle.acas_base.specs.declared.advisory.Sense.{Sense}
@@ -95,14 +95,14 @@ plain-good air sound K l i p c j good plain may f = may.good_is ∙ go (sent_at 
         let shows = send-shows air K l p j i S from in
         plan_of S (air.copies S.sender S.receiver S.number) (plain p S from) c (and_parts _ _ parts.1).0 shows.message shows.of_sender shows.word_is
       where
-        plan_of : (S : Sent) (ps : List CopyPlan) → ps ≡ no_copy ∷ [] → (c : ℕ) → is_free (slice_get ps c) (commits (entries_after K p) i) ≡ true →
+        plan_of : (S : Sent) (ps : List CopyPlan) → ps ≡ plain_copy ∷ [] → (c : ℕ) → is_free (slice_get ps c) (commits (entries_after K p) i) ≡ true →
             (m : ResMsg) → IsMessageOf air j m → S.word ≡ air.word m → is_some (option_and_then (λ (plan : CopyPlan). air.read (air.flip S.word plan.mask)) (slice_get ps c)) ≡ true
         plan_of S ps e c h m own w =
             let r : air.read (air.flip S.word 0) ≡ Some m = ap air.read (sound.plain S.word ∙ w) ∙ sound.reads j m own in
             subst (λ (x : List CopyPlan). is_free (slice_get x c) (commits (entries_after K p) i) ≡ true → is_some (option_and_then (λ (plan : CopyPlan). air.read (air.flip S.word plan.mask)) (slice_get x c)) ≡ true) (sym e) (at c r) h
           where
-            at : (c : ℕ) → air.read (air.flip S.word 0) ≡ Some m → is_free (slice_get (no_copy ∷ []) c) (commits (entries_after K p) i) ≡ true →
-                is_some (option_and_then (λ (plan : CopyPlan). air.read (air.flip S.word plan.mask)) (slice_get (no_copy ∷ []) c)) ≡ true
+            at : (c : ℕ) → air.read (air.flip S.word 0) ≡ Some m → is_free (slice_get (plain_copy ∷ []) c) (commits (entries_after K p) i) ≡ true →
+                is_some (option_and_then (λ (plan : CopyPlan). air.read (air.flip S.word plan.mask)) (slice_get (plain_copy ∷ []) c)) ≡ true
             at zero r h = ap is_some r
             at (suc c) r h = absurd (cc)
 

@@ -1,6 +1,6 @@
 -- The journal of three aircraft, by computation.
 use Rattle.std.proofs.Common.{◌≡◌, ℕ, zero, suc, ◌<◌, ◌≤◌, Bool, true, false, ◌&&◌, cond, eqb, eq-eqb, List, [], ◌∷◌, length, sym, refl, ◌∙◌, arith, inl, inr}
-use Rattle.acas_base.specs.Encounter.{no_copy}
+use Rattle.acas_base.specs.Encounter.{plain_copy}
 use Rattle.acas_base.specs.declared.advisory.ResMsg.{ResMsg}
 use Rattle.acas_base.specs.declared.advisory.Sense.TheVariants.{Down, Up}
 use Rattle.acas_base.specs.declared.link.CopyPlan.{CopyPlan}
@@ -24,10 +24,10 @@ AreFew copies = length copies ≤ 3
 few : (sender receiver number : ℕ) → AreFew (copies_of sender receiver number)
 few sender receiver number =
     let one = λ (copies : List CopyPlan) (h : AreFew copies) (b : Bool) (rest : List CopyPlan) (g : AreFew rest). either AreFew b copies rest h g in
-    one (no_copy ∷ spoilt ∷ []) (omega arith) (eqb sender 0 && (eqb receiver 1 && eqb number 1)) _
+    one (plain_copy ∷ spoilt ∷ []) (omega arith) (eqb sender 0 && (eqb receiver 1 && eqb number 1)) _
     (one (held 2 ∷ held 2 ∷ []) (omega arith) (eqb sender 0 && (eqb receiver 2 && eqb number 1)) _
     (one [] (omega arith) (eqb sender 0 && (eqb receiver 2 && eqb number 2)) _
-    (one (held 1 ∷ []) (omega arith) (eqb sender 2 && (eqb receiver 0 && eqb number 1)) (no_copy ∷ []) (omega arith))))
+    (one (held 1 ∷ []) (omega arith) (eqb sender 2 && (eqb receiver 0 && eqb number 1)) (plain_copy ∷ []) (omega arith))))
 
 counted : (own : ℕ) → is_active three own ≡ true → own < 3
 counted zero e = omega arith

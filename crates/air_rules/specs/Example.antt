@@ -4,7 +4,7 @@
 use Rattle.std.specs.Prelude.{◌≡◌, ℕ, zero, suc, ◌+◌, ◌*◌, Bool, true, false, if◌then◌else◌, ◌==◌, List, [], ◌∷◌, ◌++◌, map, replicate, reverse, take, find, flat_map, Option, Some, None, pos}
 use Rattle.std.specs.List.{range_with_len}
 use Rattle.acas_base.specs.Complements.{forbidden_sense}
-use Rattle.acas_base.specs.Encounter.{no_copy}
+use Rattle.acas_base.specs.Encounter.{plain_copy}
 use Rattle.acas_base.specs.Senses.{sense_of}
 use Rattle.acas_base.specs.declared.advisory.Cell.{Cell}
 use Rattle.acas_base.specs.declared.advisory.Cell.TheVariants.{Clear, Ra}
@@ -92,7 +92,7 @@ example = record {
   cycles = 2;
   kind = kind_of;
   address = λ own. own + 1;
-  copies = λ sender receiver number. no_copy ∷ [];
+  copies = λ sender receiver number. plain_copy ∷ [];
   view = λ own other cycle. view_of (is_here own);
   word = word_of;
   read = read_word;

@@ -1,6 +1,6 @@
 -- Once an aircraft that gives way has taken a message of the other one's present run, the two senses are opposite.
 use Rattle.std.specs.Prelude.{◌≡◌, ℕ, ◌+◌, ◌<◌, Bool, true, List, [], ◌∷◌, Some}
-use Rattle.acas_base.specs.Encounter.{no_copy}
+use Rattle.acas_base.specs.Encounter.{plain_copy}
 use Rattle.acas_base.specs.Senses.{other_sense, sense_of}
 use Rattle.acas_base.specs.declared.advisory.Cells.{Cells}
 use Rattle.acas_base.specs.declared.advisory.Sense.{Sense}
@@ -29,7 +29,7 @@ IsOppositeByTake air journal = (earlier : List Entry) (own other began : ℕ) (s
 -- Every message of one aircraft to another one has one copy, which is neither held back nor damaged.
 abbrev pub IsPlainLink : Air → List Entry → ℕ → ℕ → Type 0
 IsPlainLink air journal sender receiver = (position : ℕ) (sent : Sent) →
-    WasSent journal position sender receiver sent → air.copies sent.sender sent.receiver sent.number ≡ no_copy ∷ []
+    WasSent journal position sender receiver sent → air.copies sent.sender sent.receiver sent.number ≡ plain_copy ∷ []
 
 -- An aircraft takes the messages of another one in the order in which they were sent.
 abbrev pub TakesInOrder : List Entry → ℕ → ℕ → Type 0

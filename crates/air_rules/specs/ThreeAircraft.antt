@@ -3,7 +3,7 @@
 -- second ends in the third cycle. There the second one, which would choose to climb, descends, since the first one asked
 -- it not to pass above. The third one climbs.
 use Rattle.std.specs.Prelude.{◌≡◌, ℕ, zero, suc, Bool, true, false, ◌&&◌, if◌then◌else◌, ◌==◌, List, [], ◌∷◌, ◌++◌, reverse, take, Option, Some, None, pos}
-use Rattle.acas_base.specs.Encounter.{no_copy}
+use Rattle.acas_base.specs.Encounter.{plain_copy}
 use Rattle.acas_base.specs.declared.advisory.Cell.{Cell}
 use Rattle.acas_base.specs.declared.advisory.Cell.TheVariants.{Clear, Traffic}
 use Rattle.acas_base.specs.declared.advisory.Sense.{Sense}
@@ -75,11 +75,11 @@ held commits = record { hold = commits; mask = 0 }
 
 abbrev pub copies_of : ℕ → ℕ → ℕ → List CopyPlan
 copies_of sender receiver number =
-    if sender == 0 && (receiver == 1 && number == 1) then no_copy ∷ spoilt ∷ []
+    if sender == 0 && (receiver == 1 && number == 1) then plain_copy ∷ spoilt ∷ []
     else if sender == 0 && (receiver == 2 && number == 1) then held 2 ∷ held 2 ∷ []
     else if sender == 0 && (receiver == 2 && number == 2) then []
     else if sender == 2 && (receiver == 0 && number == 1) then held 1 ∷ []
-    else no_copy ∷ []
+    else plain_copy ∷ []
 
 abbrev pub kind_of : ℕ → Option Kind
 kind_of zero = Some kinds.Ra

@@ -6,7 +6,7 @@ use Rattle.std.specs.List.{list_any}
 use Rattle.std.specs.Option.{option_and_then}
 use Rattle.std.proofs.lemmas.Bool.{eqb-true}
 use Rattle.std.proofs.lemmas.Option.{none-some, same_Some}
-use Rattle.acas_base.specs.Encounter.{is_active, most_crafts, no_copy}
+use Rattle.acas_base.specs.Encounter.{is_active, most_crafts, plain_copy}
 use Rattle.acas_base.specs.declared.craft.Kind.{Kind}
 use Rattle.acas_base.specs.declared.link.CopyPlan.{CopyPlan}
 use Rattle.enc_file.specs.Conditions.{RecordKind, RunKind, GainsKind, CraftKind, ClimbKind, LegKind, MissKind, PlanKind, FateKind, EndKind, are_masked, has_climb, if_said, is_address_wrong, is_count_wrong, is_fate_since, is_given, is_leg_since, is_masked, is_miscounted, is_miss_until, is_number_wrong, is_outside, is_plan_for, is_repeat, is_unknown, no_copies}
@@ -204,7 +204,7 @@ miss-told earlier fields sound = miss-at earlier sound (length fields == 5) (cou
 
 -- Copies: what is wrong with the fields of one.
 abbrev copy_if : Bool → Option CopyPlan → Option CopyPlan
-copy_if unused copy = if unused then Some no_copy else copy
+copy_if unused copy = if unused then Some plain_copy else copy
 
 abbrev copies_by : ℕ → Option CopyPlan → Option CopyPlan → Option CopyPlan → Option Copies
 copies_by count one two three = option_and_then (λ first. option_and_then (λ second. option_map (λ third. record { count = count; first = first; second = second; third = third }) three) two) one
@@ -231,7 +231,7 @@ three-are count (Some a) (Some b) (Some c) copies is =
 abbrev bad_mask : ℕ → Bool
 bad_mask mask = nat_lt 3 (count_ones mask)
 
-nothing-masked : is_mask_bad no_copy ≡ false
+nothing-masked : is_mask_bad plain_copy ≡ false
 unfolding ones
 nothing-masked = refl
 
@@ -239,7 +239,7 @@ abbrev copy_by : Option ℕ → Option ℕ → Option CopyPlan
 copy_by hold mask = option_and_then (λ h. option_map (λ m. record { hold = h; mask = m }) mask) hold
 
 mask-one : (unused : Bool) (hold mask : Option ℕ) (copy : CopyPlan) → copy_if unused (copy_by hold mask) ≡ Some copy → is_mask_bad copy ≡ (not unused && if_said mask bad_mask)
-mask-one true hold mask copy is = ap is_mask_bad (sym (same_Some no_copy copy is)) ∙ nothing-masked
+mask-one true hold mask copy is = ap is_mask_bad (sym (same_Some plain_copy copy is)) ∙ nothing-masked
 mask-one false None mask copy is = absurd (none-some copy is)
 mask-one false (Some h) None copy is = absurd (none-some copy is)
 mask-one false (Some h) (Some m) copy is = ap is_mask_bad (sym (same_Some (record { hold = h; mask = m }) copy is))

@@ -4,7 +4,7 @@ use Rattle.std.specs.Fmt.{signed_decimal}
 use Rattle.std.specs.Option.{option_and_then}
 use Rattle.std.specs.Str.{bytes_eq}
 use Rattle.std.specs.Str.Parse.{digits_value, signed_digits_value}
-use Rattle.acas_base.specs.Encounter.{no_copy}
+use Rattle.acas_base.specs.Encounter.{plain_copy}
 use Rattle.acas_base.specs.declared.craft.Kind.{Kind}
 use Rattle.acas_base.specs.declared.craft.Kind.TheVariants.{Ra, Ta, Xpdr}
 use Rattle.acas_base.specs.declared.link.CopyPlan.{CopyPlan}
@@ -52,7 +52,7 @@ copy_in held masked = option_and_then (λ hold. option_map (λ mask. record { ho
 -- The copy with a number, from 0, of so many copies that stand from a place on; zero where there is no such copy.
 abbrev pub copy_from : List (List ℕ) → ℕ → ℕ → ℕ → Option CopyPlan
 copy_from fields start count n =
-    if nat_le count n then Some no_copy else copy_in (field fields (start + (n + n))) (field fields (start + (n + n + 1)))
+    if nat_le count n then Some plain_copy else copy_in (field fields (start + (n + n))) (field fields (start + (n + n + 1)))
 
 abbrev pub copies_from : List (List ℕ) → ℕ → ℕ → Option Copies
 copies_from fields start count =

@@ -1,6 +1,6 @@
 -- What is known of the records before the next one.
 use Rattle.std.specs.Prelude.{◌≡◌, ℕ, ◌<◌, ◌≤◌, false, List, [], ◌∷◌, None}
-use Rattle.acas_base.specs.Encounter.{IsAltitude, IsCraft, IsElevation, IsGains, IsVersion, no_copy}
+use Rattle.acas_base.specs.Encounter.{IsAltitude, IsCraft, IsElevation, IsGains, IsVersion, plain_copy}
 use Rattle.acas_base.specs.Ranges.{IsCycle, IsWithin}
 use Rattle.acas_base.specs.declared.craft.CraftSpec.{CraftSpec}
 use Rattle.acas_base.specs.declared.link.CopyPlan.{CopyPlan}
@@ -40,7 +40,7 @@ pub record AreCycles (first last : ℕ) : Type 0 where
 pub record IsCopySaid (place count : ℕ) (copy : CopyPlan) : Type 0 where
   pub hold : copy.hold ≤ 60
   pub byte : copy.mask < 256
-  pub unused : count ≤ place → copy ≡ no_copy
+  pub unused : count ≤ place → copy ≡ plain_copy
 
 pub record AreCopiesSaid (copies : Copies) : Type 0 where
   pub few : copies.count ≤ 3

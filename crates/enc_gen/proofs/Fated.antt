@@ -4,7 +4,7 @@ use Rattle.std.specs.Prelude.{All, AllPairs, IsTrue, ◌==◌, ◌&&◌, not, if
 use Rattle.std.specs.Int.Count.{ones}
 use Rattle.std.proofs.lemmas.Bool.Decides.{nat_tests}
 use Rattle.std.proofs.lemmas.List.Elements.{All-nil}
-use Rattle.acas_base.specs.Encounter.{AreCopies, AreListed, IsCopy, IsFate, no_copy}
+use Rattle.acas_base.specs.Encounter.{AreCopies, AreListed, IsCopy, IsFate, plain_copy}
 use Rattle.acas_base.specs.Order.{fate_below, is_below}
 use Rattle.acas_base.specs.Ranges.{IsCycle}
 use Rattle.acas_base.specs.declared.craft.CraftSpec.{CraftSpec}
@@ -21,10 +21,10 @@ no-bits : count_ones 0 ≤ 3
 unfolding ones
 no-bits = omega arith
 
-plain-copy : (place copies : ℕ) → IsCopy place copies no_copy
+plain-copy : (place copies : ℕ) → IsCopy place copies plain_copy
 plain-copy place copies = record { hold = omega arith; byte = omega arith; mask = no-bits; unused = λ h. refl }
 
-first-copy : (copies : ℕ) (first : CopyPlan) → copies ≤ 3 → IsCopy 0 copies first → AreCopies copies first no_copy no_copy
+first-copy : (copies : ℕ) (first : CopyPlan) → copies ≤ 3 → IsCopy 0 copies first → AreCopies copies first plain_copy plain_copy
 first-copy copies first few is = record { few = few; first = is; second = plain-copy 1 copies; third = plain-copy 2 copies }
 
 held-copy : (s : ℕ) → IsCopy 0 1 (record { hold = 1 + number_below 5 s; mask = 0 })
@@ -38,18 +38,18 @@ damaged-copy s =
     record { hold = omega arith; byte = bit-small (number_below 8 s) small; mask = bit-one (number_below 8 s) small; unused = λ h. absurd (omega arith) }
 
 -- What is true of each fate of such copies is true of the one that may be drawn.
-fate-all : (P : Fate → Type 0) (sender receiver number : ℕ) → ((copies : ℕ) (first : CopyPlan) → AreCopies copies first no_copy no_copy → P (fate_of sender receiver number copies first))
+fate-all : (P : Fate → Type 0) (sender receiver number : ℕ) → ((copies : ℕ) (first : CopyPlan) → AreCopies copies first plain_copy plain_copy → P (fate_of sender receiver number copies first))
     → (drawn s : ℕ) → All P (fate_by drawn sender receiver number s).items
 unfolding fate_by
 fate-all P sender receiver number each drawn s = by_test (drawn == 0) (drawn == 1) (drawn == 2) (drawn == 3) where
   by_test : (a b c d : Bool)
-      → All P (if a then one (fate_of sender receiver number 0 no_copy) s
-      else if b then one (fate_of sender receiver number 2 no_copy) s
+      → All P (if a then one (fate_of sender receiver number 0 plain_copy) s
+      else if b then one (fate_of sender receiver number 2 plain_copy) s
       else if c then held sender receiver number s
       else if d then damaged sender receiver number s
       else nothing s).items
-  by_test true b c d = all-one P _ (each 0 no_copy (first-copy 0 no_copy (omega arith) (plain-copy 0 0)))
-  by_test false true c d = all-one P _ (each 2 no_copy (first-copy 2 no_copy (omega arith) (plain-copy 0 2)))
+  by_test true b c d = all-one P _ (each 0 plain_copy (first-copy 0 plain_copy (omega arith) (plain-copy 0 0)))
+  by_test false true c d = all-one P _ (each 2 plain_copy (first-copy 2 plain_copy (omega arith) (plain-copy 0 2)))
   by_test false false true d = all-one P _ (each 1 _ (first-copy 1 _ (omega arith) (held-copy (next_state s))))
   by_test false false false true = all-one P _ (each 1 _ (first-copy 1 _ (omega arith) (damaged-copy (next_state s))))
   by_test false false false false = All-nil P
@@ -58,8 +58,8 @@ fate-alone : (R : Fate → Fate → Type 0) (drawn sender receiver number s : �
 unfolding fate_by
 fate-alone R drawn sender receiver number s = by_test (drawn == 0) (drawn == 1) (drawn == 2) (drawn == 3) where
   by_test : (a b c d : Bool)
-      → AllPairs R (if a then one (fate_of sender receiver number 0 no_copy) s
-      else if b then one (fate_of sender receiver number 2 no_copy) s
+      → AllPairs R (if a then one (fate_of sender receiver number 0 plain_copy) s
+      else if b then one (fate_of sender receiver number 2 plain_copy) s
       else if c then held sender receiver number s
       else if d then damaged sender receiver number s
       else nothing s).items

@@ -1,7 +1,7 @@
 -- The fates of messages in a generated encounter.
 use Rattle.std.specs.Prelude.{ℕ, ◌+◌, ◌^◌, ◌==◌, ◌&&◌, Bool, false, not, if◌then◌else◌, List, length, slice_get}
 use Rattle.std.specs.Option.{option_map_or}
-use Rattle.acas_base.specs.Encounter.{is_ra_kind, no_copy}
+use Rattle.acas_base.specs.Encounter.{is_ra_kind, plain_copy}
 use Rattle.acas_base.specs.declared.craft.CraftSpec.{CraftSpec}
 use Rattle.acas_base.specs.declared.link.CopyPlan.{CopyPlan}
 use Rattle.acas_base.specs.declared.link.Fate.{Fate}
@@ -19,8 +19,8 @@ fate_of sender receiver number copies first = record {
   number = number;
   copies = copies;
   first = first;
-  second = no_copy;
-  third = no_copy;
+  second = plain_copy;
+  third = plain_copy;
 }
 
 -- One copy that is held back.
@@ -38,8 +38,8 @@ damaged sender receiver number s =
 -- The fate for a number that is drawn.
 unfoldable pub fate_by : ℕ → ℕ → ℕ → ℕ → ℕ → Made Fate
 fate_by drawn sender receiver number s =
-    if drawn == 0 then one (fate_of sender receiver number 0 no_copy) s
-    else if drawn == 1 then one (fate_of sender receiver number 2 no_copy) s
+    if drawn == 0 then one (fate_of sender receiver number 0 plain_copy) s
+    else if drawn == 1 then one (fate_of sender receiver number 2 plain_copy) s
     else if drawn == 2 then held sender receiver number s
     else if drawn == 3 then damaged sender receiver number s
     else nothing s
