@@ -1,7 +1,7 @@
 // Expected values: by hand from "The journal" in docs/RULES.md. They are of shared journals of small encounters.
 ghost use Rattle.std.specs.Prelude.{◌≡◌, ℕ, ◌<◌, [], ◌∷◌, All, IfOk, IfSome, length, slice_index_or};
 ghost use Rattle.air_rules.specs.Journal.{commits};
-ghost use Rattle.air_turn.specs.Seats.{AreAllSeats, IsSameSeat, SeatState};
+ghost use Rattle.air_turn.specs.Seats.{AreAllSeats, IsSameSeat, IsSeatOf, SeatState};
 
 use crate::steps::{empty_journal, look};
 use acas_base::{Address, CraftSpec, Encounter, Kind};
@@ -18,7 +18,7 @@ use test_encounters::{aircraft, encounter, leg};
 fn opened(alloc: Global, enc: &Encounter) -> Result<(Air, Vec<Seat>), Fail>
     ensures encounter { IfOk result (λ opened. opened.0.encounter ≡ enc.now) }
     ensures all { IfOk result (λ opened. AreAllSeats opened.0 opened.1.items) }
-    ensures fresh { IfOk result (λ opened. All (λ seat. (seat.table ≡ opened.0.table) × (seat.encounter ≡ enc.now) × (seat.front ≡ [])) opened.1.items) }
+    ensures fresh { IfOk result (λ opened. All (λ seat. (IsSeatOf opened.0 seat) × (seat.encounter ≡ enc.now) × (seat.front ≡ [])) opened.1.items) }
 {
     let state = empty_journal(alloc, enc)?;
     Ok(Air::open(alloc, state)?)
@@ -111,7 +111,7 @@ fn seats(rt: HostRuntime) -> Result<(), Fail> {
 
 // Asks for the commit of a seat's next cycle, and counts it where it is made.
 fn commit<R: Wait>(rt: &R, air: &Air, enc: &Encounter, seat: &mut Seat, made: &mut u16) -> Commit
-    requires of { seat.old.table ≡ air.now.table }
+    requires of { IsSeatOf air.now seat.old }
     requires encounter { seat.old.encounter ≡ enc.now }
     requires made { made.old ≡ commits seat.old.front seat.old.own }
     ensures same { IsSameSeat seat.old seat.new }
@@ -152,10 +152,10 @@ fn is_so<R: Wait>(
     other: &mut Seat,
     act: Act,
 ) -> bool
-    requires of { seat.old.table ≡ air.now.table }
+    requires of { IsSeatOf air.now seat.old }
     requires encounter { seat.old.encounter ≡ enc.now }
     requires made { made.old ≡ commits seat.old.front seat.old.own }
-    requires other { other.old.table ≡ air.now.table }
+    requires other { IsSeatOf air.now other.old }
     ensures same { IsSameSeat seat.old seat.new }
     ensures made { made.new ≡ commits seat.new.front seat.new.own }
     ensures other { other.new ≡ other.old }
@@ -180,8 +180,8 @@ fn first_wrong<R: Wait>(
     high: &mut Seat,
     acts: &[(u8, Act)],
 ) -> Option<usize>
-    requires low { (low.old.table ≡ air.now.table) × (low.old.encounter ≡ enc.now) × (low.old.front ≡ []) }
-    requires high { (high.old.table ≡ air.now.table) × (high.old.encounter ≡ enc.now) × (high.old.front ≡ []) }
+    requires low { (IsSeatOf air.now low.old) × (low.old.encounter ≡ enc.now) × (low.old.front ≡ []) }
+    requires high { (IsSeatOf air.now high.old) × (high.old.encounter ≡ enc.now) × (high.old.front ≡ []) }
     ensures low { IsSameSeat low.old low.new }
     ensures high { IsSameSeat high.old high.new }
 {
@@ -229,7 +229,8 @@ fn meeting(alloc: Global, kind: Kind, alt: i32) -> Result<Encounter, Fail> {
     encounter(alloc, 31, None, &crafts, &legs, &[], &[])
 }
 
-// The place of the first act with another answer, and how many entries there are in the end.
+// The place of the first act with another answer, and how many entries there are in the end. The seats come back in the
+// other order, which `close` has to allow.
 fn played<R: Wait>(
     rt: &R,
     alloc: Global,
@@ -242,8 +243,8 @@ fn played<R: Wait>(
     };
     let wrong = first_wrong(rt, &air, &enc, &mut low, &mut high, acts);
     let mut back = Vec::with_capacity(alloc, 2)?;
-    back.push_reserved(low);
     back.push_reserved(high);
+    back.push_reserved(low);
     Ok((wrong, air.close(back).count()))
 }
 
@@ -297,7 +298,7 @@ fn answers_in_turn(rt: HostRuntime) -> Result<(), Fail> {
 
 // Commits until all cycles are over.
 fn commits_all<R: Wait>(rt: &R, air: &Air, enc: &Encounter, seat: &mut Seat)
-    requires { (seat.old.table ≡ air.now.table) × (seat.old.encounter ≡ enc.now) × (seat.old.front ≡ []) }
+    requires { (IsSeatOf air.now seat.old) × (seat.old.encounter ≡ enc.now) × (seat.old.front ≡ []) }
     ensures { IsSameSeat seat.old seat.new }
 {
     let mut made = 0;
@@ -311,7 +312,7 @@ fn commits_all<R: Wait>(rt: &R, air: &Air, enc: &Encounter, seat: &mut Seat)
 
 // Each seat does so in a thread of its own.
 fn all_commit<R: Threads + Wait + Sync>(rt: &R, air: &Air, enc: &Encounter, seats: &mut [Seat])
-    requires { All (λ seat. (seat.table ≡ air.now.table) × (seat.encounter ≡ enc.now) × (seat.front ≡ [])) seats.old }
+    requires { All (λ seat. (IsSeatOf air.now seat) × (seat.encounter ≡ enc.now) × (seat.front ≡ [])) seats.old }
     ensures { (k : ℕ) (d : SeatState) → k < length seats.old → IsSameSeat (slice_index_or seats.old k d) (slice_index_or seats.new k d) }
 {
     for_each_mut(

@@ -2,6 +2,7 @@
 mod answered;
 mod faults;
 mod judged;
+mod pages;
 mod played;
 mod resumed;
 mod swept;

@@ -115,7 +115,7 @@ fn tells_faults(rt: HostRuntime) -> Result<(), Fail> {
 }
 
 // Words that say no command, by their number, by a word, or by a number out of its range.
-const NO_COMMANDS: [&str; 18] = [
+const NO_COMMANDS: [&str; 22] = [
     "",
     "serial now",
     "play 1",
@@ -134,6 +134,10 @@ const NO_COMMANDS: [&str; 18] = [
     "sweep 7 1 1 121",
     "sweep 4294967296 1 1 1",
     "sweep 7 01 1 1",
+    "--help serial",
+    "--version 1",
+    "-v",
+    "--versions",
 ];
 
 // The place of the first line that is answered otherwise than by a word on the usage.
