@@ -23,13 +23,13 @@ abbrev pub complement_of : Sense → Vrc
 complement_of Up = NotAbove
 complement_of Down = NotBelow
 
--- A complement that isn't renewed lapses: it is in force only while its taker has made fewer than LAPSE commits since the
--- take. `taken` is how many commits the taker had made at the take, `made` how many it has made now.
+-- A complement that isn't renewed lapses. It is in force only while its taker has made fewer than LAPSE commits since
+-- the take. `taken` is how many commits the taker had made at the take, and `made` how many it has made now.
 abbrev pub in_force : Vrc → ℕ → ℕ → Vrc
 in_force complement taken made = if nat_lt made (taken + LAPSE) then complement else Nil
 
--- The complement that a message cancels where it sets the second one after the first: the first, where both are set and
--- differ.
+-- The complement that a message cancels where it sets the second one after the first. It is the first one, where both
+-- are set and differ.
 abbrev pub cancelled_complement : Vrc → Vrc → Vrc
 cancelled_complement NotBelow NotAbove = NotBelow
 cancelled_complement NotAbove NotBelow = NotAbove

@@ -81,8 +81,8 @@ is_ra_kind Ra = true
 is_ra_kind Ta = false
 is_ra_kind Xpdr = false
 
--- A plain copy isn't held back, and no bit of it is flipped. Where a message has fewer than three copies, the plans of the
--- others are that of a plain copy.
+-- A plain copy isn't held back, and no bit of it is flipped. Where a message has fewer than three copies, each place
+-- past the copies has the plan of a plain copy.
 abbrev pub plain_copy : CopyPlan
 plain_copy = record { hold = 0; mask = 0 }
 
@@ -133,8 +133,8 @@ pub record IsMiss (count : ℕ) (miss : Miss) : Type 0 where
   pub to : IsCycle miss.to
   pub order : miss.from ≤ miss.to
 
--- The plan at a place from 0 holds back for at most 60 commits and flips at most three of eight bits. It is zero where
--- there are no more than so many copies.
+-- The plan at a place, from 0. It holds back for at most 60 commits and flips at most three of eight bits. At a place
+-- past the copies it is zero.
 pub record IsCopy (place copies : ℕ) (plan : CopyPlan) : Type 0 where
   pub hold : plan.hold ≤ 60
   pub byte : plan.mask < 256
@@ -168,8 +168,8 @@ pub record IsRun (version cycles : ℕ) (elevation : ℤ) : Type 0 where
   pub length : IsCycle cycles
   pub terrain : IsElevation elevation
 
--- Its aircraft: enough of them, and not too many for the format; each in its ranges; no two with one address; and at
--- least one that is active.
+-- The aircraft: enough of them, and not too many for the format; each in its ranges; no two with one address; at least
+-- one active.
 pub record AreCrafts (version : ℕ) (crafts : List CraftSpec) : Type 0 where
   pub some : 1 ≤ length crafts
   pub few : length crafts ≤ most_crafts version

@@ -1,4 +1,4 @@
--- What becomes of a message: its copies.
+-- What happens to a message: its copies.
 use Rattle.std.specs.Prelude.{ℕ, ◌==◌, ◌&&◌, Bool, List, [], ◌∷◌, take, find, unwrap_or}
 use Rattle.std.specs.Option.{option_map_or}
 use Rattle.acas_base.specs.Encounter.{Parts, plain_copy}
@@ -24,7 +24,7 @@ fate_by number plan = record {
   third = plan.third;
 }
 
--- The one plain copy, which isn't held back nor damaged.
+-- The one plain copy, which is neither held back nor damaged.
 abbrev pub plain_fate : ℕ → ℕ → ℕ → Fate
 plain_fate sender receiver number = record {
   sender = sender;
@@ -36,7 +36,7 @@ plain_fate sender receiver number = record {
   third = plain_copy;
 }
 
--- The fate of a message without a record of its own.
+-- The fate of a message that has no record of its own.
 abbrev pub usual_fate : Parts → ℕ → ℕ → ℕ → Fate
 usual_fate e sender receiver number = option_map_or (fate_by number) (find (is_plan_of sender receiver) e.plans) (plain_fate sender receiver number)
 

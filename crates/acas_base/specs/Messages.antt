@@ -17,15 +17,15 @@ has_advisory (Ra advisory) = true
 abbrev pub has_many : Cells → Bool
 has_many cells = nat_le 2 (count_by has_advisory cells.list)
 
--- The cancel of what was said last; none where nothing was.
+-- The message that cancels what was said last; none where nothing was said.
 abbrev pub cancel_of : Vrc → Bool → ℕ → Option ResMsg
 cancel_of Nil many sender = None
 cancel_of NotBelow many sender = Some (record { many = many; cancel = NotBelow; vrc = Nil; sender = sender })
 cancel_of NotAbove many sender = Some (record { many = many; cancel = NotAbove; vrc = Nil; sender = sender })
 
--- The message owed to an aircraft after a commit with this cell for it, where `said` is the complement of the last message sent
--- to it. With an advisory it is the complement of the advisory's sense, with a cancel of another one that was said before. Without
--- an advisory it is a cancel.
+-- The message owed to an aircraft after a commit with this cell for it. `said` is the complement that the last message
+-- to it set. With an advisory the message sets the complement of the advisory's sense, and cancels the other complement
+-- where that was said. Without an advisory it cancels what was said.
 abbrev pub message_for : Cell → Vrc → Bool → ℕ → Option ResMsg
 message_for (Ra advisory) said many sender = Some (record { many = many; cancel = cancelled_complement said (complement_of advisory.sense); vrc = complement_of advisory.sense; sender = sender })
 message_for Clear said many sender = cancel_of said many sender

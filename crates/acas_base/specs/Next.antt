@@ -25,7 +25,8 @@ rank_by own other kinds.Ra = if nat_lt own other then First else Second
 rank_by own other kinds.Ta = Free
 rank_by own other kinds.Xpdr = Free
 
--- The sense of a new advisory: where a complement is in force, the sense that it doesn't forbid, else the choice.
+-- The sense in which an advisory starts: the sense that a complement in force doesn't forbid; without such a complement
+-- the chosen sense.
 abbrev pub starting_sense : View → Vrc → Sense
 starting_sense view Nil = chosen_sense view
 starting_sense view NotBelow = Up
@@ -54,14 +55,14 @@ reversal_of before view turned =
 abbrev pub continuation_of : Intent → View → Cell
 continuation_of before view = advisory view before.sense (strength_after before view) (before.age + 1) before.turned before.crossing
 
--- A continuing advisory changes its sense in two cases alone. Of two aircraft with resolution advisories the one of higher address
--- changes it where the complement forbids it. Any other aircraft changes it once, by a geometric reversal.
+-- An advisory that goes on changes its sense in two cases alone. Of two aircraft of kind RA the one of higher address
+-- changes it where the complement in force forbids it. Any other aircraft changes it once, by a geometric reversal.
 abbrev pub changes_sense : Intent → View → Vrc → Rank → Bool
 changes_sense before view complement Second = forbids complement before.sense
 changes_sense before view complement First = calls_for_reversal view before.sense && not before.turned
 changes_sense before view complement Free = calls_for_reversal view before.sense && not before.turned
 
--- What a change of sense leaves as `turned`: a geometric reversal is noted.
+-- `turned` after a change of sense: a geometric reversal sets it.
 abbrev pub is_turned_after : Intent → Rank → Bool
 is_turned_after before Second = before.turned
 is_turned_after before First = true
@@ -79,7 +80,8 @@ traffic_cell view = if view.traffic then Traffic else Clear
 abbrev pub starting_cell : View → Vrc → Cell
 starting_cell view complement = if view.threat then new_advisory view (starting_sense view complement) else traffic_cell view
 
--- An advisory ends where own aircraft doesn't resolve any more, and where it is five cycles old and there is no threat.
+-- An advisory ends where own aircraft doesn't resolve any more. It also ends where it is five cycles old and there is
+-- no threat.
 abbrev pub ends : Intent → View → Bool
 ends before view = not view.resolves || (not view.threat && nat_le 5 before.age)
 
@@ -88,7 +90,7 @@ cell_after Clear view complement rank = starting_cell view complement
 cell_after Traffic view complement rank = starting_cell view complement
 cell_after (Ra before) view complement rank = if ends before view then traffic_cell view else continuing_cell before view complement rank
 
--- The next cell for an aircraft, after the cell before, from the view of it, the complement in force from it and the rank against
--- it. An aircraft without tracks is Clear.
+-- The next cell of an aircraft for another one. It follows from the cell before, the view, the complement in force from
+-- the other one, and the rank against it. Without tracks the cell is Clear.
 abbrev pub following_cell : Cell → View → Vrc → Rank → Cell
 following_cell before view complement rank = if view.tested then cell_after before view complement rank else Clear

@@ -6,7 +6,7 @@ use Rattle.acas_base.specs.declared.craft.Miss.{Miss}
 use Rattle.acas_base.specs.declared.link.LinkPlan.{LinkPlan}
 use Rattle.acas_base.specs.declared.link.Fate.{Fate}
 
--- Three numbers, of which the first counts most.
+-- Three numbers. The first counts most.
 abbrev pub Key : Type 0
 Key = ℕ × ℕ × ℕ
 

@@ -26,7 +26,7 @@ weakest_first = Limit2000 ∷ Limit1000 ∷ Limit500 ∷ Level ∷ Positive ∷ 
 abbrev pub strongest_first : List Strength
 strongest_first = Increase ∷ Positive ∷ Level ∷ Limit500 ∷ Limit1000 ∷ Limit2000 ∷ []
 
--- The floor of a strength: the vertical rate in its sense that it asks for at least, in 1/1024 ft/s.
+-- The floor of a strength: the least vertical rate in its sense that it asks for, in 1/1024 ft/s.
 abbrev pub floor_of : Strength → ℤ
 floor_of Limit2000 = neg_ℤ (pos 34133)
 floor_of Limit1000 = neg_ℤ (pos 17066)
@@ -35,14 +35,14 @@ floor_of Level = pos 0
 floor_of Positive = pos 25600
 floor_of Increase = pos 42666
 
--- Own rate meets the floor already: it is at least the floor for up, and at most its opposite for down.
+-- Own rate meets the floor already. For up it is at least the floor, and for down at most the opposite of the floor.
 abbrev pub meets_floor : View → Sense → Strength → Bool
 meets_floor view Up strength = int_le (floor_of strength) view.rate
 meets_floor view Down strength = int_le view.rate (neg_ℤ (floor_of strength))
 
--- The strengths that a choice may take. Each choice is fresh or it isn't. The limits are allowed only where own rate meets
--- them already. To climb, the aircraft has to be able to; to descend, it has to be high enough above ground, 1,100 ft for
--- 1500 ft/min and 1,550 ft for 2500 ft/min. A fresh choice never increases.
+-- The strengths that a choice may take. A choice is fresh or it isn't. A limit is allowed only where own rate meets its
+-- floor already. To climb, the aircraft has to be able to. To descend, it has to be high enough above ground: 1,100 ft
+-- for 1500 ft/min, and 1,550 ft for 2500 ft/min. A fresh choice never increases.
 abbrev pub is_allowed : View → Sense → Strength → Bool → Bool
 is_allowed view sense Limit2000 fresh = meets_floor view sense Limit2000
 is_allowed view sense Limit1000 fresh = meets_floor view sense Limit1000

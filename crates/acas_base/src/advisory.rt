@@ -24,9 +24,9 @@ impl Sense {
     }
 }
 
-/// The strength of an advisory, weakest first. The limits are on a rate against the sense, in
-/// ft/min; `Level` is no rate against it, `Positive` 1500 ft/min and `Increase` 2500 ft/min with it
-/// (FAA, Introduction to TCAS II v7.1).
+/// The strength of an advisory, weakest first. `Limit2000`, `Limit1000` and `Limit500` limit the rate against the
+/// sense, in ft/min. `Level` asks for no rate against the sense. `Positive` asks for 1500 ft/min in the sense, and
+/// `Increase` for 2500 ft/min (FAA, Introduction to TCAS II v7.1).
 #[derive(Clone, Copy, Debug, PartialEq, Eq, PartialOrd, Ord)]
 pub enum Strength {
     Limit2000,
@@ -55,8 +55,8 @@ impl Strength {
         }
     }
 
-    /// Its floor: the vertical rate in its sense that it asks for at least, in 1/1024 ft/s (FAA,
-    /// Introduction to TCAS II v7.1; rounded towards zero, as this project's profile has it).
+    /// Its floor: the least vertical rate in its sense that it asks for, in 1/1024 ft/s (FAA, Introduction to TCAS II
+    /// v7.1; rounded towards zero by this project's profile).
     pub fn floor(self) -> i64
         ensures value { result ≡ floor_of self }
         ensures bound { unsigned_abs result ≤ 2 ^ 16 }
@@ -72,7 +72,7 @@ impl Strength {
     }
 }
 
-/// A complement that isn't renewed lapses after so many commits of its taker (this project's profile).
+/// After so many commits of its taker a complement that isn't renewed lapses (this project's profile).
 pub const LAPSE: u16 = 6;
 
 /// The vertical resolution advisory complement: none, "do not pass below", which forbids the sense
@@ -98,8 +98,8 @@ impl Vrc {
         }
     }
 
-    /// What is in force of it where its taker had made `taken` commits at the take and has made `made` by now: the
-    /// complement itself, until it lapses, and then none.
+    /// The complement in force, where its taker had made `taken` commits at the take and has made `made` by now. It is
+    /// this complement until it lapses, and then none.
     pub fn in_force(self, taken: u16, made: u16) -> Vrc
         ensures { result ≡ in_force self taken made }
     {
@@ -111,8 +111,8 @@ impl Vrc {
     }
 }
 
-/// Who gives way in a pair. Of two aircraft with resolution advisories the one of lower address is
-/// `First`; against an aircraft without them it is `Free`.
+/// Who gives way in a pair. Of two aircraft with resolution advisories the one of lower address is `First`, and the
+/// other one, which gives way, is `Second`. Against an aircraft without them the rank is `Free`.
 #[derive(Clone, Copy, Debug, PartialEq, Eq)]
 pub enum Rank {
     First,
@@ -120,9 +120,8 @@ pub enum Rank {
     Free,
 }
 
-/// A resolution advisory against one aircraft: its age in cycles, from 1; whether its sense was
-/// reversed geometrically, whether the sense crosses the other's altitude, and whether own rate has to
-/// change.
+/// A resolution advisory against one aircraft. `age` is in cycles, from 1. `turned` says that its sense was reversed
+/// geometrically, `crossing` that the sense crosses the other's altitude, `corrective` that own rate has to change.
 #[derive(Clone, Copy, Debug, PartialEq, Eq)]
 pub struct Intent {
     pub sense: Sense,
@@ -155,7 +154,7 @@ impl Cell {
         }
     }
 
-    /// The sense of its resolution advisory; none where it is no such advisory.
+    /// The sense of its resolution advisory; none where it has no such advisory.
     pub fn sense(self) -> Option<Sense>
         ensures { result ≡ sense_of self }
     {
@@ -165,7 +164,7 @@ impl Cell {
         }
     }
 
-    /// Whether it is a resolution advisory of this sense.
+    /// Whether it has a resolution advisory of this sense.
     pub fn has_sense(self, sense: Sense) -> bool
         ensures { result ≡ has_sense self sense }
     {
@@ -176,15 +175,15 @@ impl Cell {
     }
 }
 
-/// What an aircraft advises in a cycle, by index of the other aircraft. Its own place and the places
+/// What an aircraft advises in a cycle, by index of the other aircraft. The place of the aircraft itself and the places
 /// past the last aircraft are Clear.
 #[derive(Clone, Copy, Debug, PartialEq, Eq)]
 pub struct Cells {
     pub list: [Cell; CRAFTS],
 }
 
-/// A resolution message: whether its sender has more than one threat, the complement that it
-/// cancels, the complement that it sets, and who sends it (ICAO Annex 10 vol. IV, 4.3).
+/// A resolution message: whether its sender has more than one threat, the complement that it cancels, the complement
+/// that it sets, and its sender's address (ICAO Annex 10 vol. IV, 4.3).
 #[derive(Clone, Copy, Debug, PartialEq, Eq)]
 pub struct ResMsg {
     pub many: bool,

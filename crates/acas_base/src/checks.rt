@@ -53,7 +53,7 @@ fn is_ceiling(ceiling: Option<i32>) -> bool
 fn is_craft(craft: &CraftSpec) -> bool
     ensures { IsTrue result ↔ IsCraft craft.now }
 {
-    // An address is in its range by its type.
+    // For the proof: an address is in its range by its type.
     let _address = craft.address.value();
     is_between(-1_000_000, craft.x, 1_000_000)
         && is_between(-1_000_000, craft.y, 1_000_000)

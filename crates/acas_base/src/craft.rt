@@ -47,7 +47,7 @@ impl Kind {
     }
 }
 
-/// The gains of a track, in 1/1024: how much of a measurement's difference from the prediction goes
+/// The gains of a track, in 1/1024. They are the parts of the difference between measurement and prediction that go
 /// into the estimate (`alpha`) and into the rate (`beta`). In an encounter each is at most 1024.
 #[derive(Clone, Copy, Debug, PartialEq, Eq)]
 pub struct Gains {
@@ -67,8 +67,8 @@ pub const USUAL_ALTITUDE_GAINS: Gains = Gains {
     beta: 128,
 };
 
-/// An aircraft, and where it is in cycle 1: `x`, `y` and altitude `alt` in ft. It may climb where it
-/// has no `ceiling` (ft) or its altitude is below it.
+/// An aircraft, and where it is in cycle 1: `x`, `y` and altitude `alt` in ft. It may climb where it has no `ceiling`
+/// (ft), or its altitude is below the ceiling.
 #[derive(Clone, Copy, Debug, PartialEq, Eq)]
 pub struct CraftSpec {
     pub address: Address,
@@ -107,8 +107,8 @@ pub fn some_active(crafts: &[CraftSpec]) -> bool
     crafts.iter().any(CraftSpec::is_active)
 }
 
-/// How the aircraft with index `craft` flies from cycle `from` on, until a later leg of it begins:
-/// `vx` and `vy` in ft/s, `vz` in ft/min.
+/// How the aircraft with index `craft` flies from cycle `from` on, until its next leg begins: `vx` and `vy` in ft/s,
+/// `vz` in ft/min.
 #[derive(Clone, Copy, Debug, PartialEq, Eq)]
 pub struct Leg {
     pub craft: u8,

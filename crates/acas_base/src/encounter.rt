@@ -10,8 +10,8 @@ use crate::{CraftSpec, Fate, Gains, Leg, LinkPlan, Miss};
 use std::alloc::{AllocError, Global};
 use std::marker::Model;
 
-/// Aircraft, how they fly, and what becomes of their messages. All lists stand in the order of the
-/// encounter's canonical text.
+/// Aircraft, how they fly, and what happens to their messages. All lists stand in the order of the encounter's
+/// canonical text.
 #[derive(Debug, Drop)]
 pub struct Encounter {
     version: u8,
@@ -39,19 +39,17 @@ impl Model for Encounter {
 }
 
 impl Encounter {
-    /// The encounter of these parts, where they are in their ranges and orders: `elevation` in ft, the
-    /// gains of the range tracks and of the altitude tracks, and the lists in the order of the
-    /// canonical text. None where
+    /// The encounter of these parts, where they are in their ranges and orders: `elevation` in ft, the gains of the
+    /// range tracks and of the altitude tracks, and the lists in the order of the canonical text. None where
     ///
     /// - a part breaks its range, or the version isn't 1 or 2;
-    /// - there is no aircraft, there are more than 8 in version 1 or more than [`crate::CRAFTS`], two
-    ///   have one address, or none is active;
-    /// - a version 1 has a ceiling or a plan;
-    /// - an index names no aircraft, or a pair names one twice;
-    /// - a list isn't in its order, with rising keys, or a miss begins before the one before it of its
-    ///   pair is over;
-    /// - a fate or a plan has more than three copies, one past its copies that isn't zero, or a mask
-    ///   of more than three bits.
+    /// - there is no aircraft, there are more than 8 in version 1 or more than [`crate::CRAFTS`], two have one address,
+    ///   or none is active;
+    /// - version 1 has a ceiling or a plan;
+    /// - an index names no aircraft, or a pair names one aircraft twice;
+    /// - a list isn't in its order, with rising keys, or a miss of a pair begins before the miss before it is over;
+    /// - a fate or a plan has more than three copies, a copy past its count that isn't zero, or a mask of more than
+    ///   three bits.
     pub fn make(
         version: u8,
         cycles: u16,
@@ -103,7 +101,7 @@ impl Encounter {
     pub fn valid_law(&self)
         ensures { IsEncounter self.now }
     {
-        // Its invariant is known once a field is read.
+        // For the proof: a field is read, so the invariant is known.
         let _version = self.version;
     }
 
@@ -202,8 +200,8 @@ impl Encounter {
         self.fates.as_slice()
     }
 
-    /// What becomes of the message with this number of a sender to a receiver: its record, else its
-    /// link's plan, else one copy that isn't held back nor damaged.
+    /// What happens to the message with this number from a sender to a receiver: its record, else its link's plan, else
+    /// one copy that is neither held back nor damaged.
     pub fn fate(&self, sender: u8, receiver: u8, number: u16) -> Fate
         ensures { result ≡ fate_of self.now sender receiver number }
     {

@@ -1,8 +1,7 @@
 // The journal's entries.
 use crate::Cells;
 
-/// One entry of the journal. Aircraft are told by their indices, and a send by its position in the
-/// journal, from 0.
+/// One entry of the journal. It names aircraft by their indices, and a send by its position in the journal, from 0.
 #[derive(Clone, Copy, Debug, PartialEq, Eq)]
 pub enum Entry {
     /// `own` ends a cycle with these cells.
@@ -11,14 +10,15 @@ pub enum Entry {
         cycle: u16,
         cells: Cells,
     },
-    /// `own` sends a message to `target`, its `number`th to it, from 1. `word` has the message's 56 bits.
+    /// `own` sends a message to `target`. `number` counts its messages to that one, from 1. `word` has the message's 56
+    /// bits.
     Send {
         own: u8,
         target: u8,
         number: u16,
         word: u64,
     },
-    /// `own` takes a copy, from 0, of a message; `good` tells whether its word reads as a message.
+    /// `own` takes a copy, from 0, of a message. `good` says whether its word reads as a message.
     Take {
         own: u8,
         send: u32,

@@ -1,4 +1,4 @@
-// What becomes of a message.
+// What happens to a message.
 ghost use Rattle.std.specs.Prelude.{◌≡◌, ◌≤◌, false, find, length, true};
 ghost use Rattle.std.specs.List.Sorted.{IsPartitionPoint};
 ghost use Rattle.acas_base.specs.Encounter.{plain_copy};

@@ -4,7 +4,7 @@ ghost use Rattle.acas_base.specs.Order.{fate_key, is_below, is_same_key, leg_key
 
 use crate::{Fate, Leg, LinkPlan};
 
-/// Three numbers, of which the first counts most.
+/// Three numbers. The first counts most.
 pub(crate) type Key = (u16, u16, u16);
 
 pub(crate) fn is_below(a: Key, b: Key) -> bool
@@ -26,7 +26,7 @@ pub(crate) fn key(first: u8, second: u8, number: u16) -> Key
     (u16::from(first), u16::from(second), number)
 }
 
-/// A record that a key tells from the others of its list.
+/// A record with a key, which no other record of its list has.
 pub(crate) trait Keyed {
     ghost key_of: { Self → ℕ × ℕ × ℕ };
 

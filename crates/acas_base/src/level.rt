@@ -9,8 +9,8 @@ pub struct Row {
     pub zthr: i64,
 }
 
-/// A sensitivity level: its number, its thresholds, and the least vertical separation to aim for,
-/// `alim`, in 1/1024 ft. Level 2 has no resolution advisories, and its `alim` is 0.
+/// A sensitivity level: its number, its thresholds, and `alim`, the least vertical separation to aim for, in 1/1024 ft.
+/// Level 2 has no resolution advisories, and its `alim` is 0.
 #[derive(Clone, Copy, Debug, PartialEq, Eq)]
 pub struct Level {
     pub sl: u8,

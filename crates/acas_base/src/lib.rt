@@ -1,5 +1,4 @@
-//! Plain data of encounters: what several rooms of the product share, and the words about it that
-//! several contracts cite.
+//! Plain data of encounters that several crates share, and the definitions of them that several contracts cite.
 #![tactic(auto)]
 
 mod address;
@@ -34,9 +33,8 @@ pub use separations::{gives_alim, separation};
 pub use strengths::{allowed, meets_floor, strongest};
 pub use view::{Picture, Seps, View};
 
-/// The most aircraft of an encounter, and so the number of views in a picture and of cells in a
-/// commit.
+/// The most aircraft of an encounter. It is also the number of views in a picture, and of cells in a commit.
 pub const CRAFTS: usize = 16;
 
-// The text of an encounter promises sixteen.
+// The format of an encounter's text promises sixteen.
 const _: () = prove!(CRAFTS == 16);

@@ -1,15 +1,15 @@
-// What becomes of messages on their way.
+// What happens to messages on their way.
 
-/// What becomes of one copy of a message. The receiver may take it once it has made `hold` commits
-/// after the send, and the bits that `mask` names are flipped then.
+/// What happens to one copy of a message. The receiver may take it once it has made `hold` commits after the send. The
+/// bits that `mask` names are flipped then.
 #[derive(Clone, Copy, Debug, PartialEq, Eq)]
 pub struct CopyPlan {
     pub hold: u8,
     pub mask: u8,
 }
 
-/// The copies of the message with this `number`, from 1, of one sender to one receiver. `copies` of
-/// the three plans count, and those past them are zero.
+/// The copies of the message with this `number`, from 1, of one sender to one receiver. The first `copies` of the three
+/// plans count, and the others are zero.
 #[derive(Clone, Copy, Debug, PartialEq, Eq)]
 pub struct Fate {
     pub sender: u8,

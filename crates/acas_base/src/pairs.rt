@@ -4,7 +4,7 @@ ghost use Rattle.acas_base.specs.declared.TheConstants.{CRAFTS};
 
 use crate::CRAFTS;
 
-/// How many ordered pairs of aircraft an encounter has at most, each aircraft with itself among them.
+/// The most ordered pairs of aircraft of an encounter. The pair of each aircraft with itself counts.
 pub const PAIRS: usize = CRAFTS * CRAFTS;
 
 /// The place of an ordered pair of aircraft among these, by their indices.

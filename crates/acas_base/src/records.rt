@@ -7,19 +7,18 @@ use crate::checks::{are_copies, are_rates, is_cycle, is_pair};
 use crate::keys::{Keyed, is_below, key};
 use crate::{Fate, Leg, LinkPlan, Miss};
 
-/// A record of one of an encounter's lists: it names aircraft by their indices, and its list has an
-/// order.
+/// A record of one of an encounter's lists. It names aircraft by their indices, and its list has an order.
 pub trait Record {
     ghost fits: { ℕ → Self → Type 0 };
 
     ghost below: { Self → Self → Bool };
 
-    /// Whether it is in its ranges, and of so many aircraft.
+    /// Whether it is in its ranges, and names aircraft among so many.
     fn fits(&self, count: usize) -> bool
         ensures { IsTrue result ↔ fits count self.now };
 
-    /// Whether it may stand before another one: its key is below, and the cycles of a miss are over
-    /// before those of a later one of its pair begin.
+    /// Whether it may stand before another one: its key is below the other's. Of two misses of one pair the first also
+    /// ends before the second begins.
     fn is_below(&self, other: &Self) -> bool
         ensures { result ≡ below self.now other.now };
 }
@@ -85,7 +84,7 @@ impl Record for Miss {
             && self.from <= self.to
     }
 
-    // The cycles of an earlier one are over.
+    // The earlier miss is over.
     fn is_below(&self, other: &Miss) -> bool {
         is_below(
             key(self.own, self.target, self.to),

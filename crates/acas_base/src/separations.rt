@@ -4,8 +4,8 @@ ghost use Rattle.acas_base.specs.Choice.{separation_of, gives_alim};
 
 use crate::{Sense, Strength, View};
 
-/// The separation at closest approach, in 1/1024 ft, that this strength gives in this sense: after a
-/// first response where the choice is `fresh`, else after a later one.
+/// The separation at closest approach, in 1/1024 ft, that this strength gives in this sense. It goes by the first
+/// response where the choice is `fresh`, else by the later one.
 pub fn separation(view: &View, sense: Sense, strength: Strength, fresh: bool) -> i64
     ensures { result ≡ separation_of view.now sense strength fresh }
 {
@@ -16,7 +16,7 @@ pub fn separation(view: &View, sense: Sense, strength: Strength, fresh: bool) ->
     }
 }
 
-/// That separation is at least the one to aim for, ALIM (FAA, Introduction to TCAS II v7.1).
+/// Whether that separation is at least ALIM (FAA, Introduction to TCAS II v7.1).
 pub fn gives_alim(view: &View, sense: Sense, strength: Strength, fresh: bool) -> bool
     ensures { result ≡ gives_alim view.now sense strength fresh }
 {

@@ -5,13 +5,13 @@ ghost use Rattle.acas_base.specs.Strengths.{meets_floor, is_allowed};
 
 use crate::{Sense, Strength, View};
 
-// Heights above ground in ft, below which 1500 and 2500 ft/min down aren't advised.
+// Heights above ground in ft. Below them 1500 and 2500 ft/min down aren't advised.
 const DESCEND_ABOVE: i32 = 1_100;
 
 const INCREASE_DESCENT_ABOVE: i32 = 1_550;
 
-/// Own rate meets the floor of this strength already. Where it doesn't, an advisory of this sense and
-/// strength is corrective (FAA, Introduction to TCAS II v7.1).
+/// Whether own rate meets the floor of this strength already. Where it doesn't, an advisory of this sense and strength
+/// is corrective (FAA, Introduction to TCAS II v7.1).
 pub fn meets_floor(view: &View, sense: Sense, strength: Strength) -> bool
     ensures { result ≡ meets_floor view.now sense strength }
 {
@@ -21,8 +21,8 @@ pub fn meets_floor(view: &View, sense: Sense, strength: Strength) -> bool
     }
 }
 
-/// A choice may take this strength in this sense. It is `fresh` where an advisory starts or changes
-/// its sense, or was weaker than `Positive` (this project's profile).
+/// Whether a choice may take this strength in this sense. The choice is `fresh` where an advisory starts or changes its
+/// sense, or was weaker than `Positive` (this project's profile).
 pub fn allowed(view: &View, sense: Sense, strength: Strength, fresh: bool) -> bool
     ensures { result ≡ is_allowed view.now sense strength fresh }
 {

@@ -1,4 +1,4 @@
-// What an aircraft sees of the others.
+// What an aircraft sees of the other ones.
 use crate::{CRAFTS, Sense};
 
 /// Vertical separations at closest approach, in 1/1024 ft, by strength, weakest first.
@@ -8,8 +8,8 @@ pub struct Seps {
     pub down: [i64; 6],
 }
 
-/// What one aircraft sees of another in one cycle. Where it isn't tested or doesn't resolve, `side`
-/// is Up, `climbs` is false and the numbers are 0.
+/// What one aircraft sees of another one in one cycle. Where it isn't tested or doesn't resolve, `side` is Up, `climbs`
+/// is false and the numbers are 0.
 #[derive(Clone, Copy, Debug, PartialEq, Eq)]
 pub struct View {
     /// All tracks have a rate.
@@ -26,9 +26,9 @@ pub struct View {
     pub side: Sense,
     /// Half-seconds to closest approach.
     pub halves: u16,
-    /// The separation to aim for, in 1/1024 ft.
+    /// ALIM, the separation to aim for, in 1/1024 ft.
     pub alim: i64,
-    /// Own altitude less the other's, by the tracks, in 1/1024 ft.
+    /// Own altitude minus the other's, by the tracks, in 1/1024 ft.
     pub gap: i64,
     /// Own vertical rate, in 1/1024 ft/s.
     pub rate: i64,

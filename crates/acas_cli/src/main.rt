@@ -1,5 +1,6 @@
-//! Plays encounters between aircraft with TCAS II version 7.1, and judges and completes the recordings of what they did: its
-//! words say what is read from standard input and written to standard output (`acas_top::acas`).
+//! The program `acas`. It plays encounters between aircraft with TCAS II version 7.1, and judges and completes their
+//! recordings. It reads standard input and writes standard output, as the words of the command line say
+//! (`acas_top::acas`).
 #![tactic(auto)]
 
 use acas_io::{StdSink, StdSource};
@@ -11,7 +12,7 @@ use std::process::ExitCode;
 use std::rt::Env;
 use std::{env, io};
 
-// Holds no aircraft.
+// Makes no aircraft wait.
 struct NoPause;
 
 impl Pause for NoPause {
@@ -27,7 +28,7 @@ fn words_of<R: Env + Alloc<A = Global>>(rt: &R) -> io::Result<Vec<String>> {
     Ok(words)
 }
 
-// What is told on standard error.
+// The message on standard error.
 fn message(status: Status) -> &'static str {
     match status {
         Status::Usage =>
@@ -58,7 +59,7 @@ fn main(rt: HostRuntime) -> ExitCode {
             if error.kind() == ErrorKind::OutOfMemory {
                 Status::OutOfMemory
             } else {
-                // A word that isn't UTF-8 is none of a command's.
+                // A word that isn't UTF-8 is no word of a command.
                 Status::Usage
             }
         }

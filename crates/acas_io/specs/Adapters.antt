@@ -21,15 +21,16 @@ sink_writer s = s.inner
 abbrev pub sink_faults : {W : Type 0} → StdSink W → ℕ
 sink_faults s = s.faults
 
--- What a writer holds, where it tells it, grew by what a write answers, and at an error by a front of the piece.
+-- What a writer holds, where that is known, before and after a write. It grew by the bytes that the write counted, and
+-- at an error by a front of the piece.
 abbrev pub Passes : {E : Type 0} → Option (List ℕ) → Option (List ℕ) → List ℕ → Result ℕ E → Type 0
 Passes old new piece result =
     MatchResult result
     (λ n. Appends old new (take n piece))
     (λ _. (n : ℕ) × (n ≤ length piece) × Appends old new (take n piece))
 
--- A piece was written to a writer by one call and flushed by one after it: at an error the write failed or took none, or
--- the flush of what it took failed.
+-- A piece was written to a writer by one call, and flushed by one call after it. At an error the write failed or took
+-- nothing, or the flush after it failed.
 abbrev pub WritesOnce : {W : Type 0} → (W → List ℕ → Result ℕ Failed → W → Type 0) → (W → Result (Unit {0}) Failed → W → Type 0) → W → List ℕ → Result ℕ Failed → W → Type 0
 WritesOnce {W} Write Flush old piece (Ok n) new = (between : W) × (0 < n) × Write old piece (Ok n) between × Flush between (Ok tt) new
 WritesOnce {W} Write Flush old piece (Err e) new =

@@ -1,8 +1,8 @@
 -- What contracts see of the sources and sinks in memory.
 use Rattle.std.specs.Prelude.{ℕ, ◌+◌, ◌-◌, ◌^◌, ◌==◌, ◌++◌, min, length, take, if◌then◌else◌, List, Option, Some, None}
 
--- A source in memory: what is left, how much a read gives at most, which reads fail, by their number from 1, how many
--- reads there were, as far as 64 bits count them, and how many faults.
+-- A source in memory: what is left, how much a read gives at most, which reads fail (by number, from 1), how many reads
+-- there were, and how many faults. Both counts stop at the last value of 64 bits.
 pub record MemorySource : Type 0 where
   pub left : List ℕ
   pub piece : ℕ
@@ -10,7 +10,7 @@ pub record MemorySource : Type 0 where
   pub reads : ℕ
   pub faults : ℕ
 
--- A sink in memory: what it holds and how much it may hold, and the same of its writes.
+-- A sink in memory: what it holds, how much it may hold, and for its writes what a source has for its reads.
 pub record MemorySink : Type 0 where
   pub written : List ℕ
   pub room : ℕ
@@ -19,13 +19,14 @@ pub record MemorySink : Type 0 where
   pub writes : ℕ
   pub faults : ℕ
 
--- A sink that holds what fits its room, and counts the bytes that it dropped, as far as 64 bits do.
+-- A sink that holds what fits its room, and counts the bytes that it dropped. The count stops at the last value of 64
+-- bits.
 pub record RoomSink : Type 0 where
   pub held : List ℕ
   pub room : ℕ
   pub dropped : ℕ
 
--- It tells what was written as long as it dropped nothing.
+-- What was written is known as long as nothing was dropped.
 abbrev pub told : RoomSink → Option (List ℕ)
 told s = if s.dropped == 0 then Some s.held else None
 

@@ -1,4 +1,4 @@
--- When a count of faults has risen, and what an answer says of it.
+-- When a count of faults has risen, and how an answer fits it.
 use Rattle.std.specs.Prelude.{◌≡◌, ℕ, ◌+◌, ◌-◌, ◌^◌, ◌≤◌, min, Result, MatchResult}
 
 -- The count after one more fault. It stays at the last value of 64 bits.

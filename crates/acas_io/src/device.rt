@@ -1,4 +1,4 @@
-// The outside world on both sides of the program: readers and writers of which one call is one call of std's.
+// The outside world on both sides of the program: readers and writers. One call of theirs is one call of std's.
 ghost use Rattle.std.specs.Prelude.{ℕ, List, Result, length};
 ghost use Rattle.std.specs.Io.{ReadsAtMost, WritesAtMost};
 ghost use Rattle.std.specs.Io.KnownBytes.{Keeps, ReadConsumes, WriteAppends};
@@ -8,13 +8,14 @@ ghost use Rattle.acas_io.specs.declared.stream.Failed.{Failed};
 use crate::Failed;
 use std::io::{Read, Write};
 
-/// A reader of the outside world. Nothing is known of what its calls give, so a proof over any reader can show that
+/// A reader of the outside world. Nothing is known of what its calls give. So a proof over any reader can show that
 /// something is what one call gave, and that no other call was made.
 pub trait Reader {
-    /// The bytes still to come, where the reader tells them.
+    /// The bytes still to come, where they are known.
     ghost left: { Self → Option (List ℕ) };
 
-    /// What a read may give: of a reader, into a buffer of this length, an answer, the buffer and the reader after it.
+    /// What a read may give. The terms are a reader, the length of a buffer, an answer, the buffer after the read, and
+    /// the reader after it.
     ghost read_gives: { Self → ℕ → Result ℕ Failed → List ℕ → Self → Type 0 };
 
     /// Reads once.
@@ -24,12 +25,12 @@ pub trait Reader {
         ensures bytes { ReadConsumes (left self.old) (left self.new) result buf.new };
 }
 
-/// A writer to the outside world, of whose calls nothing is known.
+/// A writer to the outside world. Nothing is known of its calls.
 pub trait Writer {
-    /// The bytes that the writer holds, where it tells them.
+    /// The bytes that the writer holds, where they are known.
     ghost holds: { Self → Option (List ℕ) };
 
-    /// What a write may give: of a writer and a piece, an answer and the writer after it.
+    /// What a write may give. The terms are a writer, a piece, an answer, and the writer after the write.
     ghost write_gives: { Self → List ℕ → Result ℕ Failed → Self → Type 0 };
 
     /// What a flush may give.
@@ -47,7 +48,7 @@ pub trait Writer {
         ensures bytes { Keeps (holds self.old) (holds self.new) };
 }
 
-// The two impls below pass std's readers and writers through. That each makes one call of std's is not proved.
+// The two impls below hand each call to std's readers and writers. It isn't proved that each makes one call of std's.
 
 impl<R: Read> Reader for R {
     ghost left = { R.remaining };

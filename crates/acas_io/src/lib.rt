@@ -1,10 +1,10 @@
-//! Sources and sinks of bytes, and the two calls that read a whole input and write a whole piece.
+//! Sources and sinks of bytes, and two calls: one reads a whole input, the other writes a whole piece.
 //!
-//! A source or a sink that fails says why by its count of faults: the count rises at each failed call and at no other, so
-//! a caller can show that a read or a write has failed, and that none has.
+//! Each source and sink counts its faults. The count rises at each failed call and at no other one. So a caller can
+//! show that a read or a write has failed, and that none has.
 //!
-//! `MemSource`, `MemSink`, `SureSource` and `SureSink` are in memory, and tell all their bytes. `StdSource` and `StdSink`
-//! stand over a `Reader` and a `Writer`, which every reader and writer of std is, and are the program's edge.
+//! `MemSource`, `MemSink`, `SureSource` and `SureSink` are in memory, and all their bytes are known. `StdSource` and
+//! `StdSink` stand at the program's edge, over a `Reader` and a `Writer`. Every reader and writer of std is one.
 #![tactic(auto)]
 
 mod device;

@@ -1,4 +1,4 @@
-// A source and a sink in memory, which fail where they are told to.
+// A source and a sink in memory. The calls that their makers name fail.
 ghost use Rattle.std.specs.Prelude.{◌≡◌, ◌+◌, ◌-◌, ◌<◌, ◌≤◌, ◌↔◌, ◌⊎◌, ◌++◌, [], min, length, take, drop, Some, IsErr, IsTrue, IfOk, Contains, vec_len, vec_capacity};
 ghost use Rattle.std.specs.Io.{ReadsAtMost};
 ghost use Rattle.std.specs.Io.KnownBytes.{ReadConsumes};
@@ -8,7 +8,7 @@ ghost use Rattle.acas_io.specs.Stream.{Writes};
 use crate::{Failed, Sink, Source};
 use std::marker::Model;
 
-// Whether the call after so many is one of those that fail.
+// Whether the call after so many calls is one that fails.
 fn is_next(fails: &[u64], done: u64) -> bool
     ensures { IsTrue result ↔ Contains fails.now (done + 1) }
 {
@@ -18,7 +18,7 @@ fn is_next(fails: &[u64], done: u64) -> bool
     }
 }
 
-// Copies the front of what is left into the front of a buffer, at most so many bytes, and answers how many.
+// Copies the front of what is left into the front of a buffer, at most `most` bytes, and gives how many.
 pub(crate) fn copy_front(left: &[u8], buf: &mut [u8], most: usize) -> usize
     ensures size { result ≡ min (min (length left.now) (length buf.old)) most }
     ensures front { take result buf.new ≡ take result left.now }
@@ -28,7 +28,7 @@ pub(crate) fn copy_front(left: &[u8], buf: &mut [u8], most: usize) -> usize
     count
 }
 
-// Adds the front of a piece, at most so many bytes, in the room that is there, and answers how many.
+// Adds the front of a piece, at most `most` bytes, in the room that is there, and gives how many.
 pub(crate) fn put_front(room: &mut Vec<u8>, piece: &[u8], most: usize) -> usize
     requires { vec_len room.old + most ≤ vec_capacity room.old }
     ensures size { result ≡ min (length piece.now) most }
@@ -37,7 +37,7 @@ pub(crate) fn put_front(room: &mut Vec<u8>, piece: &[u8], most: usize) -> usize
 {
     let count = piece.len().min(most);
 
-    // `insert` says that the room stays where a place is free, which `push` leaves open.
+    // `insert` says that the room stays where a place is free. `push` doesn't say so.
     for byte in &piece[..count] {
         let end = room.len();
         room.insert(end, *byte).unwrap();
@@ -45,7 +45,7 @@ pub(crate) fn put_front(room: &mut Vec<u8>, piece: &[u8], most: usize) -> usize
     count
 }
 
-/// A source that gives its bytes in pieces of bounded size. The reads whose numbers, counted from 1, are listed fail.
+/// A source that gives its bytes in pieces of bounded size. It has a list of the reads that fail, by number from 1.
 #[derive(Drop)]
 pub struct MemSource {
     bytes: Vec<u8>,
@@ -68,7 +68,7 @@ impl Model for MemSource {
 }
 
 impl MemSource {
-    /// Over these bytes, of which a read gives at most `piece`. The reads whose numbers are in `fails` fail.
+    /// Over these bytes. A read gives at most `piece` of them. The reads whose numbers are in `fails` fail.
     pub fn new(bytes: Vec<u8>, piece: usize, fails: Vec<u64>) -> MemSource
         requires { 0 < piece }
         ensures { result ≡ record { left = bytes.items; piece = piece; fails = fails.items; reads = 0; faults = 0 } }
@@ -94,7 +94,7 @@ impl Source for MemSource {
         ensures bytes { ReadConsumes (Some self.old.left) (Some self.new.left) result buf.new }
         ensures count { CountsOne self.old.faults self.new.faults result }
 
-        // Exactly the reads with these numbers fail, and the others give all that there is room for.
+        // Exactly the reads with these numbers fail. The others give all that there is room for.
         ensures fails { IsErr result ↔ Contains self.old.fails (self.old.reads + 1) }
         ensures size { IfOk result (λ n. n ≡ min (min (length self.old.left) (length buf.old)) self.old.piece) }
         ensures stays { (self.new.piece ≡ self.old.piece) × (self.new.fails ≡ self.old.fails) }
@@ -118,8 +118,8 @@ impl Source for MemSource {
     }
 }
 
-/// A sink that takes bytes in pieces of bounded size and holds them in a room that never grows. The writes whose numbers,
-/// counted from 1, are listed fail, and so do those of a piece that has bytes where no room is left.
+/// A sink that takes bytes in pieces of bounded size, and holds them in a room that never grows. It has a list of the
+/// writes that fail, by number from 1. A write of a piece that isn't empty fails, too, where no room is left.
 #[derive(Drop)]
 pub struct MemSink {
     room: Vec<u8>,
@@ -141,7 +141,7 @@ impl Model for MemSink {
 }
 
 impl MemSink {
-    /// With as much room as `room` has, of which a write takes at most `piece`. The writes whose numbers are in `fails`
+    /// With as much room as `room` has. A write takes at most `piece` bytes. The writes whose numbers are in `fails`
     /// fail.
     pub fn new(room: Vec<u8>, piece: usize, fails: Vec<u64>) -> MemSink
         requires piece { 0 < piece }
@@ -174,8 +174,8 @@ impl Sink for MemSink {
         ensures bytes { Writes (Some self.old.written) (Some self.new.written) piece.now result }
         ensures count { CountsOne self.old.faults self.new.faults result }
 
-        // Exactly the writes with these numbers fail, and those of something into no room. The others take all that there
-        // is room for.
+        // Exactly two kinds of writes fail: those with these numbers, and those of a piece that isn't empty where no
+        // room is left. The others take all that there is room for.
         ensures fails { IsErr result ↔ (Contains self.old.fails (self.old.writes + 1) ⊎ ((0 < length piece.now) × (self.old.room ≤ length self.old.written))) }
         ensures size { IfOk result (λ n. n ≡ min (length piece.now) (min self.old.piece (self.old.room - length self.old.written))) }
         ensures stays { (self.new.room ≡ self.old.room) × (self.new.piece ≡ self.old.piece) × (self.new.fails ≡ self.old.fails) }

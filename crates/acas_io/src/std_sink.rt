@@ -1,14 +1,14 @@
-// The program's edge on the side of its output: a sink over any writer.
+// The program's edge at its output: a sink over any writer.
 ghost use Rattle.std.specs.Prelude.{◌≡◌, ◌<◌, [], None, Ok, length};
 ghost use Rattle.acas_io.specs.Faults.{CountsOne};
 ghost use Rattle.acas_io.specs.Stream.{Writes};
 
 use crate::{Failed, Sink, Writer};
 
-/// A sink over a writer, which is flushed after each write, and which counts the writes that fail.
+/// A sink over a writer. It flushes the writer after each write, and counts the writes that fail.
 ///
-/// A write fails where the writer fails, where it takes none of a piece that has bytes, and where the flush after it
-/// fails. So bytes may have gone out at a fault, and the sink tells nothing of what was written.
+/// A write fails where the writer fails, where it takes nothing of a piece that isn't empty, and where the flush after
+/// it fails. So bytes may have gone out at a fault. What was written isn't known.
 #[derive(Drop)]
 pub struct StdSink<W> {
     inner: W,
@@ -54,13 +54,13 @@ impl<W: Writer> Sink for StdSink<W> {
         ensures bytes { Writes None None piece.now result }
         ensures count { CountsOne (sink_faults self.old) (sink_faults self.new) result }
 
-        // A piece that has bytes is written by one call of the writer and flushed by one after it, and an error of theirs is
-        // the answer.
+        // A piece that isn't empty is written by one call of the writer, and flushed by one call after it. An error of
+        // these calls is the answer.
         ensures none { piece.now ≡ [] → (result ≡ Ok 0) × (sink_writer self.new ≡ sink_writer self.old) }
         ensures once { 0 < length piece.now
             → WritesOnce W.write_gives W.flush_gives (sink_writer self.old) piece.now result (sink_writer self.new) }
 
-        // What is answered as written was given to the writer, and no more; at a fault a front of the piece may have been.
+        // The writer got what the answer counts, and no more. At a fault it may have got a front of the piece.
         ensures passed { Passes (W.holds (sink_writer self.old)) (W.holds (sink_writer self.new)) piece.now result }
     {
         if piece.is_empty() {

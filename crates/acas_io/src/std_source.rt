@@ -1,4 +1,4 @@
-// The program's edge on the side of its input: a source over any reader.
+// The program's edge at its input: a source over any reader.
 ghost use Rattle.std.specs.Prelude.{◌≡◌, length};
 ghost use Rattle.std.specs.Io.{ReadsAtMost};
 ghost use Rattle.std.specs.Io.KnownBytes.{ReadConsumes};
@@ -8,8 +8,9 @@ use crate::{Failed, Reader, Source};
 
 /// A source over a reader, which counts the reads that fail.
 ///
-/// It tells the bytes left that its reader tells: a slice tells them, standard input tells none. std's `Read` promises
-/// that a reader which tells its bytes keeps them at an error, so nothing is lost at a fault and they are told after it.
+/// The bytes left are known where the reader's are: those of a slice are known, those of standard input aren't. std's
+/// `Read` promises that a reader whose bytes are known keeps them at an error. So nothing is lost at a fault, and the
+/// bytes left are still known after it.
 #[derive(Drop)]
 pub struct StdSource<R> {
     inner: R,
@@ -40,7 +41,7 @@ impl<R: Reader> Source for StdSource<R> {
         ensures bytes { ReadConsumes (R.left (source_reader self.old)) (R.left (source_reader self.new)) result buf.new }
         ensures count { CountsOne (source_faults self.old) (source_faults self.new) result }
 
-        // All of it is what one call of the reader gave.
+        // One call of the reader gave all of it.
         ensures once { R.read_gives (source_reader self.old) (length buf.old) result buf.new (source_reader self.new) }
     {
         let result = self.inner.read_once(buf);

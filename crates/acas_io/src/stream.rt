@@ -39,16 +39,16 @@ impl From<AllocError> for InError {
 
 /// Where bytes come from.
 pub trait Source {
-    /// The bytes still to come, where the source tells them.
+    /// The bytes still to come, where they are known.
     ghost left: { Self → Option (List ℕ) };
 
-    /// How often a read has failed, as far as 64 bits count it.
+    /// How often a read has failed. The count stops at the last value of 64 bits.
     ghost faults: { Self → ℕ };
 
-    /// Reads some bytes into the front of `buf`, and answers how many. 0 for a `buf` that is not empty is the end, and
-    /// nothing else is: a source that has bytes left gives one at least.
+    /// Reads some bytes into the front of `buf`, and gives how many. 0 for a `buf` that isn't empty means the end, and
+    /// nothing else does: a source that has bytes left gives at least one.
     ///
-    /// A source that tells what is left before a call tells it after the call. After `Failed` the same bytes are left.
+    /// Where what is left is known before a call, it is known after the call. After `Failed` the same bytes are left.
     fn read(&mut self, buf: &mut [u8]) -> Result<usize, Failed>
         ensures bound { ReadsAtMost result buf.new }
         ensures bytes { ReadConsumes (left self.old) (left self.new) result buf.new }
@@ -61,15 +61,15 @@ pub trait Source {
 
 /// Where bytes go.
 pub trait Sink {
-    /// The bytes that were written, where the sink tells them.
+    /// The bytes that were written, where they are known.
     ghost written: { Self → Option (List ℕ) };
 
-    /// How often a write has failed, as far as 64 bits count it.
+    /// How often a write has failed. The count stops at the last value of 64 bits.
     ghost faults: { Self → ℕ };
 
-    /// Writes some bytes of the front of `piece`, and answers how many: one at least, if `piece` has one.
+    /// Writes some bytes of the front of `piece`, and gives how many: at least one, unless `piece` is empty.
     ///
-    /// A sink that tells what was written after a call told it before the call. After `Failed` nothing was added.
+    /// Where what was written is known after a call, it was known before it. After `Failed` nothing was added.
     fn write(&mut self, piece: &[u8]) -> Result<usize, Failed>
         ensures bytes { Writes (written self.old) (written self.new) piece.now result }
         ensures count { CountsOne (faults self.old) (faults self.new) result };

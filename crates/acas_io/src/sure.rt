@@ -62,9 +62,9 @@ impl Source for SureSource {
     }
 }
 
-/// A sink that takes all bytes, holds those that fit its room, which never grows, and never fails.
+/// A sink that takes all bytes and never fails. It holds the bytes that fit its room, and the room never grows.
 ///
-/// It counts the bytes that it drops, and tells what was written only as long as it dropped none.
+/// It counts the bytes that it drops. What was written is known only as long as it dropped none.
 #[derive(Drop)]
 pub struct SureSink {
     room: Vec<u8>,
@@ -106,7 +106,7 @@ impl Sink for SureSink {
         ensures bytes { Writes (told self.old) (told self.new) piece.now result }
         ensures count { CountsOne 0 0 result }
 
-        // It takes the whole piece, and holds the front of it that fits.
+        // It takes the whole piece, and holds the front that fits.
         ensures size { IsOkAnd result (λ n. n ≡ length piece.now) }
         ensures held { self.new ≡ with_piece self.old piece.now }
     {

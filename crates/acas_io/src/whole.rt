@@ -12,18 +12,21 @@ const CHUNK: usize = 8192;
 /// Reads a source to its end, and gives all that was left, at most `limit` bytes. The memory that it takes grows with
 /// what was read, and not with the limit.
 ///
-/// `ReadFault`: a read failed; it is not tried again. `TooLong`: the source gave more than `limit` bytes. `OutOfMemory`:
-/// no memory was found for what it gave. What was read before an error is gone from the source.
+/// - `ReadFault`: a read failed. It isn't tried again.
+/// - `TooLong`: the source gave more than `limit` bytes.
+/// - `OutOfMemory`: no memory was found for what the source gave.
+///
+/// What was read before an error is gone from the source.
 pub fn read_all<S: Source>(alloc: Global, source: &mut S, limit: usize) -> Result<Vec<u8>, InError>
     ensures all { IfOk result (λ bytes. TookAll (S.left source.old) (S.left source.new) bytes.items) }
     ensures within { IfOk result (λ bytes. vec_len bytes ≤ limit) }
 
-    // Too long comes exactly where more bytes were given than the limit.
+    // `TooLong` comes exactly where more bytes were given than the limit.
     ensures long { IsErrOf result InError.TooLong → Took (λ n. limit < n) (S.left source.old) (S.left source.new) }
     ensures fault { IsErrOf result InError.ReadFault → Took (λ n. n ≤ limit) (S.left source.old) (S.left source.new) }
     ensures memory { IsErrOf result InError.OutOfMemory → Took (λ n. n ≤ limit) (S.left source.old) (S.left source.new) }
 
-    // A fault comes where the count rose, by the one read that failed, and no other answer changes the count.
+    // A fault comes where the count rose, by the one read that failed. No other answer changes the count.
     ensures rose { IsErrOf result InError.ReadFault → S.faults source.new ≡ one_more (S.faults source.old) }
     ensures ok_count { OnOk result (S.faults source.new ≡ S.faults source.old) }
     ensures long_count { IsErrOf result InError.TooLong → S.faults source.new ≡ S.faults source.old }
@@ -46,8 +49,8 @@ pub fn read_all<S: Source>(alloc: Global, source: &mut S, limit: usize) -> Resul
     }
 }
 
-/// Writes a whole piece, in as many writes as it takes. After `Failed` a front of the piece was written, and a write that
-/// failed is not tried again.
+/// Writes a whole piece, in as many writes as it takes. After `Failed` a front of the piece was written. A write that
+/// failed isn't tried again.
 pub fn write_all<K: Sink>(sink: &mut K, piece: &[u8]) -> Result<(), Failed>
     ensures { Puts (K.written sink.old) (K.written sink.new) (K.faults sink.old) (K.faults sink.new) piece.now result }
 {

@@ -1,4 +1,4 @@
--- How many lines were counted, as far as 32 bits count them.
+-- How many lines were counted. The count is of 32 bits.
 use Rattle.std.specs.Prelude.{◌≡◌, ℕ, ◌+◌, ◌-◌, ◌^◌, min, List, [], ◌∷◌, ◌++◌, refl}
 
 -- The count after these lines.

@@ -15,7 +15,7 @@ pub gathers-nothing : {T E : Type 0} (old : Option (List ℕ)) (count : ℕ) (wa
 gathers-nothing old count waits (Ok t) = (([], Grew-nil old, sym (append-nil waits)), refl)
 gathers-nothing old count waits (Err e) = (refl, refl, refl)
 
--- What waits at last, after two texts.
+-- What waits in the end, after two texts.
 both : (sent1 sent2 waits1 waits2 waits3 xs ys : List ℕ) → sent1 ++ waits2 ≡ waits1 ++ xs → sent2 ++ waits3 ≡ waits2 ++ ys → (sent1 ++ sent2) ++ waits3 ≡ waits1 ++ (xs ++ ys)
 both sent1 sent2 waits1 waits2 waits3 xs ys e f =
     append_assoc sent1 sent2 waits3 ∙ ap (λ t. sent1 ++ t) f ∙ sym (append_assoc sent1 waits2 ys) ∙ ap (λ t. t ++ ys) e ∙ append_assoc waits1 xs ys

@@ -9,11 +9,12 @@ use std::marker::Model;
 // How much is gathered at most before it is written.
 const BATCH_BYTES: usize = 8192;
 
-/// The bytes of a text that wait to be written, at most 8,192. Only when they are that many, or are flushed, they are
-/// written. So a text of n bytes takes at most n/8192 + 1 writes of a sink that takes whole pieces. It takes no memory.
+/// The bytes of a text that wait to be written, at most 8,192. They are written when they are that many, or when
+/// `flush` is called. So a text of n bytes takes at most n/8192 + 1 writes of a sink that takes whole pieces. It takes
+/// no memory.
 ///
-/// In each call `Failed` comes only where the sink's count of faults rose; what was written then is a front of what waited
-/// and what was added.
+/// In each call `Failed` comes only where the sink's count of faults rose. Then a front of the bytes that waited and
+/// were added has been written.
 #[derive(Drop)]
 pub(crate) struct Batch {
     bytes: [u8; BATCH_BYTES],
@@ -78,8 +79,9 @@ impl Batch {
         written
     }
 
-    // Adds as much of a piece as there is room for, writes what waits, and adds the rest. Where it stands in `put`, that call
-    // isn't inlined any more, and a serial run of sixteen aircraft takes 3 per cent more instructions.
+    // Adds as much of a piece as there is room for, writes what waits, and adds the rest. It is a function of its own:
+    // inside `put` it would keep that call from being inlined, and a serial run of sixteen aircraft would take 3 per
+    // cent more instructions.
     #[inline(never)]
     fn put_over<K: Sink>(&mut self, sink: &mut K, piece: &[u8]) -> Result<(), Failed>
         requires most { length piece.now ≤ 8192 }
@@ -94,8 +96,8 @@ impl Batch {
         Ok(())
     }
 
-    /// Adds a piece. Where it doesn't fit, as much of it as does is added, what waits is written, and the rest waits; else
-    /// the sink isn't called.
+    /// Adds a piece. Where there is room for all of it, the sink isn't called. Else it adds as much as there is room
+    /// for, writes what waits, and lets the rest wait.
     pub fn put<K: Sink>(&mut self, sink: &mut K, piece: &[u8]) -> Result<(), Failed>
         requires { length piece.now ≤ 8192 }
         ensures adds { Adds (K.written sink.old) (K.written sink.new) (K.faults sink.old) (K.faults sink.new) self.old self.new piece.now result }

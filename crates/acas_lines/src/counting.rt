@@ -4,7 +4,7 @@ ghost use Rattle.std.specs.Prelude.{◌≡◌, ◌<◌, ◌^◌, length};
 use crate::{LineSink, Text};
 use acas_text::Line;
 
-// How many lines were put, as far as 32 bits count them.
+// How many lines were put. The count is of 32 bits.
 #[derive(Drop)]
 struct LineCount {
     lines: u32,
@@ -26,8 +26,8 @@ impl LineSink for LineCount {
     ghost then = { λ a b c xs ys g h. h ∙ ap (λ n. counted n ys) g ∙ counted-append a.lines xs ys };
 }
 
-/// How many lines a text has, where they are fewer than 2^32: a text that begins with their number asks for it before its
-/// first line. It makes all lines, and takes no memory.
+/// How many lines a text has, where they are fewer than 2^32. A text that begins with the number of its lines needs it
+/// before the first line. It makes all lines, and takes no memory.
 pub fn count_lines<T: Text>(text: &T) -> u32
     ensures { length (T.lines text.now) < 2 ^ 32 → result ≡ length (T.lines text.now) }
 {

@@ -1,4 +1,4 @@
-//! Texts going out, as lines that are put one after the other into what takes them.
+//! Texts as lines: what makes the lines, and what takes them one after the other.
 #![tactic(auto)]
 
 mod batch;

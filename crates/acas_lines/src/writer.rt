@@ -9,8 +9,8 @@ use crate::{LineSink, Text};
 use acas_io::{Failed, Sink};
 use acas_text::Line;
 
-/// Writes the lines that it takes into a sink of bytes, gathered in a [`Batch`]. After a write failed the sink isn't called
-/// any more.
+/// Writes the lines that it takes into a sink of bytes, by way of a [`Batch`]. After a write failed it doesn't call the
+/// sink any more.
 #[derive(Drop)]
 pub(crate) struct TextWriter<'a, K: Sink> {
     sink: &'a mut K,
@@ -66,7 +66,7 @@ impl<K: Sink> LineSink for TextWriter<'_, K> {
 
 /// Writes a text, up to 8,192 bytes at a time. It takes no memory.
 ///
-/// `Failed` comes only where the sink's count of faults rose; what was written then is a front of the text.
+/// `Failed` comes only where the sink's count of faults rose. Then a front of the text has been written.
 pub fn write_text<T: Text, K: Sink>(text: &T, sink: &mut K) -> Result<(), Failed>
     ensures { Puts (K.written sink.old) (K.written sink.new) (K.faults sink.old) (K.faults sink.new) (joined (T.lines text.now)) result }
 {

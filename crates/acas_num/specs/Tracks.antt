@@ -11,7 +11,7 @@ use Rattle.acas_num.specs.Clamp.{clamped, LiesBetween}
 abbrev pub units : ℤ → ℤ
 units feet = pos 1024 *ℤ feet
 
--- a slant range: 0 to 182,280 ft, at most 4,000 ft/s either way.
+-- A slant range: 0 to 182,280 ft, at most 4,000 ft/s either way.
 abbrev pub range_limits : Limits
 range_limits = record { lowest = units (pos 0); highest = units (pos 182280); fastest = units (pos 4000) }
 
@@ -31,7 +31,7 @@ pub record IsSound (limits : Limits) : Type 0 where
 abbrev pub IsEstimate : Limits → ℤ → Type 0
 IsEstimate limits e = LiesBetween limits.lowest limits.highest e
 
--- a rate that the limits allow.
+-- A rate that the limits allow.
 abbrev pub IsRate : Limits → ℤ → Type 0
 IsRate limits v = LiesBetween (neg_ℤ limits.fastest) limits.fastest v
 
@@ -52,7 +52,7 @@ estimate_in limits e = clamped limits.lowest limits.highest e
 abbrev pub rate_in : Limits → ℤ → ℤ
 rate_in limits v = clamped (neg_ℤ limits.fastest) limits.fastest v
 
--- Where an estimate is a second later at a rate.
+-- The estimate a second later, at a rate.
 abbrev pub predicted : Limits → ℤ → ℤ → ℤ
 predicted limits e v = estimate_in limits (e +ℤ v)
 
@@ -60,7 +60,7 @@ predicted limits e v = estimate_in limits (e +ℤ v)
 abbrev pub share : ℕ → ℤ → ℤ
 share gain d = int_div_euclid (pos gain *ℤ d) (pos 1024)
 
--- a running state from the predicted estimate p, the rate v, and the difference d of measurement and prediction.
+-- A running state from the predicted estimate p, the rate v, and the difference d of measurement and prediction.
 abbrev pub corrected : Limits → ℕ → ℕ → ℤ → ℤ → ℤ → TrackState
 corrected limits alpha beta p v d =
     Run (estimate_in limits (p +ℤ share alpha d)) (rate_in limits (v +ℤ share beta d)) 0

@@ -13,8 +13,8 @@ pub fn floor_div(a: i64, b: i64) -> i64
     a.div_euclid(b)
 }
 
-/// A law: `need a b` is the least whole number of seconds in which `b` a second make up `a`, so one
-/// product tells whether so many seconds are enough.
+/// A law: `need a b` is the least whole number of seconds in which a rate of `b` a second covers `a`. So one product
+/// shows whether so many seconds are enough.
 pub fn seconds_law()
     ensures least { (a b : ℕ) → 0 < b → IsNeed a b (need a b) }
     ensures by_product { (a b seconds : ℕ) → 0 < b → (need a b ≤ seconds) ↔ (a ≤ seconds * b) }

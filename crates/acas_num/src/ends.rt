@@ -2,7 +2,7 @@
 ghost use Rattle.std.specs.Prelude.{◌≡◌, ◌≤ℤ◌};
 ghost use Rattle.acas_num.specs.Clamp.{clamped, LiesBetween};
 
-/// `a`, or the end of `low..=high` that it is past.
+/// `a`, or the end of `low..=high` that it lies beyond.
 #[tactic(auto, unfolding(crate::specs::Clamp::clamped))]
 pub fn clamp(a: i64, low: i64, high: i64) -> i64
     requires { low ≤ℤ high }

@@ -21,8 +21,8 @@ const MOST_MISSED: u8 = 5;
 impl TrackState {
     /// The state one second later, after a measurement in feet or after a miss.
     ///
-    /// `alpha` and `beta` are the parts of a difference that estimate and rate take over, in 1/1024.
-    /// A running track that misses one more measurement than five in a row is given up.
+    /// `alpha` and `beta` are the parts of a difference that the estimate and the rate take over, in 1/1024. A running
+    /// track that misses a sixth measurement in a row is given up.
     pub fn step(
         self,
         measurement: Option<i64>,

@@ -17,8 +17,8 @@ pub fn root(n: u64) -> u64
     n.isqrt()
 }
 
-// A number near the root, by Newton's method. It nearly always is the root. `isqrt` alone halves an interval 32
-// times: without this, runs of 16 aircraft take 11 (of kind RA) and 32 (of kind TA) per cent more instructions.
+// A number near the root, by Newton's method. It nearly always is the root. Without it, `isqrt` halves an interval 32
+// times, and runs of 16 aircraft take 11 (of kind RA) and 32 (of kind TA) per cent more instructions.
 fn near_root(n: u64) -> u64 {
     let mut near = first_near(n);
     for _ in 0..3 {
@@ -27,7 +27,7 @@ fn near_root(n: u64) -> u64 {
     near
 }
 
-// At most a sixteenth more than the root, for a number that isn't small.
+// At most a sixteenth above the root, for a number that isn't small.
 fn first_near(n: u64) -> u64
     ensures { 0 < result }
 {
@@ -43,7 +43,7 @@ fn next_near(n: u64, near: u64) -> u64
     (near.wrapping_add(n / near) / 2).max(1)
 }
 
-// Whether a number that is found is the root.
+// Whether a number that was found is the root.
 fn is_root(n: u64, found: u64) -> bool
     ensures { IsTrue result → found ≡ root n }
 {

@@ -17,7 +17,7 @@ fn digit_of(glyph: u8) -> Option<u8>
     }
 }
 
-// Whether something is there, and no zero stands in front of other bytes.
+// Whether there is at least one byte, and no zero stands in front of other bytes.
 fn is_short(bytes: &[u8]) -> bool
     ensures { MatchBool result (IsShort bytes.now) (IsShort bytes.now → ⊥) }
 {
@@ -48,8 +48,8 @@ fn parse_up_to(bytes: &[u8], high: u64) -> Option<u64>
 
 /// The number that a plain decimal of at most ten digits spells.
 ///
-/// A plain decimal is an optional `-` and digits, with no zero in front but in `0` itself, and never `-0`. `None` comes
-/// exactly where the bytes are something else or have more digits.
+/// A plain decimal is an optional `-` and digits. No zero stands in front, except in `0` itself, and `-0` is none.
+/// `None` comes exactly where the bytes are something else or have more digits.
 pub fn parse(bytes: &[u8]) -> Option<i64>
     ensures some { IfSome result (IsPlain bytes.now) }
     ensures none { IfNone result ((n : ℤ) → IsPlain bytes.now n → ⊥) }
@@ -73,8 +73,8 @@ pub fn parse(bytes: &[u8]) -> Option<i64>
     }
 }
 
-/// The number from `low` to `high` whose plain decimal the bytes are. `None` comes exactly where they are that of none of
-/// these.
+/// The number from `low` to `high` whose plain decimal the bytes are. `None` comes exactly where the bytes are the
+/// plain decimal of no such number.
 pub fn parse_within(bytes: &[u8], low: u32, high: u32) -> Option<u32>
     ensures { SpellsWithin low high bytes.now result }
 {

@@ -1,7 +1,8 @@
 //! Numbers and short lines as text.
 //!
-//! A number is written and read as a plain decimal or in a fixed count of hexadecimal digits. `Line` collects such parts,
-//! each with the most bytes that it adds as a constant: a caller shows that a part fits by adding them up.
+//! A number is written and read as a plain decimal, or in a fixed count of hexadecimal digits. `Line` collects such
+//! parts. For each kind of part a constant has the most bytes that it adds, and a caller shows that the parts fit by
+//! adding these up.
 #![tactic(auto)]
 
 mod decimal;

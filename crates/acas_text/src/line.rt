@@ -24,7 +24,7 @@ pub const I32_BYTES: usize = 11;
 /// The bytes that `Line::address` adds.
 pub const ADDRESS_BYTES: usize = 6;
 
-/// A text of at most `LINE_BYTES` bytes, made part by part. Each adding call asks that what it adds still fits.
+/// A text of at most `LINE_BYTES` bytes, made part by part. Each call that adds a part requires that it still fits.
 #[derive(Drop)]
 pub struct Line {
     bytes: [u8; LINE_BYTES],
@@ -100,7 +100,8 @@ impl Line {
         self.hex(u64::from(value), 6);
     }
 
-    /// Adds a number in so many hexadecimal digits, 0-9A-F, the highest first. The number has no more digits than that.
+    /// Adds a number in so many hexadecimal digits, 0-9A-F, the highest first. The number may have no more digits than
+    /// that.
     pub fn hex(&mut self, value: u64, digits: u8)
         requires few { digits ≤ 16 }
         requires fits { value < 16 ^ digits }
@@ -198,7 +199,7 @@ impl Line {
         &self.bytes[..self.len]
     }
 
-    // Adds a number as a plain decimal. Most numbers that are told have one digit.
+    // Adds a number as a plain decimal. Most numbers have one digit.
     fn number(&mut self, value: u64)
         requires few { value < 2 ^ 32 }
         requires room { length self.old + length (decimal value) ≤ LINE_BYTES }
