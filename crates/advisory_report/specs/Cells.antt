@@ -22,11 +22,11 @@ strength_digit Level = codes "4"
 strength_digit Positive = codes "5"
 strength_digit Increase = codes "6"
 
--- A letter where something holds.
+-- These letters where something holds, else none.
 abbrev pub flag : Bool → List ℕ → List ℕ
 flag holds letter = if holds then letter else []
 
--- The age, and the letters of what holds.
+-- The age, and the letters of the flags that are set.
 abbrev pub age_text : Intent → List ℕ
 age_text it = decimal it.age ++ flag it.corrective (codes "c") ++ flag it.crossing (codes "x") ++ flag it.turned (codes "r")
 

@@ -1,4 +1,4 @@
--- The composite advisory of an aircraft in a cycle: what its cells say together (the words are those of this project's profile).
+-- The composite advisory of an aircraft in a cycle: what its cells say together. The words are this project's profile.
 use Rattle.std.specs.Prelude.{ℕ, Bool, true, false, not, ◌&&◌, ◌||◌, ◌==◌, if◌then◌else◌, List, codes, find, Option, Some, None, is_some}
 use Rattle.std.specs.List.{list_any}
 use Rattle.acas_base.specs.Senses.{is_same_sense}
@@ -22,7 +22,7 @@ is_traffic (Ra advisory) = false
 abbrev pub is_same_strength : Strength → Strength → Bool
 is_same_strength one other = place_of one == place_of other
 
--- The cell has an advisory of this sense and strength for which a test holds.
+-- The cell has an advisory of this sense and strength, and the test holds for it.
 abbrev pub advises_with : (Intent → Bool) → Sense → Strength → Cell → Bool
 advises_with test sense strength Clear = false
 advises_with test sense strength Traffic = false
@@ -32,7 +32,7 @@ advises_with test sense strength (Ra advisory) = is_same_sense advisory.sense se
 abbrev pub advises : Sense → Strength → Cell → Bool
 advises sense strength cell = advises_with (λ advisory. true) sense strength cell
 
--- The strongest strength of a sense: the first, strongest first, of which some cell has an advisory.
+-- The strongest strength that some cell's advisory of this sense has.
 abbrev pub strongest_of : Sense → List Cell → Option Strength
 strongest_of sense cells = find (λ strength. list_any (advises sense strength) cells) strongest_first
 
@@ -47,8 +47,8 @@ is_corrective advisory = advisory.corrective
 abbrev pub is_crossing : Intent → Bool
 is_crossing advisory = advisory.crossing
 
--- What the cells advise in one sense: the strongest strength, whether some advisory of that strength is corrective, and whether
--- some advisory of that strength is crossing.
+-- What the cells advise in one sense: the strongest strength, whether some advisory of that strength is corrective, and
+-- whether some advisory of that strength is crossing.
 abbrev pub advice_of : Sense → List Cell → Advice
 advice_of sense cells =
     let strength = strongest_of sense cells in
@@ -58,7 +58,7 @@ advice_of sense cells =
 abbrev pub has_both : Option Strength → Option Strength → Bool
 has_both up down = is_some up && is_some down
 
--- With advice of both senses corrective holds and crossing doesn't. Else they hold where they hold for the one sense.
+-- With advice of both senses `corrective` holds and `crossing` doesn't. Else both are those of the one sense.
 abbrev pub joint : Bool → Advice → Advice → Composite
 joint traffic up down = record {
   traffic = traffic;

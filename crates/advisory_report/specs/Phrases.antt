@@ -37,7 +37,7 @@ is_same_advice (Some one) (Some other) = is_same_strength one other
 abbrev pub is_kept : Composite → Composite → Bool
 is_kept before after = is_same_advice before.up after.up && (is_same_advice before.down after.down && (before.corrective || not after.corrective))
 
--- Where there is advice of one sense: that sense.
+-- The sense, where there is advice of one sense.
 abbrev pub sense_of_advice : Composite → Sense
 sense_of_advice composite = if is_some composite.up then Up else Down
 
@@ -49,8 +49,8 @@ abbrev pub for_sense : Sense → Aural → Aural → Aural
 for_sense Up climb descend = climb
 for_sense Down climb descend = descend
 
--- What is said where the advice is of one sense and isn't kept: the first line that applies. From the fifth line on the
--- strength is Positive, since it is none of the others.
+-- The phrase where the advice is of one sense and isn't kept. The first line that applies gives it. From the fifth line
+-- on the strength is Positive, since the lines before have all other ones.
 abbrev pub aural_in : Sense → Composite → Composite → Aural
 aural_in sense before after =
     if has Limit2000 sense after || (has Limit1000 sense after || has Limit500 sense after) then aurals.Monitor
@@ -62,7 +62,7 @@ aural_in sense before after =
     else (if after.crossing then for_sense sense aurals.ClimbCrossing aurals.DescendCrossing
     else for_sense sense aurals.ClimbClimb aurals.DescendDescend))))))
 
--- What is said from one composite to the next: the first line that applies.
+-- The phrase from one composite to the next. The first line that applies gives it.
 abbrev pub aural_of : Composite → Composite → Aural
 aural_of before after =
     if not (has_advice after) && has_advice before then aurals.ClearOfConflict

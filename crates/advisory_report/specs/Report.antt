@@ -22,7 +22,7 @@ abbrev pub line_text : ℕ → ℕ → Composite → Composite → List ℕ
 line_text cycle address before after =
     join_with_byte 44 (codes "r" ∷ signed_decimal (pos cycle) ∷ hex 6 address ∷ word_of after ∷ phrase_text (aural_of before after) ∷ []) ++ 10 ∷ []
 
--- A commit has a line where its word differs from the one before, or something is said.
+-- A commit has a line where its word differs from the word before, or a phrase is said.
 unfoldable pub report_line : ℕ → ℕ → Composite → Composite → Option (List ℕ)
 report_line cycle address before after =
     if not (is_same_word before after) || not (is_silent (aural_of before after)) then Some (line_text cycle address before after) else None

@@ -4,8 +4,8 @@ use Rattle.advisory_report.specs.Composite.{word_of}
 use Rattle.advisory_report.specs.declared.composite.Composite.{Composite}
 use Rattle.advisory_report.specs.declared.stretches.Stretch.{Stretch}
 
--- Of all that is shown by cycle, from 1, this is the longest row of cycles up to its last one that have the word of
--- that one.
+-- The longest row of cycles that ends with the last one and has one word throughout. `all` gives what is shown in each
+-- cycle, from 1.
 pub record IsStretch (all : ℕ → Composite) (row : Stretch) : Type 0 where
   pub begun : 1 ≤ row.first
   pub in_order : row.first ≤ row.last

@@ -5,7 +5,8 @@ ghost use Rattle.advisory_report.specs.Phrases.{aural_in, aural_of, for_sense, h
 use crate::Composite;
 use acas_base::{Sense, Strength};
 
-/// What is said to the crew (FAA, Introduction to TCAS II v7.1, for the words; which phrase comes when is this project's profile).
+/// What is said to the crew (the words: FAA, Introduction to TCAS II v7.1; when each phrase comes: this project's
+/// profile).
 #[derive(Clone, Copy, Debug, PartialEq, Eq)]
 pub enum Aural {
     /// `Traffic traffic`
@@ -70,7 +71,7 @@ fn for_sense(sense: Sense, climb: Aural, descend: Aural) -> Aural
     }
 }
 
-// Advice that isn't kept, for 1500 ft/min.
+// The phrase for advice of 1500 ft/min that isn't kept.
 fn positive(sense: Sense, before: &Composite, after: &Composite) -> Aural
     requires { strength_in sense after.now ≡ Some Strength.Positive }
     ensures { result ≡ aural_in sense before.now after.now }
@@ -87,7 +88,7 @@ fn positive(sense: Sense, before: &Composite, after: &Composite) -> Aural
     for_sense(sense, Aural::ClimbClimb, Aural::DescendDescend)
 }
 
-// Advice that isn't kept, not to climb or not to descend.
+// The phrase for advice of Level that isn't kept.
 fn level(sense: Sense, before: &Composite, after: &Composite) -> Aural
     requires { strength_in sense after.now ≡ Some Strength.Level }
     ensures { result ≡ aural_in sense before.now after.now }
@@ -101,7 +102,7 @@ fn level(sense: Sense, before: &Composite, after: &Composite) -> Aural
     }
 }
 
-// Advice of one sense that isn't kept.
+// The phrase for advice of one sense that isn't kept.
 fn aural_in(sense: Sense, strength: Strength, before: &Composite, after: &Composite) -> Aural
     requires { strength_in sense after.now ≡ Some strength }
     ensures { result ≡ aural_in sense before.now after.now }
@@ -114,7 +115,7 @@ fn aural_in(sense: Sense, strength: Strength, before: &Composite, after: &Compos
     }
 }
 
-// No advice any more, or none yet.
+// The phrase where there is no advice now.
 fn without_advice(before: &Composite, after: &Composite) -> Aural
     requires { has_advice after.now ≡ false }
     ensures { result ≡ aural_of before.now after.now }

@@ -62,9 +62,9 @@ fn add_advisory(line: &mut Line, advisory: &Intent)
     add_flag(line, advisory.turned, "r");
 }
 
-/// Adds the text of a cell to a line: `-` where it is Clear, `t` where it is Traffic; else the sense, the strength, the age
-/// in cycles, and the letters `c` where the advisory is corrective, `x` where it is crossing, `r` where its sense was reversed
-/// geometrically.
+/// Adds the text of a cell to a line: `-` for Clear, `t` for Traffic. For an advisory it adds the sense, the strength,
+/// a dot, the age in cycles, and these letters: `c` where it is corrective, `x` where it is crossing, `r` where its
+/// sense was reversed geometrically.
 pub fn add_cell(line: &mut Line, cell: &Cell)
     requires { length line.old + CELL_BYTES ≤ LINE_BYTES }
     ensures added { line.new ≡ line.old ++ cell_text cell.now }

@@ -21,7 +21,8 @@ pub struct Composite {
     pub crossing: bool,
 }
 
-// The advice of one sense: its strongest strength, and what holds for some advisory of that strength.
+// The advice of one sense: its strongest strength, and whether some advisory of that strength is corrective or
+// crossing.
 #[derive(Clone, Copy)]
 struct Advice {
     strength: Option<Strength>,
@@ -29,7 +30,7 @@ struct Advice {
     crossing: bool,
 }
 
-// The advice of no advisory.
+// The advice where no cell advises.
 const NONE: Advice = Advice {
     strength: None,
     corrective: false,
@@ -45,7 +46,7 @@ impl Composite {
     }
 }
 
-// The advice of one advisory.
+// The advice that one advisory gives.
 fn alone(advisory: &Intent) -> Advice
     ensures { result ≡ record { strength = Some advisory.now.strength; corrective = advisory.now.corrective; crossing = advisory.now.crossing } }
 {
@@ -120,9 +121,9 @@ fn composite_over(cells: &[Cell]) -> Composite
 
 /// The composite of a cycle's cells (this project's profile).
 ///
-/// `up` and `down` are the strongest strengths of each sense. With advice of one sense, `corrective` and `crossing` hold where they
-/// hold for some advisory of its strongest strength. With both senses `corrective` holds and `crossing` doesn't. Without advice
-/// neither holds.
+/// `up` and `down` are the strongest strengths of each sense. With advice of one sense, `corrective` and `crossing`
+/// hold where they hold for some advisory of its strongest strength. With advice of both senses `corrective` holds and
+/// `crossing` doesn't. Without advice neither holds.
 #[tactic(auto, unfolding(crate::specs::Composite::composite_of))]
 pub fn composite_of(cells: &Cells) -> Composite
     ensures { result ≡ composite_of cells.now }

@@ -1,5 +1,6 @@
-//! What an aircraft's crew hears, and the lines of the report: the composite advisory of a cycle, the phrase from one composite
-//! to the next, and the line that tells both. And the text of one cell, which tells what is advised against one aircraft.
+//! What an aircraft's crew hears, and the lines of the report: the composite advisory of a cycle, the phrase from one
+//! composite to the next, and the line with both. The crate also has the text of one cell, which is what an aircraft
+//! advises against one other aircraft.
 #![tactic(auto)]
 
 mod aural;

@@ -37,9 +37,9 @@ fn line_text(cycle: u16, own: Address, before: &Composite, after: &Composite) ->
 }
 
 /// The line of the report for a commit, from the composite before it to its own one, with its line feed:
-/// `r,CYCLE,ADDRESS,WORD,PHRASE`, where the phrase is `-` if nothing is said (this project's profile).
+/// `r,CYCLE,ADDRESS,WORD,PHRASE`. The phrase is `-` where nothing is said (this project's profile).
 ///
-/// There is none exactly where the word stays and nothing is said.
+/// There is no line exactly where the word stays and nothing is said.
 #[tactic(auto, unfolding(crate::specs::Report::report_line))]
 pub fn line(cycle: u16, own: Address, before: &Composite, after: &Composite) -> Option<Line>
     ensures line { result ≡ report_line cycle own before.now after.now }

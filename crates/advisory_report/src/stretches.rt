@@ -36,8 +36,8 @@ impl Stretch {
         }
     }
 
-    /// The row up to the next cycle, by what is shown in it. Where it begins with that cycle, the row before it was
-    /// over.
+    /// The row up to the next cycle, by what is shown in that cycle. Where the word changes, the row before is over,
+    /// and a new one begins with that cycle.
     pub fn with(&self, next: Composite) -> Stretch
         requires { self.now.last < 65535 }
         ensures row { (all : ℕ → Composite) → IsStretch all self.now → next ≡ all (self.now.last + 1) → IsStretch all result }

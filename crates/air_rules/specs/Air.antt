@@ -11,7 +11,7 @@ use Rattle.acas_base.specs.declared.link.CopyPlan.{CopyPlan}
 use Rattle.acas_base.specs.declared.view.View.{View}
 use Rattle.air_rules.specs.Journal.{Sent}
 
--- What the rules take of an encounter and of the words of messages.
+-- What the rules need of an encounter and of the words of messages.
 pub record Air : Type 0 where
   pub count : ℕ  -- how many aircraft there are
   pub places : ℕ  -- how many cells a commit has
@@ -36,7 +36,7 @@ is_active air own = option_map_or is_active_kind (air.kind own) false
 abbrev pub rank_of : Air → ℕ → ℕ → Rank
 rank_of air own other = option_map_or (rank_by (air.address own) (air.address other)) (air.kind other) Free
 
--- The aircraft gives way to the other one, which resolves and doesn't have the higher address.
+-- The aircraft gives way to the other one. The other one resolves and doesn't have the higher address.
 pub record IsSecond (air : Air) (own other : ℕ) : Type 0 where
   pub apart : own ≢ other
   pub rank : rank_of air own other ≡ Second
@@ -56,13 +56,13 @@ pub record IsSound (air : Air) : Type 0 where
   pub few : (sender receiver number : ℕ) → length (air.copies sender receiver number) ≤ 3
   -- The active aircraft are among those that are counted.
   pub counted : (own : ℕ) → is_active air own ≡ true → own < air.count
-  -- A threat is only seen by an aircraft that resolves, and it is of kind RA.
+  -- Only an aircraft that resolves sees a threat, and it is of kind RA.
   pub threatens : (own other cycle : ℕ) → (air.view own other cycle).threat ≡ true → (air.view own other cycle).resolves ≡ true
   pub resolves : (own other cycle : ℕ) → (air.view own other cycle).resolves ≡ true → is_ra air own ≡ true
-  -- A word reads as the message for which it was sent.
+  -- The word of a message reads as that message.
   pub reads : (own : ℕ) (message : ResMsg) → IsMessageOf air own message → air.read (air.word message) ≡ Some message
   -- No bit is flipped by the mask 0.
   pub plain : (word : ℕ) → air.flip word 0 ≡ word
-  -- A copy never reads as another message than the one that was sent, whatever its mask flips.
+  -- Whatever bits the mask of a copy flips, the copy never reads as another message than the one that was sent.
   pub apart : (own : ℕ) (sent : Sent) (copy : ℕ) (plan : CopyPlan) (message read : ResMsg) →
       IsMessageOf air own message → copy_plan air sent copy ≡ Some plan → air.read (air.flip (air.word message) plan.mask) ≡ Some read → read ≡ message

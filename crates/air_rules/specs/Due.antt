@@ -5,7 +5,8 @@ use Rattle.acas_base.specs.declared.link.CopyPlan.{CopyPlan}
 use Rattle.air_rules.specs.Air.{Air, is_active, copy_plan}
 use Rattle.air_rules.specs.Journal.{Sent, sent_at, commits, entries_after, was_taken}
 
--- A copy is held back until its receiver has made so many commits after the send. There may be no such copy.
+-- A copy is free once its receiver has made as many commits after the send as its hold. A copy that doesn't exist isn't
+-- free.
 abbrev pub is_free : Option CopyPlan → ℕ → Bool
 is_free None made = false
 is_free (Some plan) made = nat_le plan.hold made
@@ -15,8 +16,8 @@ is_copy_due air journal None own send copy = false
 is_copy_due air journal (Some sent) own send copy =
     (sent.receiver == own) && (is_free (copy_plan air sent copy) (commits (entries_after journal send) own) && not (was_taken journal own send copy))
 
--- A copy of the message sent at a position is due to an aircraft: it was sent to it, it isn't held back any more, and
--- it wasn't taken yet.
+-- A copy of the message sent at a position is due to an aircraft: the message was sent to it, the copy isn't held back
+-- any more, and it wasn't taken yet.
 abbrev pub is_due : Air → List Entry → ℕ → ℕ → ℕ → Bool
 is_due air journal own send copy = is_copy_due air journal (sent_at journal send) own send copy
 

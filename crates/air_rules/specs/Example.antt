@@ -1,6 +1,6 @@
--- A worked journal. Two aircraft of one altitude fly towards each other, and each is a threat to the other from the
--- first cycle on. Both choose to climb. In the second cycle the one of higher address has taken the other one's
--- complement, and descends.
+-- A worked journal. Two aircraft at one altitude fly towards each other, and each is a threat to the other from the
+-- first cycle on. Both choose to climb. In the second cycle the one of higher address has taken the other's complement,
+-- and descends.
 use Rattle.std.specs.Prelude.{◌≡◌, ℕ, zero, suc, ◌+◌, ◌*◌, Bool, true, false, if◌then◌else◌, ◌==◌, List, [], ◌∷◌, ◌++◌, map, replicate, reverse, take, find, flat_map, Option, Some, None, pos}
 use Rattle.std.specs.List.{range_with_len}
 use Rattle.acas_base.specs.Complements.{forbidden_sense}
@@ -29,8 +29,8 @@ use Rattle.air_rules.specs.Serial.{IsSerial}
 use Rattle.air_rules.specs.Settled.{IsBoundBy, IsPlainLink, TakesInOrder}
 use Rattle.air_rules.specs.Takes.{complement_from, vrc_in_force}
 
--- The limits and Level leave the aircraft at one altitude, to climb or to descend gives more than the 600 ft to aim
--- for.
+-- The limits and Level leave the aircraft at one altitude. To climb or to descend gives more than ALIM, which is 600
+-- ft.
 abbrev pub separations : Seps
 separations =
     let list = pos 0 ∷ pos 0 ∷ pos 0 ∷ pos 0 ∷ pos 734208 ∷ pos 1179648 ∷ [] in
@@ -130,14 +130,14 @@ second_round =
     Take 1 8 0 true ∷
     []
 
--- The whole of it, and its beginning up to the second aircraft's second commit.
+-- The whole journal, and its beginning up to the second aircraft's second commit.
 abbrev pub worked : List Entry
 worked = reverse (first_round ++ second_round)
 
 abbrev pub told : List Entry
 told = reverse (first_round ++ take 2 second_round)
 
--- The same with one thing wrong in the end.
+-- The same with something wrong at its end: a sense, a word, a take before its send, or a commit past a due copy.
 abbrev pub wrong_sense : List Entry
 wrong_sense = first_round ++ commit 0 2 1 (advisory Up 2 false) ∷ commit 1 2 0 (advisory Up 2 false) ∷ []
 
@@ -156,7 +156,7 @@ past_a_copy =
     commit 0 2 1 (advisory Up 2 false) ∷
     []
 
--- The second aircraft commits again before the first one has sent anything, and so has the first one's sense twice.
+-- The second aircraft commits again before the first one has sent anything. So it has the first one's sense twice.
 abbrev pub twice_equal : List Entry
 twice_equal =
     commit 0 1 1 (advisory Up 1 false) ∷
@@ -165,13 +165,13 @@ twice_equal =
     commit 1 2 0 (advisory Up 2 false) ∷
     []
 
--- This is legal, and both commits stand within the first one's run.
+-- This journal is legal, and both commits of the second aircraft stand within the first one's run.
 pub record IsTwiceEqual : Type 0 where
   pub legal : IsLegal example (reverse twice_equal)
   pub run : run_began (reverse twice_equal) 0 1 Up ≡ Some 0
   pub both : count_of (advises 1 0 Up) (entries_after (reverse twice_equal) 0) ≡ 2
 
--- A complement of a take with 26 commits, where the aircraft has made so many.
+-- The complement in force from a take at 26 commits, once the aircraft has made `made`.
 abbrev pub complement_after : ℕ → Vrc
 complement_after made = vrc_in_force (Some (record { send = 2; vrc = NotAbove; commits = 26 })) made
 
@@ -179,9 +179,9 @@ complement_after made = vrc_in_force (Some (record { send = 2; vrc = NotAbove; c
 abbrev pub and_commits : ℕ → ℕ → List Entry
 and_commits own n = replicate n (commit own 2 0 Clear) ++ reverse first_round
 
--- Which complements are in force. The first aircraft's sense is forbidden to it after the first round, and it keeps it in
--- the second one. A spoilt take puts none in force. A complement binds with five commits since the take, and has lapsed
--- with six, and these are the taker's own.
+-- Which complements are in force. After the first round the first aircraft's sense is forbidden to it, and it keeps it
+-- in the second round. A spoilt take puts no complement in force. A complement is in force at five commits since the
+-- take, and has lapsed at six. Only the taker's own commits count.
 pub record IsInForce : Type 0 where
   pub kept : forbidden_sense (complement_from example (reverse first_round) 0 1) ≡ Some Up
   pub spoilt : complement_from example (reverse (take 5 first_round ++ Take 1 2 0 false ∷ [])) 1 0 ≡ Nil
@@ -190,9 +190,9 @@ pub record IsInForce : Type 0 where
   pub by_own_commits : complement_from example (and_commits 1 6) 1 0 ≡ Nil
   pub not_by_others : complement_from example (and_commits 0 6) 1 0 ≡ NotAbove
 
--- What the laws ask for before they promise opposite senses can hold together. The second aircraft gives way; the first
--- one's messages go over a plain link, are taken in order, and were taken; at its second commit the second one is bound
--- by a message that was sent after the first one's present run began; and both advise against each other.
+-- The premises of the laws about opposite senses can hold together. The second aircraft gives way. The first one's
+-- messages go over a plain link and are taken in order, and one was taken. At its second commit the second aircraft is
+-- bound by a message that was sent after the first one's present run began. Both advise against each other.
 pub record MeetsPremises : Type 0 where
   pub second : IsSecond example 1 0
   pub plain : IsPlainLink example worked 0 1
@@ -204,8 +204,8 @@ pub record MeetsPremises : Type 0 where
   pub sent : WasSent told 2 0 1 (record { sender = 0; receiver = 1; number = 1; word = 2001 })
   pub bound : IsBoundBy example told 1 0 (record { send = 2; vrc = NotAbove; commits = 1 })
 
--- Another air, in which nobody resolves: one aircraft of kind TA, which commits, and one of kind XPDR, which makes no
--- entries.
+-- Another air, in which nobody resolves. It has one aircraft of kind TA, which commits, and one of kind XPDR, which
+-- makes no entries.
 abbrev pub watching_kind : ℕ → Option Kind
 watching_kind zero = Some kinds.Ta
 watching_kind (suc zero) = Some kinds.Xpdr

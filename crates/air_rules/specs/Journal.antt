@@ -1,5 +1,6 @@
--- The journal and what it says. A journal is the list of its entries, the newest first: in `entry ∷ earlier` the entry
--- comes after the journal `earlier`, and its position is the length of `earlier`. Aircraft are told by their indices.
+-- The journal and what it says. A journal is the list of its entries, the newest first. In `entry ∷ earlier` the entry
+-- comes after the journal `earlier`, and its position is the length of `earlier`. Entries name aircraft by their
+-- indices.
 use Rattle.std.specs.Prelude.{◌≡◌, ℕ, ◌+◌, Bool, true, false, ◌&&◌, if◌then◌else◌, ◌==◌, nat_lt, List, [], ◌∷◌, length, Option, Some, None, filter, slice_index_or}
 use Rattle.std.specs.List.{list_any}
 use Rattle.acas_base.specs.declared.advisory.Cell.{Cell}
@@ -23,7 +24,8 @@ owner_of (Take own send copy good) = own
 abbrev pub entries_of : List Entry → ℕ → List Entry
 entries_of journal own = filter (λ entry. owner_of entry == own) journal
 
--- Tests of an entry: a commit of an aircraft, a send of it to another one, its take of a copy of a message.
+-- Tests of an entry: whether it is a commit of an aircraft, a send of it to another one, or its take of a copy of a
+-- message.
 abbrev pub is_commit_of : ℕ → Entry → Bool
 is_commit_of craft (Commit own cycle cells) = own == craft
 is_commit_of craft (Send own target number word) = false
@@ -91,7 +93,7 @@ abbrev pub sent_at : List Entry → ℕ → Option Sent
 sent_at [] position = None
 sent_at (entry ∷ earlier) position = if position == length earlier then as_sent entry else sent_at earlier position
 
--- At this position this message was sent by one aircraft to another.
+-- At this position one aircraft sent this message to another one.
 pub record WasSent (journal : List Entry) (position from to : ℕ) (sent : Sent) : Type 0 where
   pub here : sent_at journal position ≡ Some sent
   pub sender : sent.sender ≡ from

@@ -14,8 +14,8 @@ active_count air = count_below (is_active air) air.count
 abbrev pub ra_count : Air → ℕ
 ra_count air = count_below (is_ra air) air.count
 
--- The most entries: a commit for each active aircraft and cycle; and for each ordered pair of aircraft of kind RA and
--- each cycle a send and three takes.
+-- The most entries of a journal. Each active aircraft has a commit in each cycle. Each ordered pair of aircraft of kind
+-- RA has a send and three takes in each cycle.
 abbrev pub most_entries : Air → ℕ
 most_entries air = air.cycles * active_count air + 4 * (air.cycles * (ra_count air * (ra_count air - 1)))
 

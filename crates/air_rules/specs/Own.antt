@@ -1,4 +1,4 @@
--- What a journal says of an aircraft by the entries of that aircraft alone.
+-- What a journal says of an aircraft follows from that aircraft's own entries.
 use Rattle.std.specs.Prelude.{◌≡◌, ◌≢◌, ℕ, true, List, ◌∷◌}
 use Rattle.acas_base.specs.declared.entry.Entry.{Entry}
 use Rattle.air_rules.specs.Air.{Air, is_active}
@@ -20,15 +20,16 @@ pub record SaysTheSame (air : Air) (one two : List Entry) (own : ℕ) : Type 0 w
 abbrev pub DependsOnOwn : Air → Type 0
 DependsOnOwn air = (one two : List Entry) (own : ℕ) → entries_of one own ≡ entries_of two own → SaysTheSame air one two own
 
--- An entry comes to those of its aircraft.
+-- A new entry is added to the entries of the aircraft that makes it.
 abbrev pub AddsToOwn : Type 0
 AddsToOwn = (entry : Entry) (journal : List Entry) → entries_of (entry ∷ journal) (owner_of entry) ≡ entry ∷ entries_of journal (owner_of entry)
 
--- It leaves those of another aircraft as they are.
+-- It leaves the entries of each other aircraft as they are.
 abbrev pub KeepsOthers : Type 0
 KeepsOthers = (entry : Entry) (journal : List Entry) (own : ℕ) → owner_of entry ≢ own → entries_of (entry ∷ journal) own ≡ entries_of journal own
 
--- A journal that stands between two journals with the same entries of an aircraft has these entries too.
+-- Two journals have the same entries of an aircraft, and one begins the other. Then each journal between them has these
+-- entries too.
 abbrev pub StaysBetween : Type 0
 StaysBetween = (earlier between later : List Entry) (own : ℕ) →
     Begins earlier between → Begins between later → entries_of earlier own ≡ entries_of later own → entries_of earlier own ≡ entries_of between own
@@ -37,12 +38,12 @@ StaysBetween = (earlier between later : List Entry) (own : ℕ) →
 abbrev pub LeavesOthers : Air → Type 0
 LeavesOthers air = (entry : Entry) (journal : List Entry) (own : ℕ) → owner_of entry ≢ own → SaysTheSame air (entry ∷ journal) journal own
 
--- An aircraft is done in some journal that has the same entries of it.
+-- An aircraft is done in some journal with the same entries of that aircraft.
 pub record IsDoneSomewhere (air : Air) (journal : List Entry) (own : ℕ) : Type 0 where
   pub front : List Entry
   pub same : entries_of front own ≡ entries_of journal own
   pub done : IsDone air front own
 
--- A journal is complete where each active aircraft is done in such a journal.
+-- A journal is complete where each active aircraft is done in some journal with the same entries of that aircraft.
 abbrev pub CompletesByOwn : Air → Type 0
 CompletesByOwn air = (journal : List Entry) → ((own : ℕ) → is_active air own ≡ true → IsDoneSomewhere air journal own) → IsComplete air journal

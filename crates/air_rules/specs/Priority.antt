@@ -16,7 +16,8 @@ use Rattle.air_rules.specs.Runs.{run_began}
 use Rattle.air_rules.specs.Settled.{IsPlainLink, TakesInOrder}
 use Rattle.air_rules.specs.Takes.{Taken, last_take, complement_from, lapse}
 
--- An aircraft that gives way changes the sense of an advisory only where the old sense was forbidden to it.
+-- An aircraft that gives way changes the sense of an advisory only where the complement in force forbids it the old
+-- sense.
 abbrev pub YieldsOnlyWhereForbidden : Air → List Entry → Type 0
 YieldsOnlyWhereForbidden air journal = (earlier : List Entry) (own other cycle : ℕ) (cells : Cells) (old new : Sense) →
     Begins (Commit own cycle cells ∷ earlier) journal → IsSecond air own other →
@@ -35,13 +36,14 @@ ReversesOnce air journal = (earlier : List Entry) (own other cycle : ℕ) (cells
     Begins (Commit own cycle cells ∷ earlier) journal → rank_of air own other ≢ Second →
     last_cell earlier own other ≡ Ra old → cell_at cells other ≡ Ra new → old.sense ≢ new.sense → IsReversal air earlier own other old new
 
--- No advisory starts in the sense that is forbidden, whoever gives way.
+-- No advisory starts in the sense that the complement in force forbids. This holds of the aircraft that gives way and
+-- of the other one.
 abbrev pub StartsAsAllowed : Air → List Entry → Type 0
 StartsAsAllowed air journal = (earlier : List Entry) (own other cycle : ℕ) (cells : Cells) (new : Intent) →
     Begins (Commit own cycle cells ∷ earlier) journal → cell_at cells other ≡ Ra new → new.age ≡ 1 →
     forbidden_sense (complement_from air earlier own other) ≢ Some new.sense
 
--- Two aircraft advise against each other in one sense, the first of them giving way, and the run of the second one
+-- Two aircraft advise against each other in one sense. The first of them gives way. The present run of the second one
 -- began at this position.
 pub record HasEqualSenses (air : Air) (journal : List Entry) (own other : ℕ) (sense : Sense) (began : ℕ) : Type 0 where
   pub second : IsSecond air own other
@@ -49,29 +51,30 @@ pub record HasEqualSenses (air : Air) (journal : List Entry) (own other : ℕ) (
   pub theirs : sense_of (last_cell journal other own) ≡ Some sense
   pub run : run_began journal other own sense ≡ Some began
 
--- Senses are equal only where the last message that the one that gives way had taken by its last commit was sent before
--- the other one's present run, or had lapsed.
+-- Two senses are equal only in one of two cases. The last message that the aircraft that gives way had taken by its
+-- last commit was sent before the other one's present run began, or it had lapsed.
 abbrev pub IsEqualOnlyUntold : Air → List Entry → Type 0
 IsEqualOnlyUntold air journal = (earlier : List Entry) (own other began : ℕ) (sense : Sense) (taken : Taken) →
     Begins earlier journal → HasEqualSenses air earlier own other sense began →
     last_take air (before_last_commit earlier own) own other ≡ Some taken →
     (taken.send ≤ began) ⊎ (taken.commits + lapse ≤ commits (before_last_commit earlier own) own)
 
--- And where that run began with the advisory, its sense wasn't forbidden to the other one.
+-- The other one's run may have begun with its advisory. Then the sense wasn't forbidden to the other one at that
+-- commit.
 abbrev pub IsEqualOnlyIfAllowed : Air → List Entry → Type 0
 IsEqualOnlyIfAllowed air journal = (earlier before : List Entry) (own other cycle : ℕ) (cells : Cells) (sense : Sense) (new : Intent) →
     Begins earlier journal → HasEqualSenses air earlier own other sense (length before) →
     Begins (Commit other cycle cells ∷ before) earlier → cell_at cells own ≡ Ra new → new.age ≡ 1 →
     forbidden_sense (complement_from air before other own) ≢ Some sense
 
--- A commit of an aircraft with an advisory against another one in this sense.
+-- The entry is a commit of an aircraft with an advisory against another one in this sense.
 abbrev pub advises : ℕ → ℕ → Sense → Entry → Bool
 advises craft other sense (Commit own cycle cells) = own == craft && has_sense (cell_at cells other) sense
 advises craft other sense (Send own target number word) = false
 advises craft other sense (Take own send copy good) = false
 
--- Over a plain link, with messages taken in order, an aircraft that gives way has at most two commits within a run of
--- the other one that advise in the run's sense.
+-- Take a plain link whose messages are taken in order. Within a run of the sender, the receiver, which gives way, has
+-- at most two commits that advise in the run's sense.
 abbrev pub IsEqualTwiceAtMost : Air → List Entry → Type 0
 IsEqualTwiceAtMost air journal = (own other : ℕ) → IsSecond air own other → IsPlainLink air journal other own → TakesInOrder journal own other →
     (earlier : List Entry) (began : ℕ) (sense : Sense) → Begins earlier journal → run_began earlier other own sense ≡ Some began →

@@ -8,8 +8,8 @@ use Rattle.acas_base.specs.declared.entry.Entry.{Entry}
 use Rattle.acas_base.specs.declared.entry.Entry.TheVariants.{Commit, Send, Take}
 use Rattle.air_rules.specs.Journal.{Begins, cell_at, last_cell}
 
--- The position of the first commit of an aircraft's present run against another one in this sense; none where its last
--- commit hasn't the sense.
+-- The position of the first commit of an aircraft's present run against another one in this sense. None where its last
+-- commit doesn't have the sense.
 abbrev pub run_began : List Entry → ℕ → ℕ → Sense → Option ℕ
 run_began [] craft other sense = None
 run_began (Commit own cycle cells ∷ earlier) craft other sense =
@@ -19,8 +19,8 @@ run_began (Commit own cycle cells ∷ earlier) craft other sense =
 run_began (Send own target number word ∷ earlier) craft other sense = run_began earlier craft other sense
 run_began (Take own send copy good ∷ earlier) craft other sense = run_began earlier craft other sense
 
--- At this position an aircraft committed, and its present run began there: this commit and all its later ones have the
--- sense against the other aircraft, and the one before hadn't.
+-- At this position an aircraft committed, and its present run began there. This commit and all its later ones have the
+-- sense against the other aircraft, and the commit before didn't.
 pub record BeginsRun (journal : List Entry) (own other : ℕ) (sense : Sense) (began : ℕ) : Type 0 where
   pub before : List Entry
   pub cycle : ℕ
@@ -31,8 +31,8 @@ pub record BeginsRun (journal : List Entry) (own other : ℕ) (sense : Sense) (b
       Begins (Commit own cycle cells ∷ later) journal → began ≤ length later → sense_of (cell_at cells other) ≡ Some sense
   pub starts : sense_of (last_cell before own other) ≢ Some sense
 
--- An aircraft has a present run against another one in a sense exactly where its last cell has the sense, and it began
--- where it says.
+-- An aircraft has a present run in a sense against another one exactly where its last cell has the sense. The run began
+-- at the position that `run_began` gives.
 pub record HasRunBySense : Type 0 where
   pub there : (journal : List Entry) (own other : ℕ) (sense : Sense) →
       (sense_of (last_cell journal own other) ≡ Some sense) ↔ IsSome (run_began journal own other sense)

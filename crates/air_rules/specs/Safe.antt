@@ -10,8 +10,8 @@ use Rattle.air_rules.specs.Air.{Air, IsSecond}
 use Rattle.air_rules.specs.Journal.{Begins, cell_at}
 use Rattle.air_rules.specs.Takes.{complement_from}
 
--- In each commit of an aircraft that gives way to another one, an advisory against that one hasn't the sense which the
--- complement in force from it forbids.
+-- No commit of an aircraft that gives way has an advisory in the sense that the complement in force from the other one
+-- forbids.
 abbrev pub IsSafe : Air → List Entry → Type 0
 IsSafe air journal = (earlier : List Entry) (own other cycle : ℕ) (cells : Cells) (sense : Sense) →
     Begins (Commit own cycle cells ∷ earlier) journal → IsSecond air own other →

@@ -29,7 +29,7 @@ pub record IsSlowest (air : Air) (journal : List Entry) (own : ℕ) : Type 0 whe
   pub fewest : (other : ℕ) → is_active air other ≡ true → commits journal own ≤ commits journal other
   pub first : (other : ℕ) → is_active air other ≡ true → other < own → commits journal own < commits journal other
 
--- It is time to commit: the round isn't over for everybody, or another round begins.
+-- A commit comes next. Either the round isn't over for everybody, or another round begins.
 abbrev pub IsTimeToCommit : Air → List Entry → ℕ → Type 0
 IsTimeToCommit air journal own = IsUneven air journal ⊎ (IsIdle air journal × (commits journal own < air.cycles))
 

@@ -11,14 +11,14 @@ use Rattle.air_rules.specs.Journal.{Begins, Sent, WasSent, cell_at, last_cell, b
 use Rattle.air_rules.specs.Runs.{run_began}
 use Rattle.air_rules.specs.Takes.{Taken, last_take, is_from, lapse}
 
--- The last good take by an aircraft of a message of the other one, before its last commit, and it hadn't lapsed at that
+-- The last good take by an aircraft of a message of the other one before its last commit. It hadn't lapsed at that
 -- commit.
 pub record IsBoundBy (air : Air) (journal : List Entry) (own other : ℕ) (taken : Taken) : Type 0 where
   pub last : last_take air (before_last_commit journal own) own other ≡ Some taken
   pub in_time : commits (before_last_commit journal own) own < taken.commits + lapse
 
--- Wherever both advise against each other, and the message that bound the one that gives way was sent in the present
--- run of the other one, the senses are opposite.
+-- Two aircraft advise against each other. The message that bound the one that gives way was sent in the present run of
+-- the other one. Then the senses are opposite.
 abbrev pub IsOppositeByTake : Air → List Entry → Type 0
 IsOppositeByTake air journal = (earlier : List Entry) (own other began : ℕ) (sense theirs : Sense) (taken : Taken) →
     Begins earlier journal → IsSecond air own other →
@@ -37,8 +37,8 @@ TakesInOrder journal own other = (earlier : List Entry) (send copy : ℕ) (good 
     Begins (Take own send copy good ∷ earlier) journal → is_from (sent_at earlier send) other ≡ true →
     was_taken earlier own send_before copy_before ≡ true → is_from (sent_at earlier send_before) other ≡ true → send_before < send
 
--- Where the messages go over a plain link and are taken in order, an advisory against the other aircraft has the
--- opposite of its sense as soon as it has sent a message in its present run.
+-- Take a plain link whose messages are taken in order. Once the sender has sent a message in its present run, each
+-- advisory of the receiver, which gives way, has the opposite sense.
 abbrev pub IsOppositeOnPlainLinks : Air → List Entry → Type 0
 IsOppositeOnPlainLinks air journal = (own other : ℕ) → IsSecond air own other → IsPlainLink air journal other own → TakesInOrder journal own other →
     (earlier : List Entry) (cycle began position : ℕ) (cells : Cells) (sense theirs : Sense) (sent : Sent) →

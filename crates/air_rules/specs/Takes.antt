@@ -11,7 +11,7 @@ use Rattle.acas_base.specs.declared.entry.Entry.TheVariants.{Commit, Send, Take}
 use Rattle.air_rules.specs.Air.{Air, copy_plan}
 use Rattle.air_rules.specs.Journal.{Sent, sent_at, commits}
 
--- What a copy of a message reads as when it is taken; none where it is spoilt.
+-- The message that a copy reads as when it is taken; none where the copy is spoilt.
 abbrev pub read_copy : Air → Option Sent → ℕ → Option ResMsg
 read_copy air None copy = None
 read_copy air (Some sent) copy = option_and_then (λ plan. air.read (air.flip sent.word plan.mask)) (copy_plan air sent copy)
@@ -25,7 +25,8 @@ abbrev pub complement_read : Option ResMsg → Vrc
 complement_read None = Nil
 complement_read (Some message) = message.vrc
 
--- A good take: of which position's message, its complement as taken, and how many commits the taker had made.
+-- A good take: the position of the message's send, the complement as it was taken, and how many commits the taker had
+-- made.
 pub record Taken : Type 0 where
   pub send : ℕ
   pub vrc : Vrc
@@ -41,16 +42,16 @@ last_take air (Take own send copy good ∷ earlier) craft other =
     then Some (record { send = send; vrc = complement_read (read_copy air (sent_at earlier send) copy); commits = commits earlier craft })
     else last_take air earlier craft other
 
--- A complement that isn't renewed lapses after so many commits of its taker.
+-- After so many commits of its taker a complement that isn't renewed lapses.
 abbrev pub lapse : ℕ
 lapse = LAPSE
 
--- What is in force of the last good take, once its taker has made so many commits.
+-- The complement in force from the last good take, once its taker has made so many commits.
 abbrev pub vrc_in_force : Option Taken → ℕ → Vrc
 vrc_in_force None made = Nil
 vrc_in_force (Some taken) made = in_force taken.vrc taken.commits made
 
--- The complement in force on an aircraft from another one: that of the last undamaged message taken from it, until it
--- lapses.
+-- The complement in force on an aircraft from another one: that of the last undamaged message that it took from the
+-- other one, until it lapses.
 abbrev pub complement_from : Air → List Entry → ℕ → ℕ → Vrc
 complement_from air journal own other = vrc_in_force (last_take air journal own other) (commits journal own)

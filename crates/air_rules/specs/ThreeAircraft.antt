@@ -1,7 +1,7 @@
--- A second worked journal. Three aircraft of kind RA, of which the third has the lowest address. In the second cycle the
--- first one advises against both others, up against the second and down against the third. The advisory against the
--- second ends in the third cycle. There the second one, which would choose to climb, descends, since the first one asked
--- it not to pass above. The third one climbs.
+-- A second worked journal, with three aircraft of kind RA. The third one has the lowest address. In the second cycle
+-- the first one advises against both others: up against the second, and down against the third. In the third cycle the
+-- advisory against the second one ends. There the second one descends. It would choose to climb, but the first one
+-- asked it not to pass above. The third one climbs.
 use Rattle.std.specs.Prelude.{◌≡◌, ℕ, zero, suc, Bool, true, false, ◌&&◌, if◌then◌else◌, ◌==◌, List, [], ◌∷◌, ◌++◌, reverse, take, Option, Some, None, pos}
 use Rattle.acas_base.specs.Encounter.{plain_copy}
 use Rattle.acas_base.specs.declared.advisory.Cell.{Cell}
@@ -39,7 +39,7 @@ view_with traffic resolves threat side = record {
   later = separations;
 }
 
--- Nothing near; a threat on this side; an aircraft near, against which own aircraft doesn't resolve any more.
+-- Nothing is near; a threat on this side; an aircraft is near, against which own aircraft doesn't resolve any more.
 abbrev pub quiet : View
 quiet = view_with false false false Up
 
@@ -49,7 +49,8 @@ threat side = view_with true true true side
 abbrev pub near : View
 near = view_with true false false Up
 
--- By cycle: what the first aircraft sees of the second, the first of the third, and both others of the first.
+-- What is seen, by cycle: what the first aircraft sees of the second, what it sees of the third, and what each of these
+-- sees of it.
 abbrev pub ends_in_three : ℕ → View
 ends_in_three cycle = if cycle == 2 then threat Up else if cycle == 3 then near else quiet
 
@@ -65,8 +66,9 @@ view_of (suc zero) other cycle = if other == 0 then starts_in_three cycle else q
 view_of (suc (suc zero)) other cycle = if other == 0 then starts_in_three cycle else quiet
 view_of (suc (suc (suc own))) other cycle = quiet
 
--- The first message to the second aircraft has a spoilt copy beside the good one. Of those to the third one the first has
--- two copies that are held for two commits, and the second is lost. The third one's first message is held for one.
+-- The copies of the first aircraft's first message to the second one are a good one and a spoilt one. Its first message
+-- to the third one has two copies, held for two commits, and its second message to that one is lost. The third one's
+-- first message is held for one commit.
 abbrev pub spoilt : CopyPlan
 spoilt = record { hold = 0; mask = 7 }
 
@@ -118,8 +120,8 @@ first_round =
     commit 2 1 Clear Clear Clear ∷
     []
 
--- The first aircraft tells both others, with many threats. The second one takes both copies, of which one is spoilt. The
--- third one has to wait.
+-- The first aircraft sends to both others, and says that it has many threats. The second one takes both copies, and one
+-- of them is spoilt. The third one has to wait.
 abbrev pub second_round : List Entry
 second_round =
     commit 0 2 Clear (advisory Up 1 false) (advisory Down 1 false) ∷
@@ -132,7 +134,8 @@ second_round =
     []
 
 -- The first aircraft cancels what it said to the second one, and has one threat left. The second one descends, and the
--- third one climbs. It tells that to the first one, which has to wait.
+-- third one climbs. Each sends to the first aircraft. It takes the second one's message, and has to wait for the third
+-- one's.
 abbrev pub third_round : List Entry
 third_round =
     commit 0 3 Clear Traffic (advisory Down 2 false) ∷
@@ -146,8 +149,8 @@ third_round =
     Take 1 13 0 true ∷
     []
 
--- There is nothing more to cancel. The first and the third aircraft have made the commits for which messages were held,
--- and take these first, each copy.
+-- There is nothing more to cancel. The first and the third aircraft have made the commits for which messages were held.
+-- They take each copy of these first.
 abbrev pub fourth_round : List Entry
 fourth_round =
     commit 0 4 Clear Clear (advisory Down 3 false) ∷
@@ -170,12 +173,12 @@ entries = first_round ++ second_round ++ third_round ++ fourth_round
 abbrev pub worked : List Entry
 worked = reverse entries
 
--- Its first so many entries, and then these.
+-- The first n entries of the journal, and then these.
 abbrev pub after_first : ℕ → List Entry → List Entry
 after_first n others = reverse (take n entries ++ others)
 
--- After its third round the third aircraft goes ahead, and takes a held copy before the others have committed. It has
--- then made four commits.
+-- After its third round the third aircraft goes ahead, and takes a held copy before the others have committed. By then
+-- it has made four commits.
 abbrev pub goes_ahead : List Entry
 goes_ahead = after_first 19 (commit 2 4 (advisory Up 2 false) Clear Clear ∷ Take 2 7 0 true ∷ [])
 
@@ -184,7 +187,7 @@ abbrev pub takes_older_last : List Entry
 takes_older_last = after_first 25 (Take 2 22 0 true ∷ Take 2 7 0 true ∷ [])
 
 -- What isn't allowed after a beginning of it: to send to the third aircraft first; to send twice; to cancel again; to
--- take a copy twice, before its time, by another aircraft, or one that was lost.
+-- take a copy twice, before its time, by another aircraft; or to take a copy of a message that was lost.
 abbrev pub IsRefused : ℕ → Entry → Type 0
 IsRefused n entry = IsLegal three (after_first n (entry ∷ [])) → ⊥
 
@@ -203,7 +206,7 @@ pub record IsCompleteOnceSent : Type 0 where
   pub unsent : IsComplete three (after_first 24 []) → ⊥
   pub untaken : IsComplete three (after_first 25 [])
 
--- What the rules say of it. The first aircraft gives way to the third one, since that has the lower address.
+-- What the rules say of it. The first aircraft gives way to the third one, since the third one has the lower address.
 pub record IsWorkedOutForThree : Type 0 where
   pub sound : IsSound three
   pub gives_way : IsSecond three 0 2

@@ -1,10 +1,9 @@
 //! The rules of the journal over any air, and the laws of every legal journal.
 //!
-//! A journal lists what the aircraft of an encounter do: they commit cycles, send messages and take
-//! copies of messages. `specs/` says which entry may come next (`Rules`), and what then holds in
-//! whatever order the entries fall. The air is whatever has aircraft, views, copies and words
-//! (`Air`), and a few facts about these are all that the laws rest on (`IsSound`). Each law is a
-//! function without effect, whose contract states it; a caller knows it after the call.
+//! A journal lists what the aircraft of an encounter do: they commit cycles, send messages and take copies of messages.
+//! `specs/Rules` says which entry may come next. The laws say what then holds, in whatever order the entries stand. An
+//! `Air` has aircraft, views, copies and words. The laws rest on a few facts about these alone (`IsSound`). Each law is
+//! a function without effect, whose contract states it. A caller knows the law after the call.
 #![tactic(auto)]
 
 mod coordination;

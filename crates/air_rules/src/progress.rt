@@ -8,8 +8,8 @@ ghost use Rattle.air_rules.specs.Onward.{IsNeverStuck};
 ghost use Rattle.air_rules.specs.Rules.{IsLegal, IsComplete};
 ghost use Rattle.air_rules.specs.Serial.{IsInOrder, IsSerial};
 
-/// What a legal journal begins with is legal. A beginning of a beginning is one, and of two beginnings
-/// of a journal the longer one begins with the shorter one.
+/// A law: each beginning of a legal journal is legal. A beginning of a beginning is a beginning. Of two beginnings of a
+/// journal the longer one begins with the shorter one.
 pub fn beginning_law()
     ensures legal { (air : Air) (earlier : List Entry) (journal : List Entry) →
         Begins earlier journal → IsLegal air journal → IsLegal air earlier }
@@ -20,15 +20,15 @@ pub fn beginning_law()
         Begins first second }
 {}
 
-/// A legal journal is complete, or some entry is allowed next: a send where somebody owes, else a
-/// take where something is due, else the commit of an aircraft with the fewest commits.
+/// A law: a legal journal is complete, or some entry is allowed next. That is a send where somebody owes, else a take
+/// where something is due, else the commit of an aircraft with the fewest commits.
 pub fn onward_law()
     ensures { (air : Air) (journal : List Entry) →
         IsSound air → IsLegal air journal → IsNeverStuck air journal }
 {}
 
-/// A journal in the serial order is legal, it is complete where the order ends, and there is one such
-/// journal at most.
+/// A law: a journal in the serial order is legal, and it is complete where the order ends. There is at most one such
+/// journal.
 pub fn serial_law()
     ensures legal { (air : Air) (journal : List Entry) →
         IsSound air → IsInOrder air journal → IsLegal air journal }
@@ -38,8 +38,8 @@ pub fn serial_law()
         IsSerial air one → IsSerial air two → one ≡ two }
 {}
 
-/// A legal journal has so many entries at most: a commit for each active aircraft and cycle; and for
-/// each cycle and ordered pair of aircraft of kind RA a send and three takes.
+/// A law: how many entries a legal journal has at most. Each active aircraft has a commit in each cycle. Each ordered
+/// pair of aircraft of kind RA has a send and three takes in each cycle.
 pub fn length_law()
     ensures { (air : Air) (journal : List Entry) →
         IsSound air → IsLegal air journal → IsBounded air journal }

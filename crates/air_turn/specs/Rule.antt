@@ -1,6 +1,6 @@
--- The rule of the table: what holds between any two atomic steps.
--- Word 0 is the number of tickets drawn, modulo 2 ^ 64, and word 1 the length of the journal. Then come the serving words:
--- each ticket that can be out has one, on which it stands once it is served. The one slot has the state.
+-- The rule of the table, a ticket lock: what holds between any two atomic steps. Word 0 is the number of tickets drawn,
+-- modulo 2 ^ 64. Word 1 is the length of the journal. Then come the serving words. Each ticket that can be out has one,
+-- and the ticket's number is written there once it is served. The one slot has the state.
 use Rattle.std.specs.Prelude.{◌≡◌, ◌≢◌, ℕ, ◌+◌, ◌%◌, ◌<◌, ◌≤◌, Bool, true, false, List, [], ◌∷◌, filter, length, slice_index, Option, Some}
 use Rattle.std.specs.List.{range_with_len}
 use mathlib.Core.Option.{some}
@@ -36,7 +36,7 @@ pub record IsState (e : Parts) (journal : List Entry) : Type 0 where
 unfoldable pub active_of : Parts → List ℕ
 active_of e = filter (is_active (air_of e)) (range_with_len 0 (length e.crafts))
 
--- What one turn may do to the journal: nothing, or an entry of the aircraft is added.
+-- What one turn may do to the journal: nothing, or it adds an entry of the aircraft.
 pub data Grows (own : ℕ) (journal : List Entry) : List Entry → ℕ → Type 0 where
   stays : Grows own journal journal 0
   adds : (entry : Entry) → owner_of entry ≡ own → Grows own journal (entry ∷ journal) 1
@@ -59,7 +59,7 @@ fresh journal (own ∷ owns) = claim own 0 journal 0 ∷ fresh journal owns
 abbrev pub at_start : State → Knowledge
 at_start s = knowledge s.encounter Idle (fresh s.journal (active_of s.encounter)) []
 
--- This is of a seat or a note, and not spent.
+-- These are the facts of a seat or of a note, and not of a spent one.
 abbrev pub Speaks : Knowledge → Type 0
 Speaks v = 1 ≤ length v.claims + length v.notes
 
@@ -83,16 +83,16 @@ made v = total (λ (c : Claim). c.made) v.claims
 abbrev pub weigh : (ℕ → ℕ) → Knowledge → ℕ
 weigh h v = total (λ (c : Claim). h c.own) v.claims
 
--- How many claims know the call n as the latest.
+-- How many claims know call n as the latest one.
 abbrev pub tops : ℕ → Knowledge → ℕ
 tops n v = total (λ (c : Claim). one n c.seen.count) v.claims
 
 module _ (journal : List Entry) (calls : ℕ) (reach : ℕ → ℕ) where
-  -- What was seen begins the journal, and has the length that this had after so many calls.
+  -- The journal that was seen begins this one, and its length is that of this one after so many calls.
   abbrev pub SeenFits : Seen → Type 0
   SeenFits s = Begins s.front journal × (s.count ≤ calls) × (length s.front ≡ reach s.count)
 
-  -- And the aircraft has no other entries.
+  -- The journal has no other entries of the aircraft, either.
   abbrev pub ClaimFits : Claim → Type 0
   ClaimFits c = SeenFits c.seen × (entries_of c.seen.front c.own ≡ entries_of journal c.own)
 
@@ -104,13 +104,13 @@ module _ (journal : List Entry) (calls : ℕ) (reach : ℕ → ℕ) where
   NotesFit [] = Unit {0}
   NotesFit (s ∷ ss) = SeenFits s × NotesFit ss
 
-  -- The first note of a seat that has just learned is what it knew before, with all entries of its aircraft.
+  -- A seat that has just learned has two notes. The first one is what it knew before, with all entries of its aircraft.
   abbrev pub OldFits : List Claim → List Seen → Type 0
   OldFits [] ss = Unit {0}
   OldFits (c ∷ cs) [] = Unit {0}
   OldFits (c ∷ cs) (s ∷ ss) = entries_of s.front c.own ≡ entries_of journal c.own
 
-  -- Who has a ticket has one claim. Who has the turn has the ticket that is served, is the one that holds the state, and
+  -- A seat with a ticket has one claim. The seat with the turn has the ticket that is served, holds the state, and
   -- knows the journal and the number of calls.
   abbrev pub StageFits : ℕ → Bool → ℕ → ℕ → ℕ → Stage → Type 0
   StageFits serving away holder seat claims Idle = Unit {0}
@@ -126,12 +126,13 @@ module _ (journal : List Entry) (calls : ℕ) (reach : ℕ → ℕ) where
     pub notes : NotesFit v.notes
     pub old : OldFits v.claims v.notes
 
--- The serving word of a ticket. No two tickets that are out have the same one, since there are no more than aircraft, and they
--- follow each other.
+-- The serving word of a ticket. No two tickets that are out have the same one: their numbers follow each other, and
+-- there are no more of them than aircraft.
 abbrev pub serving_word : ℕ → ℕ
 serving_word ticket = SERVING + ticket % CRAFTS
 
--- This ticket is served: it stands on its serving word, and none of the next ones does.
+-- This ticket is served: its number stands on its serving word. The number of no later ticket stands on that ticket's
+-- serving word.
 pub record IsServed (words : List ℕ) (ticket : ℕ) : Type 0 where
   pub own : slice_index words (serving_word ticket) ≡ ticket % 18446744073709551616
   pub next : (later : ℕ) → ticket < later → later < ticket + CRAFTS → slice_index words (serving_word later) ≢ later % 18446744073709551616
@@ -140,8 +141,8 @@ abbrev pub IsHolding : Stage → Type 0
 IsHolding (Holds k journal n) = Unit {0}
 IsHolding _ = ⊥
 
--- There is one journal, and there were so many calls. `reach` is the length of the journal after each call. The state is
--- in its slot, or `holder` has it.
+-- There is one journal, and there were `calls` calls. `reach` is the length of the journal after each call. The state
+-- is in its slot, or `holder` has it.
 pub record HoldsThroughout (e : Parts) (s : TableState (Option State) Knowledge) : Type 0 where
   pub journal : List Entry
   pub calls : ℕ
@@ -160,7 +161,7 @@ pub record HoldsThroughout (e : Parts) (s : TableState (Option State) Knowledge)
   pub owned : (h : ℕ → ℕ) → total (weigh h) s.views ≡ total h (active_of e)
   -- The calls are those that the seats have made.
   pub made_all : total made s.views ≡ calls
-  -- The tickets out are as many as the seats that wait, and are the next ones, each once.
+  -- As many tickets are out as seats wait or have the turn. Their numbers follow each other.
   pub queue : serving + total (λ (v : Knowledge). waits v.stage) s.views ≡ drawn
   pub out : (t : ℕ) → total (λ (v : Knowledge). has t v.stage) s.views ≡ between serving drawn t
   -- Somebody knows the latest call.

@@ -23,8 +23,8 @@ pub record SharedAir : Type 0 where
   pub table : TableId
   pub encounter : Parts
 
--- A seat: the table of its shared journal, its aircraft, the encounter, the journal that it has last seen, how many calls
--- it has made, and the place, from 1, of the latest call that it knows of among the calls of all seats.
+-- A seat: the table of its shared journal, its aircraft, the encounter, the journal that it has last seen, and how many
+-- calls it has made. `count` is the number, from 1, of the latest call that it knows of, among the calls of all seats.
 pub record SeatState : Type 0 where
   pub table : TableId
   pub own : ℕ
@@ -54,14 +54,15 @@ pub record IsSameSeat (old new : SeatState) : Type 0 where
   pub own : new.own ≡ old.own
   pub encounter : new.encounter ≡ old.encounter
 
--- The journal that a call sees is legal, begins with what the seat had seen, and has no other entries of its aircraft.
+-- The journal that a call sees is legal. It begins with what the seat had seen, and has no other entries of its
+-- aircraft.
 pub record CallSees (seat : SeatState) (journal : List Entry) : Type 0 where
   pub legal : IsLegal (air_of seat.encounter) journal
   pub front : Begins seat.front journal
   pub own : entries_of seat.front seat.own ≡ entries_of journal seat.own
 
--- A call of a seat, which does to the journal that it sees what `Does` says, from the journal before to the journal
--- after. The seat then has seen the journal after, has made one call more, and knows of a later one.
+-- A call of a seat. `Does` relates the journal that the call sees to the journal after it. After the call the seat has
+-- seen the journal after it, has made one call more, and knows of a later call.
 pub record Called (old : SeatState) (Does : List Entry → List Entry → Type 0) (new : SeatState) : Type 0 where
   pub journal : List Entry
   pub sees : CallSees old journal
@@ -70,7 +71,7 @@ pub record Called (old : SeatState) (Does : List Entry → List Entry → Type 0
   pub count : old.count < new.count
   pub same : IsSameSeat old new
 
--- The answers are those of the state, of the journal that the call sees.
+-- The answers are those of `AirState`, over the journal that the call sees.
 abbrev pub CommitsIn : SeatState → Commit → SeatState → Type 0
 CommitsIn old answer new = Called old (λ journal after. Commits (air_of old.encounter) journal old.own after answer) new
 
@@ -80,7 +81,7 @@ SendsIn old answer new = Called old (λ journal after. Sends (air_of old.encount
 abbrev pub TakesIn : SeatState → Took → SeatState → Type 0
 TakesIn old answer new = Called old (λ journal after. Takes (air_of old.encounter) journal old.own after answer) new
 
--- The seat has seen what it and the other had seen, and no other entry of its own aircraft.
+-- The seat has seen what it and the other seat had seen, and no other entry of its own aircraft.
 pub record Learns (old other new : SeatState) : Type 0 where
   pub legal : IsLegal (air_of new.encounter) new.front
   pub begins_own : Begins old.front new.front
@@ -99,7 +100,7 @@ pub record IsSeatOf (air : SharedAir) (seat : SeatState) : Type 0 where
 abbrev pub owns_of : List SeatState → List ℕ
 owns_of seats = map (λ (seat : SeatState). seat.own) seats
 
--- These are all its seats: each active aircraft has exactly one among them, in whatever order they are.
+-- These are all seats of the shared journal, in any order. Each active aircraft has exactly one.
 pub record AreAllSeats (air : SharedAir) (seats : List SeatState) : Type 0 where
   pub of : All (IsSeatOf air) seats
   pub owns : IsPermutation (owns_of seats) (active_of air.encounter)
@@ -120,8 +121,8 @@ NoneBeyond n (seat ∷ seats) = (seat.count ≤ n) × NoneBeyond n seats
 abbrev pub SomeAt : ℕ → List SeatState → Type 0
 SomeAt n seats = (k : ℕ) × (seat : SeatState) × (slice_get seats k ≡ Some seat) × (seat.count ≡ n)
 
--- What the seats, when all calls have ended, say of the journal: the calls that they made are as many as the greatest of
--- their counts, and who knows of a later call has seen no less.
+-- What the seats say of the journal when all calls have ended. The number of calls that they made is the greatest of
+-- their counts. A seat that knows of a later call has seen no less than another one.
 pub record Closes (seats : List SeatState) (journal : List Entry) : Type 0 where
   pub fronts : FrontsFit journal seats
   pub none_beyond : NoneBeyond (calls_made seats) seats

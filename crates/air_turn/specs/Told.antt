@@ -1,4 +1,4 @@
--- What each step tells its seat.
+-- What a seat knows after each step.
 use Rattle.std.specs.Prelude.{◌≡◌, ◌≢◌, ℕ, ◌+◌, ◌%◌, ◌≤◌, pos, List, [], ◌∷◌, ◌++◌, Option, Some, if◌then◌else◌, ltb}
 use Rattle.acas_base.specs.Encounter.{Parts, encounter_of}
 use Rattle.acas_base.specs.declared.entry.Entry.{Entry}
@@ -21,7 +21,7 @@ TurnStep = Step (Option State)
 abbrev pub Sitting : Type 0
 Sitting = Me (Option State) Knowledge
 
--- The seat of one aircraft between two calls, with a ticket, and with the turn.
+-- The seat of one aircraft between two calls; with a ticket; with the turn.
 abbrev pub resting : Parts → Claim → Sitting
 resting e c = (knowledge e Idle (c ∷ []) [], [])
 
@@ -49,22 +49,23 @@ abbrev pub first : List Claim → Claim
 first [] = claim 0 0 [] 0
 first (c ∷ cs) = c
 
--- A ticket was drawn.
+-- The seat drew a ticket.
 abbrev pub drew : TurnStep → Sitting → ℕ → Sitting → Type 0
 drew st m r m' = (k : ℕ) × (k % 18446744073709551616 ≡ r) × (m' ≡ (staged m.0 (Waits k), m.1))
 
--- A look at the seat's serving word: where its ticket stands there, the seat has the turn and the state.
+-- A look at the serving word of the seat's ticket. Where the ticket's number stands there, the seat has the turn and
+-- the state. Else nothing changes.
 abbrev pub looked : TurnStep → Sitting → ℕ → Sitting → Type 0
 looked st m r m' = (k : ℕ) → m.0.stage ≡ Waits k
     → (r ≡ k % 18446744073709551616 → (journal : List Entry) × (n : ℕ) × (m' ≡ (staged m.0 (Holds k journal n), (0, Some (state_of m.0.encounter journal)) ∷ m.1)) × Sees m.0.encounter (first m.0.claims) journal n)
     × (r ≢ k % 18446744073709551616 → m' ≡ m)
 
--- The call is counted, and its seat has seen what it left.
+-- The call was counted. The seat has seen the journal after the call.
 abbrev pub raised : List Entry → TurnStep → Sitting → ℕ → Sitting → Type 0
 raised now st m r m' = (k n : ℕ) (journal : List Entry) → m.0.stage ≡ Holds k journal n
     → m' ≡ (knowledge m.0.encounter (Holds k now (n + 1)) (called (first m.0.claims) now (n + 1) ∷ []) [], m.1)
 
--- The turn was given on.
+-- The seat gave the turn to the next ticket.
 abbrev pub gave : TurnStep → Sitting → ℕ → Sitting → Type 0
 gave st m r m' = m' ≡ (staged m.0 Idle, [])
 
@@ -79,11 +80,11 @@ without_first v = knowledge v.encounter v.stage (rest_of v.claims) v.notes
 abbrev pub first_alone : Knowledge → Knowledge
 first_alone v = knowledge v.encounter Idle (first v.claims ∷ []) []
 
--- A seat keeps all claims of both.
+-- One seat takes over the claims of another one.
 abbrev pub joined : Knowledge → Knowledge → Knowledge
 joined v w = knowledge v.encounter v.stage (v.claims ++ w.claims) v.notes
 
--- What is left of a seat that was joined to another one: it speaks for nobody.
+-- What is left of a seat that was joined to another one. It has no claim.
 abbrev pub spent : Knowledge
 spent = knowledge (encounter_of 0 0 (pos 0) (record { alpha = 0; beta = 0 }) (record { alpha = 0; beta = 0 }) [] [] [] [] []) Idle [] []
 
@@ -91,7 +92,7 @@ spent = knowledge (encounter_of 0 0 (pos 0) (record { alpha = 0; beta = 0 }) (re
 abbrev pub note_of : Knowledge → Knowledge
 note_of v = knowledge v.encounter Idle [] ((first v.claims).seen ∷ [])
 
--- What was seen later.
+-- What was seen later, of two.
 abbrev pub newer : Seen → Seen → Seen
 newer a b = if ltb a.count b.count then b else a
 
@@ -106,18 +107,18 @@ rest_notes (s ∷ ss) = ss
 abbrev pub learned : Claim → Seen → Claim
 learned c s = record c { seen = newer c.seen s }
 
--- The seat knows what the note knows, and remembers what each of the two knew.
+-- The seat now knows what the note knows, and remembers what each of the two knew.
 abbrev pub told : Knowledge → Knowledge → Knowledge
 told v w = let c = first v.claims in let s = first_note w.notes in knowledge v.encounter v.stage (learned c s ∷ []) (c.seen ∷ s ∷ [])
 
--- What is known now begins with both, and has nothing new of the aircraft since the first.
+-- The journal that is known now begins with both others. It has no entry of the aircraft that the first one lacks.
 pub record Knows (e : Parts) (craft : ℕ) (now a b : List Entry) : Type 0 where
   pub legal : IsLegal (air_of e) now
   pub first : Begins a now
   pub second : Begins b now
   pub own : entries_of now craft ≡ entries_of a craft
 
--- It was looked up that this is so.
+-- A look at the table confirmed what the seat now knows.
 abbrev pub confirmed : TurnStep → Sitting → ℕ → Sitting → Type 0
 confirmed st m r m' = (m' ≡ (knowledge m.0.encounter m.0.stage m.0.claims [], m.1))
     × Knows m.0.encounter (first m.0.claims).own (first m.0.claims).seen.front (first_note m.0.notes).front (first_note (rest_notes m.0.notes)).front

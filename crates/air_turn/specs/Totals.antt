@@ -1,7 +1,7 @@
 -- Sums over lists, and numbers that are 1 where something holds and 0 elsewhere.
 use Rattle.std.specs.Prelude.{ℕ, ◌+◌, ◌-◌, min, List, [], ◌∷◌}
 
--- f of each, added up.
+-- The sum of f over a list.
 abbrev pub total : {X : Type 0} → (X → ℕ) → List X → ℕ
 total f [] = 0
 total f (x ∷ xs) = f x + total f xs

@@ -51,11 +51,11 @@ abbrev pub calls_of : Stage → ℕ
 calls_of (Holds k journal n) = n
 calls_of _ = 0
 
--- The ticket that the seat has, as the table has it.
+-- The number of the seat's ticket, as a word of the table has it.
 abbrev pub HasTicket : Sitting → ℕ → Type 0
 HasTicket m ticket = ticket ≡ ticket_of m.0.stage % 18446744073709551616
 
--- The seat has the turn, and the state is in its hands.
+-- The seat has the turn, and has taken the state out of its slot.
 pub record HasTurn (old new : Sitting) (drawn : ℕ) (state : State) : Type 0 where
   pub ticket : ℕ
   pub calls : ℕ
@@ -64,7 +64,7 @@ pub record HasTurn (old new : Sitting) (drawn : ℕ) (state : State) : Type 0 wh
   pub encounter : state.encounter ≡ old.0.encounter
   pub sees : Sees old.0.encounter (first old.0.claims) state.journal calls
 
--- The seat has the turn, with the state in its hands, which has gone on from the journal of the turn.
+-- The seat has the turn and the state. The state's journal has grown from the journal of the turn.
 pub record GoneOn (m : Sitting) (state : State) (grew : ℕ) : Type 0 where
   pub turn : m ≡ holding m.0.encounter (first m.0.claims) (ticket_of m.0.stage) (journal_of m.0.stage) (calls_of m.0.stage) None
   pub encounter : state.encounter ≡ m.0.encounter
@@ -79,7 +79,7 @@ claim_after m state = called (first m.0.claims) state.journal (calls_of m.0.stag
 pub record Ended (old : Sitting) (state : State) (new : Sitting) : Type 0 where
   pub new_is : new ≡ holding old.0.encounter (claim_after old state) (ticket_of old.0.stage) state.journal (calls_of old.0.stage + 1) None
 
--- By how much a call has made the journal longer.
+-- How many entries a call has added to the journal.
 abbrev pub commit_growth : Commit → ℕ
 commit_growth (commit.Done position) = 1
 commit_growth _ = 0
@@ -92,7 +92,7 @@ abbrev pub take_growth : Took → ℕ
 take_growth (took.Done position good) = 1
 take_growth took.Nothing = 0
 
--- The place at the table that all these seats were joined to.
+-- The place at the table that took over the claims of all these seats.
 pub record Gathers (table : TableId) (m : Sitting) (seats : List SeatState) : Type 0 where
   pub idle : m ≡ (knowledge m.0.encounter Idle m.0.claims [], [])
   pub all : map (seat_of_claim table m.0.encounter) m.0.claims ≡ seats

@@ -29,7 +29,7 @@ impl Model for Air {
     ghost invariant = { λ a. IsOpen a.table.shared.table_id a.table.shared.key.value.encounter };
 }
 
-// By how much a call has made the journal longer.
+// How many entries a call has added to the journal.
 fn commit_grew(answer: &Commit) -> u64
     ensures { result ≡ commit_growth answer.now }
 {
@@ -59,7 +59,7 @@ fn take_grew(answer: &Took) -> u64
 
 impl Air {
     /// Commits the next cycle of the seat's aircraft, or says what hinders it, as `AirState::commit` does. The picture
-    /// has to be that of its next cycle, where it has cycles left. It waits for its turn.
+    /// has to be that of the aircraft's next cycle, where it has cycles left. The call waits for its turn.
     pub fn commit<R: Wait>(&self, rt: &R, seat: &mut Seat, pic: &Picture) -> Commit
         requires of { IsSeatOf self.now seat.old }
         requires picture { IsNextPicture seat.old pic.now }
@@ -72,8 +72,8 @@ impl Air {
         answer
     }
 
-    /// Sends the first message that the seat's aircraft owes, where it owes one, as `AirState::send` does. It waits for
-    /// its turn.
+    /// Sends the first message that the seat's aircraft owes, where it owes one, as `AirState::send` does. The call
+    /// waits for its turn.
     pub fn send<R: Wait>(&self, rt: &R, seat: &mut Seat) -> Sent
         requires of { IsSeatOf self.now seat.old }
         ensures { SendsIn seat.old result seat.new }
@@ -85,8 +85,8 @@ impl Air {
         answer
     }
 
-    /// Takes the first copy that is due to the seat's aircraft, where one is, as `AirState::take` does. It waits for its
-    /// turn.
+    /// Takes the first copy that is due to the seat's aircraft, where one is due, as `AirState::take` does. The call
+    /// waits for its turn.
     pub fn take<R: Wait>(&self, rt: &R, seat: &mut Seat) -> Took
         requires of { IsSeatOf self.now seat.old }
         ensures { TakesIn seat.old result seat.new }
@@ -98,7 +98,7 @@ impl Air {
         answer
     }
 
-    /// Tells a seat what another one has seen. It waits for nobody, and makes no call.
+    /// Lets a seat know what another one has seen. It waits for nobody, and counts as no call.
     pub fn learn(&self, seat: &mut Seat, other: &mut Seat)
         requires seat { IsSeatOf self.now seat.old }
         requires other { IsSeatOf self.now other.old }

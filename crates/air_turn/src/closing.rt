@@ -33,7 +33,8 @@ fn gather(table: &TurnTable, mut seats: Vec<Seat>) -> TurnSeat
 }
 
 impl Air {
-    /// Gives the state back, when all calls have ended. These have to be all seats of this shared journal, in any order.
+    /// Gives the state back, when all calls have ended. `seats` has to be all seats of this shared journal, in any
+    /// order.
     pub fn close(self, seats: Vec<Seat>) -> AirState
         requires { AreAllSeats self seats.items }
         ensures encounter { result.encounter ≡ self.encounter }

@@ -53,7 +53,7 @@ impl Air {
         Ok((air, seats))
     }
 
-    // Splits a seat for each of the aircraft off the first place. What is left of it speaks for none.
+    // Splits a seat for each of the aircraft off the first place. What is left of the place has no claim.
     fn seat_all(
         &self,
         alloc: Global,

@@ -49,11 +49,12 @@ impl Seat {
         self.own
     }
 
-    /// A law: the encounter is one, inside the box, the aircraft is active in it, and the journal that the seat has
-    /// last seen is legal.
+    /// A law: the seat's encounter is an encounter and inside the box, its aircraft is active in it, and the journal
+    /// that it has last seen is legal.
     pub fn seat_law(&self)
         ensures { IsSeat self.now }
     {
+        // For the proof: a field is read, so the invariant is known.
         let _ = &self.place;
     }
 }

@@ -1,4 +1,4 @@
-// What each step on the table tells its seat.
+// The atomic steps on the table. After each its seat knows what `specs/Told` says.
 ghost use Rattle.air_turn.specs.Told.{confirmed, drew, first_alone, gave, joined, looked, note_of, raised, spent, told, without_first};
 
 use crate::view::Knowledge;
@@ -6,7 +6,7 @@ use air_journal::AirState;
 use atomic_table::{Join, Play, Split};
 use std::marker::{Brand, PhantomData};
 
-/// A ticket is drawn.
+/// The seat draws a ticket.
 pub(crate) struct Draw;
 
 impl Play<Option<AirState>, Knowledge> for Draw {
@@ -20,7 +20,7 @@ impl Play<Option<AirState>, Knowledge> for Look {
     ghost then = { looked };
 }
 
-/// The journal after a call.
+/// A ghost value that names the journal after a call.
 pub(crate) trait After {
     ghost use Rattle.std.specs.Prelude.{List};
     ghost use Rattle.acas_base.specs.declared.entry.Entry.{Entry};
@@ -34,7 +34,7 @@ impl After for Brand {
     ghost journal = { [] };
 }
 
-/// The call is counted, and the journal is now this.
+/// The call is counted. The journal is now the one that `N` names.
 pub(crate) struct Raise<N> {
     after: PhantomData<N>,
 }
@@ -43,21 +43,21 @@ impl<N: After> Play<Option<AirState>, Knowledge> for Raise<N> {
     ghost then = { raised N.journal };
 }
 
-/// The turn is given on.
+/// The seat gives the turn to the next ticket.
 pub(crate) struct Give;
 
 impl Play<Option<AirState>, Knowledge> for Give {
     ghost then = { gave };
 }
 
-/// A look by which a seat that was told of a note knows what it now has seen.
+/// A look at the table. It confirms what a seat knows after it learned from a note.
 pub(crate) struct Confirm;
 
 impl Play<Option<AirState>, Knowledge> for Confirm {
     ghost then = { confirmed };
 }
 
-/// The first aircraft gets a seat of its own.
+/// The first claim of a seat goes to a seat of its own.
 pub(crate) struct SplitFirst;
 
 impl Split<Knowledge> for SplitFirst {
@@ -66,7 +66,7 @@ impl Split<Knowledge> for SplitFirst {
     ghost right = { first_alone };
 }
 
-/// All aircraft of both are kept in one seat.
+/// One seat takes over the claims of another one.
 pub(crate) struct JoinSeats;
 
 impl Join<Knowledge> for JoinSeats {

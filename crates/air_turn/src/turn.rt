@@ -1,4 +1,4 @@
-// One turn: a seat waits for it, has the state, and gives it on.
+// One turn: a seat waits for it, has the state, and gives it back.
 ghost use Rattle.std.specs.Prelude.{◌≡◌, ◌<◌};
 ghost use Rattle.air_turn.specs.Rule.{serving_word};
 ghost use Rattle.air_turn.specs.Told.{first, resting};
@@ -29,8 +29,8 @@ fn serving_word(ticket: u64) -> usize
 }
 
 impl Air {
-    /// Draws a ticket, waits until it is served, and takes the state. Between two looks it parks on the serving word of
-    /// its ticket.
+    /// Draws a ticket, waits until the ticket is served, and takes the state. Between two looks it parks on the
+    /// ticket's serving word.
     pub(crate) fn enter<R: Wait>(&self, rt: &R, place: &mut TurnSeat) -> Turn
         requires table { place.old.table_id ≡ self.now.table }
         requires idle { place.old.me ≡ resting place.old.me.0.encounter (first place.old.me.0.claims) }
@@ -54,7 +54,7 @@ impl Air {
         unreachable!()
     }
 
-    // The call is counted: the journal is now that of the state.
+    // The call is counted. The journal is now that of the state.
     fn raise<N: After>(&self, place: &mut TurnSeat, state: &AirState, grew: u64)
         requires table { place.old.table_id ≡ self.now.table }
         requires gone_on { GoneOn place.old.me state.now grew }
@@ -65,8 +65,8 @@ impl Air {
         self.table.shared.fetch_add::<Raise<N>>(place, LENGTH, grew);
     }
 
-    /// Counts the call, puts the state back, gives the turn on and wakes the others that wait for it. The journal has grown
-    /// by so many entries, one or none.
+    /// Counts the call, puts the state back, lets the next ticket be served, and wakes the seats that wait for it. The
+    /// journal has grown by `grew` entries, one or none.
     pub(crate) fn leave(&self, place: &mut TurnSeat, turn: Turn, grew: u64)
         requires table { place.old.table_id ≡ self.now.table }
         requires ticket { HasTicket place.old.me turn.ticket }

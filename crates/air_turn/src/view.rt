@@ -1,4 +1,5 @@
-// The words of the table, and what a seat at it knows. No value of it is made: the table keeps it for the contracts alone.
+// The words of the table, and what a seat at it knows. No value of `Knowledge` is made: the table keeps it for the
+// contracts alone.
 use acas_base::{CRAFTS, Encounter, Entry};
 use air_journal::AirState;
 use atomic_table::{Table, TableRule};
@@ -24,7 +25,7 @@ pub struct Seen {
     pub count: u64,
 }
 
-/// What the seat of one aircraft has: how many calls it made, and what it has seen.
+/// What the seat of one aircraft has: how many calls it has made, and what it has seen.
 pub struct Claim {
     pub own: u8,
     pub made: u64,
@@ -41,8 +42,8 @@ pub enum Stage {
     Holds(u64, LinkedList<Entry>, u64),
 }
 
-/// What a seat knows: the encounter, its stage, and what it speaks for. That is the claim of one aircraft for
-/// a seat, those of several while the table is opened and closed, and none for a note.
+/// What a seat knows: the encounter, its stage, its claims and its notes. A seat has the claim of one aircraft. While
+/// the table is opened and closed, a seat may have the claims of several. A note has no claim.
 pub struct Knowledge {
     pub encounter: Encounter,
     pub stage: Stage,

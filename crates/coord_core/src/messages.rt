@@ -15,7 +15,7 @@ fn complement_of(sense: Sense) -> Vrc
     }
 }
 
-// What a message cancels that sets `vrc` after `said`.
+// What a message cancels that sets `vrc` where `said` was said before.
 fn cancelled_complement(said: Vrc, vrc: Vrc) -> Vrc
     ensures { result ≡ cancelled_complement said vrc }
 {
@@ -32,7 +32,7 @@ fn cancelled_complement(said: Vrc, vrc: Vrc) -> Vrc
     }
 }
 
-// The cancel of what was said; none where nothing was.
+// The message that cancels what was said; none where nothing was said.
 fn cancel_of(said: Vrc, many: bool, own: Address) -> Option<ResMsg>
     ensures { result ≡ cancel_of said many own }
 {
@@ -47,12 +47,13 @@ fn cancel_of(said: Vrc, many: bool, own: Address) -> Option<ResMsg>
     }
 }
 
-/// The message that an aircraft owes another one after a commit, `cell` being its cell for that one and
-/// `said` the complement of the last message that it sent to it (ICAO Annex 10 vol. IV, 4.3).
+/// The message that an aircraft owes another one after a commit (ICAO Annex 10 vol. IV, 4.3). `cell` is its cell for
+/// the other one. `said` is the complement that its last message to the other one set. `many` says that the commit has
+/// two or more advisories.
 ///
-/// With an advisory it is the complement of its sense, and it cancels another one that was said before.
-/// Without an advisory it is a cancel of what was said. None where nothing is owed: without an advisory
-/// and with nothing said. `many` tells that the commit has two or more advisories.
+/// With an advisory the message sets the complement of its sense, and cancels the other complement where that was said.
+/// Without an advisory it cancels what was said. None where nothing is owed: without an advisory, and with nothing
+/// said.
 pub fn next_message(cell: &Cell, said: Vrc, many: bool, own: Address) -> Option<ResMsg>
     ensures { result ≡ message_for cell.now said many own }
 {

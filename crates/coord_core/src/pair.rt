@@ -8,10 +8,10 @@ use reversal::turns;
 use sense_pick::pick;
 use strength_pick::{least, next_strength};
 
-// The age in cycles from which an advisory doesn't outlive its threat.
+// From this age on, in cycles, an advisory ends where there is no threat.
 const ENDS_FROM: u16 = 5;
 
-// The sense of a new advisory: a complement in force binds it, whatever the rank.
+// The sense in which an advisory starts. A complement in force decides it, whatever the rank.
 fn starting_sense(view: &View, rac: Vrc) -> Sense
     ensures { result ≡ starting_sense view.now rac }
 {
@@ -29,7 +29,7 @@ fn crosses(view: &View, sense: Sense) -> bool
     sense != view.side
 }
 
-// An advisory; it is corrective where own rate doesn't meet its floor.
+// An advisory. It is corrective where own rate doesn't meet its floor.
 fn advisory(
     view: &View,
     sense: Sense,
@@ -91,8 +91,8 @@ fn continuation_of(prev: &Intent, view: &View) -> Cell
     )
 }
 
-/// Whether an advisory that goes on changes its sense: that of a `Second` aircraft where the complement forbids it, that
-/// of any other once, by a geometric reversal.
+/// Whether an advisory that goes on changes its sense. A `Second` aircraft changes it where the complement in force
+/// forbids it. Any other aircraft changes it once, by a geometric reversal.
 pub fn changes_sense(prev: &Intent, view: &View, rac: Vrc, rank: Rank) -> bool
     ensures { result ≡ changes_sense prev.now view.now rac rank }
 {
@@ -102,7 +102,8 @@ pub fn changes_sense(prev: &Intent, view: &View, rac: Vrc, rank: Rank) -> bool
     }
 }
 
-// A geometric reversal is noted, and not made a second time; obeying a complement is none.
+// A geometric reversal is noted, and isn't made a second time. A change of sense for a complement isn't a geometric
+// reversal.
 fn is_turned_after(prev: &Intent, rank: Rank) -> bool
     ensures { result ≡ is_turned_after prev.now rank }
 {
@@ -123,7 +124,7 @@ fn continuing_cell(prev: &Intent, view: &View, rac: Vrc, rank: Rank) -> Cell
     }
 }
 
-// No resolution advisory.
+// The cell without a resolution advisory.
 fn traffic_cell(view: &View) -> Cell
     ensures { result ≡ traffic_cell view.now }
 {
@@ -144,8 +145,8 @@ fn starting_cell(view: &View, rac: Vrc) -> Cell
     }
 }
 
-/// Whether an advisory ends: own aircraft doesn't resolve any more, or the advisory is at least five cycles old and there is no
-/// threat.
+/// Whether an advisory ends: own aircraft doesn't resolve any more, or the advisory is at least five cycles old and
+/// there is no threat.
 pub fn ends(prev: &Intent, view: &View) -> bool
     ensures { result ≡ ends prev.now view.now }
 {
@@ -168,20 +169,19 @@ fn cell_after(prev: &Cell, view: &View, rac: Vrc, rank: Rank) -> Cell
     }
 }
 
-/// The next cell of an aircraft for another one (FAA, Introduction to TCAS II v7.1; ICAO Annex 10 vol.
-/// IV, 4.3; with the details of this project's profile).
+/// The next cell of an aircraft for another one (FAA, Introduction to TCAS II v7.1; ICAO Annex 10 vol. IV, 4.3; with
+/// the details of this project's profile).
 ///
-/// It follows from the cell before, the present view, the complement in force from the other one (`Nil`
-/// where none is) and the rank against it. An advisory before has to be younger than the 600 cycles of a
-/// longest run.
+/// It follows from the cell before, the present view, the complement in force from the other one (`Nil` where none is)
+/// and the rank against it. An advisory before has to be younger than the 600 cycles of a longest run.
 ///
 /// - Without tracks it is Clear.
-/// - A threat begins an advisory. A complement in force binds its sense, whatever the rank; else the
-///   choice is free.
-/// - An advisory ends where own aircraft doesn't resolve any more, and from an age of five cycles on
-///   where there is no threat. Else it goes on. A `Second` aircraft changes its sense where the
-///   complement forbids it; any other does so once, by a geometric reversal.
-/// - Where no advisory begins or goes on, it is Traffic where those tests hold, else Clear.
+/// - A threat starts an advisory. A complement in force decides its sense, whatever the rank. Without one it starts in
+///   the chosen sense.
+/// - An advisory ends where own aircraft doesn't resolve any more, and from an age of five cycles on where there is no
+///   threat. Else it goes on. A `Second` aircraft changes its sense where the complement forbids it. Any other aircraft
+///   does so once, by a geometric reversal.
+/// - Where no advisory starts or goes on, it is Traffic where the tests of a traffic advisory hold, else Clear.
 pub fn next_cell(prev: &Cell, view: &View, rac: Vrc, rank: Rank) -> Cell
     requires { (intent : Intent) → prev.now ≡ Cell.Ra intent → intent.age < 600 }
     ensures { result ≡ following_cell prev.now view.now rac rank }

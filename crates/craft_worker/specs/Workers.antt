@@ -10,18 +10,19 @@ use Rattle.craft_view.specs.Kept.{Belongs}
 use Rattle.craft_view.specs.Views.{picture_of}
 use Rattle.craft_worker.specs.declared.worker.Worker.{Worker}
 
--- The journal that the seat has last seen is legal, has every commit of the seat's aircraft, and the aircraft owes
--- nothing there.
+-- The journal that the seat has last seen is legal and has every commit of the seat's aircraft. In it the aircraft owes
+-- nothing.
 pub record HasPlayed (seat : SeatState) : Type 0 where
   pub legal : IsLegal (air_of seat.encounter) seat.front
   pub done : IsDone (air_of seat.encounter) seat.front seat.own
 
--- Where all seats of a shared journal have played, each journal that has all entries of each is complete.
+-- All seats of a shared journal have played. Then each journal that has all entries of each seat's aircraft is
+-- complete.
 abbrev pub CompletesJournal : Type 0
 CompletesJournal = (air : SharedAir) (seats : List SeatState) (journal : List Entry) →
     AreAllSeats air seats → All HasPlayed seats → FrontsFit journal seats → IsComplete (air_of air.encounter) journal
 
--- The aircraft has looked in its next cycle, and kept the picture.
+-- The aircraft has looked in its next cycle, and the worker has kept the picture.
 pub record HasLookedOn (e : Parts) (worker : Worker) : Type 0 where
   pub cycle : worker.craft.cycle ≡ worker.made + 1
   pub picture : worker.picture ≡ picture_of e worker.seat.own (worker.made + 1)
@@ -33,7 +34,7 @@ pub record IsWorkerOf (air : SharedAir) (e : Parts) (worker : Worker) : Type 0 w
   pub belongs : Belongs e worker.craft
   pub own : worker.craft.own ≡ worker.seat.own
 
--- It has counted its aircraft's commits, and has looked in the next cycle, where there is one.
+-- It has counted its aircraft's commits. It has looked in the next cycle, where there is one.
 pub record IsReady (air : SharedAir) (e : Parts) (worker : Worker) : Type 0 where
   pub is : IsWorkerOf air e worker
   pub made : worker.made ≡ commits worker.seat.front worker.seat.own
@@ -47,7 +48,7 @@ pub record HasCommitted (air : SharedAir) (e : Parts) (worker : Worker) : Type 0
   pub left : worker.made < e.cycles
   pub cycle : worker.craft.cycle ≡ worker.made + 1
 
--- The same seat went on, and its worker is ready again.
+-- The seat is the same, and its worker is ready again.
 pub record GoesOn (air : SharedAir) (e : Parts) (old new : Worker) : Type 0 where
   pub same : IsSameSeat old.seat new.seat
   pub ready : IsReady air e new
@@ -58,13 +59,13 @@ pub record MakesNoCommit (air : SharedAir) (e : Parts) (old new : Worker) : Type
   pub goes_on : GoesOn air e old new
   pub made : new.made ≡ old.made
 
--- It worked: where it says that it is done, it is.
+-- It worked. Where it says that it is done, its seat has played.
 pub record Worked (air : SharedAir) (e : Parts) (old new : Worker) : Type 0 where
   pub same : IsSameSeat old.seat new.seat
   pub ready : IsReady air e new
   pub told : new.done ≡ true → HasPlayed new.seat
 
--- Of each worker.
+-- Each worker has the same seat as before.
 abbrev pub EachSame : List Worker → List Worker → Type 0
 EachSame ws us = (k : ℕ) (d : Worker) → k < length ws → IsSameSeat (slice_index_or ws k d).seat (slice_index_or us k d).seat
 

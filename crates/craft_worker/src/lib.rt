@@ -1,5 +1,5 @@
-//! What drives an encounter through its run: `serial` in one fixed order, and `play` with an activity of its own for
-//! each active aircraft, over one shared journal (`specs/Workers`).
+//! What plays an encounter to its end. `serial` does so in one fixed order. `play` has a worker for each active
+//! aircraft, over one shared journal (`specs/Workers`).
 #![tactic(auto)]
 
 mod rounds;

@@ -9,8 +9,8 @@ use air_turn::Air;
 use std::sync::Wait;
 use std::thread::{Threads, for_each_mut};
 
-// One round: each worker works in a thread of its own, where one can be made. The list of workers is halved until one is
-// left.
+// One round: each worker works in a thread of its own, where a thread can be made. The list of workers is halved until
+// one is left.
 fn round<R: Threads + Wait + Sync, P: Pause + Sync>(
     rt: &R,
     air: &Air,

@@ -8,9 +8,9 @@ use acas_base::Encounter;
 use air_journal::AirState;
 use resume::{fill, filled_law};
 
-/// Plays the serial journal of the encounter of a state, whose journal has to be empty. It goes by
-/// rounds: every active aircraft commits, in order of index; then all owed messages are sent, by sender
-/// and receiver; then all due copies are taken, by receiver, position and copy.
+/// Plays the serial journal of the encounter of a state, whose journal has to be empty. It goes by rounds. Every active
+/// aircraft commits, in order of index. Then all owed messages are sent, by sender and receiver. Then all due copies
+/// are taken, by receiver, position and copy.
 pub fn serial(state: &mut AirState, enc: &Encounter)
     requires same { state.old.encounter ≡ enc.now }
     requires empty { state.old.journal ≡ [] }

@@ -39,10 +39,12 @@ fn take_seats_back(workers: Vec<Worker>, seats: &mut Vec<Seat>)
     }
 }
 
-/// Plays an encounter over a shared journal that is empty: each active aircraft has a worker of its own, which sends what
-/// the aircraft owes, takes what is due to it and commits, and all work at once, in rounds, until all are done. In what
-/// order their entries fall is nobody's choice. These have to be all seats of the shared journal; they come back in the
-/// order in which they were. Where memory is wanting, no call was made.
+/// Plays an encounter over a shared journal that is empty. Each active aircraft has a worker of its own, which sends
+/// what the aircraft owes, takes what is due to it, and commits. All work at once, in rounds, until all are done.
+/// Nobody chooses the order of their entries. `seats` has to be all seats of the shared journal. They come back in the
+/// order in which they were.
+///
+/// The error says that memory was wanting. Then no call was made.
 pub fn play<R: Threads + Wait + Sync, P: Pause + Sync>(
     rt: &R,
     alloc: Global,

@@ -28,7 +28,7 @@ pub(crate) struct Worker {
     pub done: bool,
 }
 
-// As many tries in a row that find others behind end a round.
+// A round of a worker ends after so many tries in a row that find another aircraft behind.
 const TRIES: u32 = 64;
 
 impl Worker {
@@ -44,6 +44,7 @@ impl Worker {
         seat.seat_law();
         let mut craft = Craft::new(enc, seat.own());
         let picture = craft.look(enc);
+        // For the proof: the contract alone names the shared journal.
         let _ = air;
         Worker {
             seat,
@@ -93,10 +94,11 @@ impl Worker {
         if self.made < enc.cycles() {
             self.picture = self.craft.look(enc);
         }
+        // For the proof: the contract alone names the shared journal.
         let _ = air;
     }
 
-    // Tries to commit the next cycle, of which there has to be one.
+    // Tries to commit the next cycle. There has to be one.
     fn commit<R: Wait, P: Pause>(&mut self, rt: &R, air: &Air, enc: &Encounter, pause: &P) -> Commit
         requires ready { IsReady air.now enc.now self.old }
         requires left { self.old.made < enc.now.cycles }
@@ -112,7 +114,7 @@ impl Worker {
     }
 
     /// Sends what the aircraft owes, takes what is due to it and commits, until all its cycles are over and it owes
-    /// nothing, or until so many tries in a row found others behind.
+    /// nothing, or until `TRIES` tries in a row found another aircraft behind.
     pub(crate) fn work<R: Wait, P: Pause>(&mut self, rt: &R, air: &Air, enc: &Encounter, pause: &P)
         requires { IsReady air.now enc.now self.old }
         ensures { Worked air.now enc.now self.old self.new }

@@ -27,7 +27,7 @@ const DOWN: Cell = Cell::Ra(Intent {
     corrective: true,
 });
 
-// A cell, what was said, and what the message that is owed cancels and sets.
+// A cell, what was said, and what the owed message cancels and sets.
 type Owed = (Cell, Vrc, Option<(Vrc, Vrc)>);
 
 const OWED: [Owed; 5] = [
@@ -56,7 +56,7 @@ fn is_owed(own: Address, row: &Owed) -> bool {
     next_message(&cell, said, false, own) == message
 }
 
-// The place of the first row of which something else is owed.
+// The place of the first row where something else is owed.
 fn first_other(own: Address, rows: &[Owed]) -> Option<usize> {
     for place in 0..rows.len() {
         if !is_owed(own, &rows[place]) {
@@ -73,7 +73,7 @@ fn owes_messages(rt: HostRuntime) -> Result<(), Fail> {
     Ok(())
 }
 
-// A threat on the level, 100 ft below.
+// A threat at own level, 100 ft below.
 const THREAT: View = View {
     tested: true,
     traffic: true,

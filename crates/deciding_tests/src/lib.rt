@@ -1,4 +1,4 @@
-//! Tests of the public calls of the crates that stand on the floor deciding. The floor rules has laws alone.
+//! Tests of the public calls of the crates of the floor deciding. The floor rules has laws alone.
 #![tactic(auto)]
 
 #[cfg(test)]

@@ -57,7 +57,7 @@ fn unread(word: u64) -> u16 {
     count
 }
 
-// The first message that some of these 92 masks don't spoil.
+// The first message that some of these 92 masks leave readable.
 fn first_read() -> Result<Option<(bool, Vrc, Vrc)>, Fail> {
     for many in [false, true] {
         for cancel in ALL {

@@ -38,7 +38,7 @@ const ROWS: [Row; 4] = [
     (8, 599, 599, false),
 ];
 
-// The place of the first row of which this doesn't hold.
+// The place of the first row that doesn't hold.
 fn first_other(rows: &[Row]) -> Option<usize> {
     for place in 0..rows.len() {
         let (halves, up, down, is_called_for) = rows[place];

@@ -4,8 +4,8 @@ use sense_pick::pick;
 
 const FOOT: i64 = 1024;
 
-// A view from above of an aircraft, with ALIM 600 ft, whose strongest fresh strength gives `up` or
-// `down`, in 1/1024 ft.
+// A view of an aircraft from above it, with ALIM 600 ft. The strongest fresh strength gives `up` or `down`, in 1/1024
+// ft.
 fn view(up: i64, down: i64, climbs: bool) -> View {
     let first = Seps {
         up: [0, 0, 0, 0, up, 0],
@@ -39,7 +39,7 @@ const ROWS: [Row; 5] = [
     (600 * FOOT, 900 * FOOT, false, Sense::Down),
 ];
 
-// The place of the first row of which the sense is another one.
+// The place of the first row with another sense.
 fn first_other(rows: &[Row]) -> Option<usize> {
     for place in 0..rows.len() {
         let (up, down, climbs, sense) = rows[place];

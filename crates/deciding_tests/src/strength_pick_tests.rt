@@ -44,7 +44,7 @@ fn is_so(row: Row) -> bool {
     allowed(&view(rate, agl, climbs), sense, strength, true) == is_allowed
 }
 
-// The place of the first row of which this doesn't hold.
+// The place of the first row that doesn't hold.
 fn first_other(rows: &[Row]) -> Option<usize> {
     for place in 0..rows.len() {
         if !is_so(rows[place]) {
