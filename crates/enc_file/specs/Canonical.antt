@@ -5,8 +5,8 @@ use Rattle.acas_base.specs.Encounter.{Parts}
 use Rattle.acas_lines.specs.Lines.{joined}
 use Rattle.enc_file.specs.Spelling.{header_record, run_record, gains_record, craft_record, climb_records, leg_record, miss_record, plan_record, fate_record, end_record, line_of}
 
--- All records of an encounter: the version, the run and the gains; the aircraft, and the ceilings of those that have one;
--- legs, misses, plans and fates in the order in which the encounter has them; the end.
+-- All records of an encounter, in this order: the version, the run and the gains; the aircraft; the ceilings of the
+-- aircraft that have one; the legs, misses, plans and fates, each list in the encounter's order; the end.
 abbrev pub canonical_records : Parts → List (List (List ℕ))
 canonical_records e =
     header_record e.version ∷ run_record e.cycles e.elevation ∷ gains_record e.range e.altitude ∷ [] ++ map craft_record e.crafts ++ flat_map climb_records e.crafts

@@ -1,5 +1,5 @@
--- The faults of a record as the rules state them: one condition for each code. A condition asks for the fields that it is
--- about and for what the earlier records say, whatever else is wrong with the record.
+-- The faults of a record as the rules state them: one condition for each code. A condition looks at the fields that it
+-- is about and at what the earlier records say. It doesn't matter what else is wrong with the record.
 use Rattle.std.specs.Prelude.{◌≡◌, ℕ, ◌+◌, ◌==◌, ◌<◌, ◌&&◌, ◌||◌, not, nat_le, nat_lt, if◌then◌else◌, Bool, true, false, pos, neg_ℤ, List, [], ◌∷◌, length, find, codes, Option, Some, None, is_none, is_some, count_ones, slice_get, take, Result, Ok}
 use Rattle.std.specs.List.{list_any}
 use Rattle.std.specs.Str.{bytes_eq}
@@ -40,7 +40,7 @@ kind_word PlanKind = codes "plan"
 kind_word FateKind = codes "fate"
 kind_word EndKind = codes "end"
 
--- The kinds of a format. Ceilings and plans are of format 2 alone.
+-- The kinds of records of a format. Format 2 alone has ceilings and plans.
 abbrev pub kinds_of : ℕ → List RecordKind
 kinds_of version = RunKind ∷ GainsKind ∷ CraftKind ∷ LegKind ∷ MissKind ∷ FateKind ∷ EndKind ∷ (if version == 2 then ClimbKind ∷ PlanKind ∷ [] else [])
 
@@ -48,7 +48,7 @@ kinds_of version = RunKind ∷ GainsKind ∷ CraftKind ∷ LegKind ∷ MissKind 
 abbrev pub kind_named : ℕ → List ℕ → Option RecordKind
 kind_named version name = find (λ kind. bytes_eq name (kind_word kind)) (kinds_of version)
 
--- How many fields a record of a kind may have. A copy has two, and there are none to three.
+-- How many fields a record of a kind may have. A copy has two fields, and there are none to three copies.
 abbrev pub counts_of : RecordKind → List ℕ
 counts_of RunKind = 3 ∷ []
 counts_of GainsKind = 5 ∷ []
@@ -68,18 +68,18 @@ abbrev pub if_said : {X : Type 0} → Option X → (X → Bool) → Bool
 if_said None test = false
 if_said (Some x) test = test x
 
--- The field at a place is no number from -low to high, or none from low to high.
+-- The field at a place is no number from -low to high. For `no_count` it is no number from low to high.
 abbrev pub no_number : List (List ℕ) → ℕ → ℕ → ℕ → Bool
 no_number fields place low high = is_none (number_in (neg_ℤ (pos low)) (pos high) (field fields place))
 
 abbrev pub no_count : List (List ℕ) → ℕ → ℕ → ℕ → Bool
 no_count fields place low high = is_none (count_in low high (field fields place))
 
--- Two fields say cycles of which the second is below the first.
+-- Two fields say cycles, and the second cycle is before the first.
 abbrev pub is_turned : List (List ℕ) → ℕ → ℕ → Bool
 is_turned fields first second = if_said (count_in 1 600 (field fields first)) (λ from. if_said (count_in 1 600 (field fields second)) (λ to. nat_lt to from))
 
--- There are two fields from a place on, and they are no HOLD and MASK.
+-- There are two fields from a place on, and they aren't a HOLD and a MASK.
 abbrev pub no_copy_at : List (List ℕ) → ℕ → Bool
 no_copy_at fields place = nat_lt (place + 1) (length fields) && is_none (copy_in (field fields place) (field fields (place + 1)))
 
@@ -115,7 +115,7 @@ is_address_wrong PlanKind fields = no_pair fields
 is_address_wrong FateKind fields = no_pair fields
 is_address_wrong other fields = false
 
--- An aircraft with this address was given; one that has a ceiling.
+-- An aircraft with this address was given. For `has_climb` it also has a ceiling.
 abbrev pub is_given : List Record → ℕ → Bool
 is_given earlier address = list_any (λ (craft : CraftSpec). craft.address == address) (crafts_of earlier)
 
@@ -150,7 +150,7 @@ is_fate_since pair number other = false
 abbrev pub if_pair : List (List ℕ) → (Addresses → Bool) → Bool
 if_pair fields test = if_said (address_in (field fields 1)) (λ first. if_said (address_in (field fields 2)) (λ second. test (record { first = first; second = second })))
 
--- What it gives was given before, or doesn't come after what was given before.
+-- The record gives what was given before, or it doesn't come after what was given before.
 abbrev pub is_repeat : List Record → RecordKind → List (List ℕ) → Bool
 is_repeat earlier RunKind fields = is_some (run_of earlier)
 is_repeat earlier GainsKind fields = is_some (gains_of earlier)
@@ -166,7 +166,7 @@ is_repeat earlier EndKind fields = false
 abbrev pub is_stranger : List Record → List (List ℕ) → ℕ → Bool
 is_stranger earlier fields place = if_said (address_in (field fields place)) (λ address. not (is_given earlier address))
 
--- One of the two does, or they are equal.
+-- One of the two addresses names no earlier aircraft, or they are equal.
 abbrev pub is_pair_unknown : List Record → List (List ℕ) → Bool
 is_pair_unknown earlier fields = is_stranger earlier fields 1 || (is_stranger earlier fields 2 || if_pair fields (λ pair. pair.first == pair.second))
 
@@ -205,7 +205,8 @@ abbrev pub is_first : List Record → Bool
 is_first [] = true
 is_first (last ∷ earlier) = false
 
--- A test of the fields of a record after the header and before the end; of its kind and its fields.
+-- A test of the fields of a record after the header and before the end. `if_kind` tests the record's kind and its
+-- fields.
 abbrev pub if_going : List Record → Option (List (List ℕ)) → (List (List ℕ) → Bool) → Bool
 if_going earlier None test = false
 if_going earlier (Some fields) test = not (is_first earlier || has_ended earlier) && test fields
@@ -217,7 +218,8 @@ abbrev pub is_header : Option (List (List ℕ)) → Bool
 is_header None = false
 is_header (Some fields) = is_some (version_in fields)
 
--- The next record, or that there is none, has a fault of a code after the earlier ones.
+-- The next record has a fault of this code after the earlier ones. Where there is no next record, that itself is the
+-- fault.
 unfoldable pub has_fault : List Record → Option (List (List ℕ)) → Code → Bool
 has_fault earlier next code.Header = is_first earlier && not (is_header next)
 has_fault earlier next code.Kind = if_going earlier next (λ fields. is_none (kind_named (version_of earlier) (field fields 0)))
@@ -232,7 +234,7 @@ has_fault earlier next code.Mask = if_kind earlier next is_masked
 has_fault earlier next code.NoEnd = is_none next && not (has_ended earlier)
 has_fault earlier next code.After = is_some next && has_ended earlier
 
--- A fault of this code, and none of a lower one.
+-- There is a fault of this code, and none of a lower one.
 pub record IsLowestFault (earlier : List Record) (next : Option (List (List ℕ))) (why : Code) : Type 0 where
   pub faulty : has_fault earlier next why ≡ true
   pub lowest : (other : Code) → code_number other < code_number why → has_fault earlier next other ≡ false
@@ -241,17 +243,18 @@ pub record IsLowestFault (earlier : List Record) (next : Option (List (List ℕ)
 abbrev pub HasNoFault : List Record → Option (List (List ℕ)) → Type 0
 HasNoFault earlier next = (why : Code) → has_fault earlier next why ≡ false
 
--- What a record says by itself; the first is the header.
+-- What a record says by itself. The first record is the header.
 abbrev pub said_by : List Record → List (List ℕ) → Result Record Code
 said_by [] fields = header_of fields
 said_by (last ∷ earlier) fields = record_of (version_of (last ∷ earlier)) fields
 
--- Records without a fault, each after those before it, and all that is said then.
+-- These records have no fault, each after those before it. `all` is what they and the earlier records say.
 abbrev pub ArePassed : List Record → List (List (List ℕ)) → List Record → Type 0
 ArePassed earlier [] all = earlier ≡ all
 ArePassed earlier (fields ∷ rest) all = HasNoFault earlier (Some fields) × ((now : Record) × (said_by earlier fields ≡ Ok now) × ArePassed (now ∷ earlier) rest all)
 
--- The records are refused: those before one have no fault, and it has a fault of this code and none of a lower one.
+-- The records are refused at one of them. The records before it have no fault. It has a fault of this code, and none of
+-- a lower one.
 pub record IsRefused (records : List (List (List ℕ))) (refusal : Refusal) : Type 0 where
   pub earlier : List Record
   pub passed : ArePassed [] (take (length earlier) records) earlier

@@ -1,5 +1,5 @@
--- What the earlier records of a text give. Of a list of records the newest stands first; the lists that are made of them
--- stand in the order of the text.
+-- What the earlier records of a text give. In a list of records the newest stands first. The lists made from them stand
+-- in the order of the text.
 use Rattle.std.specs.Prelude.{ℕ, ◌+◌, ◌*◌, ◌==◌, if◌then◌else◌, Bool, true, false, ℤ, pos, List, [], ◌∷◌, ◌++◌, map, filter, Option, Some, None, option_map, unwrap_or}
 use Rattle.std.specs.List.{flat_map, position, range_with_len}
 use Rattle.std.specs.Option.{option_and_then, option_to_list}
@@ -39,7 +39,7 @@ has_ended [] = false
 has_ended (said.End ∷ earlier) = true
 has_ended (other ∷ earlier) = has_ended earlier
 
--- The aircraft with an address, with this ceiling.
+-- An aircraft gets this ceiling where it has this address.
 abbrev pub with_ceiling : ℕ → ℤ → CraftSpec → CraftSpec
 with_ceiling address limit craft = if craft.address == address then record craft { ceiling = Some limit } else craft
 
@@ -54,11 +54,11 @@ crafts_of (other ∷ earlier) = crafts_of earlier
 abbrev pub index_of : List CraftSpec → ℕ → Option ℕ
 index_of crafts address = position (λ (craft : CraftSpec). craft.address == address) crafts
 
--- What an aircraft that is named by an address gives.
+-- What a function of an index gives for the aircraft with an address.
 abbrev pub for_index : {X : Type 0} → List CraftSpec → ℕ → (ℕ → X) → Option X
 for_index crafts address f = option_map f (index_of crafts address)
 
--- What two different aircraft give that are named by their addresses.
+-- What a function of two indices gives for two different aircraft with these addresses.
 abbrev pub for_pair : {X : Type 0} → List CraftSpec → Addresses → (ℕ → ℕ → X) → Option X
 for_pair crafts pair f =
     if pair.first == pair.second then None else
@@ -91,7 +91,7 @@ fate_by number copies sender receiver = record {
   third = copies.third;
 }
 
--- The legs, misses, plans and fates, in the order of the text. An aircraft is told by its index.
+-- The legs, misses, plans and fates, in the order of the text. They name aircraft by their indices.
 abbrev pub legs_of : List Record → List Leg
 legs_of [] = []
 legs_of (said.Leg address course ∷ earlier) = legs_of earlier ++ option_to_list (for_index (crafts_of earlier) address (leg_by course))
@@ -112,7 +112,7 @@ fates_of [] = []
 fates_of (said.Fate pair number copies ∷ earlier) = fates_of earlier ++ option_to_list (for_pair (crafts_of earlier) pair (fate_by number copies))
 fates_of (other ∷ earlier) = fates_of earlier
 
--- The number of an ordered pair of aircraft: pairs are ordered by the first index and then by the second.
+-- The number of an ordered pair of aircraft. Pairs are ordered by the first index, then by the second.
 abbrev pub pair_number : ℕ → ℕ → ℕ
 pair_number first second = first * CRAFTS + second
 
@@ -132,7 +132,7 @@ fate_group fate = pair_number fate.sender fate.receiver
 abbrev pub in_group : {X : Type 0} → (X → ℕ) → List X → ℕ → List X
 in_group group xs n = filter (λ x. group x == n) xs
 
--- All of them group by group, which is the order of the canonical text.
+-- All members, group by group. This is the order of the canonical text.
 abbrev pub by_group : {X : Type 0} → (X → ℕ) → ℕ → List X → List X
 by_group group groups xs = flat_map (in_group group xs) (range_with_len 0 groups)
 
@@ -146,7 +146,7 @@ all_gains earlier = unwrap_or (gains_of earlier) usual_gains
 abbrev pub whole_run : List Record → Run
 whole_run earlier = unwrap_or (run_of earlier) (record { cycles = 0; elevation = pos 0 })
 
--- The encounter that the records say.
+-- The encounter that these records say.
 abbrev pub encounter_by : List Record → Parts
 encounter_by earlier =
     encounter_of (version_of earlier) (whole_run earlier).cycles (whole_run earlier).elevation (all_gains earlier).range (all_gains earlier).altitude (crafts_of earlier)

@@ -13,7 +13,7 @@ use Rattle.enc_file.specs.declared.record.Record.TheVariants as said
 use Rattle.enc_file.specs.declared.refusal.Code.{Code}
 use Rattle.enc_file.specs.declared.refusal.Code.TheVariants as code
 
--- A test of what is named; false where nothing is.
+-- A test of aircraft that were named. It is false where there are none such.
 abbrev pub holds : Option Bool → Bool
 holds None = false
 holds (Some b) = b
@@ -21,11 +21,11 @@ holds (Some b) = b
 abbrev pub has_ceiling : List CraftSpec → ℕ → Bool
 has_ceiling crafts i = option_map_or (λ (craft : CraftSpec). is_some craft.ceiling) (slice_get crafts i) false
 
--- Of the records of its group one doesn't stand before it.
+-- Some earlier record of its group doesn't stand before it.
 abbrev pub comes_late : {X : Type 0} → (X → ℕ) → (X → X → Bool) → List X → X → Bool
 comes_late group below earlier x = list_any (λ last. group last == group x && not (below last x)) earlier
 
--- What it gives was given before, or doesn't come after what was given before.
+-- The record gives what was given before, or it doesn't come after what was given before.
 abbrev pub repeats : List Record → Record → Bool
 repeats earlier (said.Header version) = false
 repeats earlier (said.Run run) = is_some (run_of earlier)
@@ -70,7 +70,7 @@ has_bad_mask (said.Plan pair copies) = are_masks_bad copies.first copies.second 
 has_bad_mask (said.Fate pair number copies) = are_masks_bad copies.first copies.second copies.third
 has_bad_mask other = false
 
--- The code of what is wrong; of several the lowest.
+-- The code of what is wrong. Of several codes it is the lowest.
 abbrev pub fault_of : List Record → Record → Option Code
 fault_of earlier now =
     if repeats earlier now then Some code.Repeat else

@@ -25,7 +25,7 @@ checked earlier (Ok now) = unless_faulty now (fault_of earlier now)
 abbrev pub later_record : List Record → List (List ℕ) → Result Record Code
 later_record earlier fields = if has_ended earlier then Err code.After else checked earlier (record_of (version_of earlier) fields)
 
--- What the next record says: the first is the header, and none may follow the end.
+-- What the next record says. The first is the header, and none may follow the end.
 abbrev pub next_record : List Record → List (List ℕ) → Result Record Code
 next_record [] fields = header_of fields
 next_record (last ∷ earlier) fields = later_record (last ∷ earlier) fields
@@ -34,7 +34,7 @@ next_record (last ∷ earlier) fields = later_record (last ∷ earlier) fields
 abbrev pub refusal_after : ℕ → Code → Refusal
 refusal_after count why = record { at = count + 1; code = why }
 
--- What is missing where no record follows so many.
+-- What is missing where no record follows the first `count` ones.
 abbrev pub missing_after : ℕ → Code
 missing_after count = if count == 0 then code.Header else code.NoEnd
 
@@ -43,7 +43,7 @@ abbrev pub goes_on : ℕ → Result Record Code → (Record → Result Parts Ref
 goes_on count (Err why) next = Err (refusal_after count why)
 goes_on count (Ok now) next = next now
 
--- What the records after the earlier ones make of them: the first with a fault is refused.
+-- What a text says from the records that are left, after the earlier ones. The first record with a fault is refused.
 unfoldable pub read_from : List Record → List (List (List ℕ)) → Result Parts Refusal
 read_from earlier [] = if has_ended earlier then Ok (encounter_by earlier) else Err (refusal_after (length earlier) (missing_after (length earlier)))
 read_from earlier (fields ∷ rest) = goes_on (length earlier) (next_record earlier fields) (λ now. read_from (now ∷ earlier) rest)

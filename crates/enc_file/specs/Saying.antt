@@ -1,5 +1,4 @@
--- What a record says by itself. Numbers are asked for before addresses, so that of the faults of a record the one with the
--- lowest code is told.
+-- What a record says by itself. Numbers are read before addresses, so that the fault with the lowest code is reported.
 use Rattle.std.specs.Prelude.{ℕ, ◌==◌, ◌&&◌, nat_lt, if◌then◌else◌, ℤ, pos, neg_ℤ, List, length, codes, Option, Some, None, Result, Ok, Err}
 use Rattle.std.specs.Str.{bytes_eq}
 use Rattle.enc_file.specs.Values.{address_in, copies_count, copies_from, count_in, field, kind_in, number_in}
@@ -9,7 +8,7 @@ use Rattle.enc_file.specs.declared.record.Record.TheVariants as said
 use Rattle.enc_file.specs.declared.refusal.Code.{Code}
 use Rattle.enc_file.specs.declared.refusal.Code.TheVariants as code
 
--- What follows from something that has to be there; else the code of what is wrong.
+-- Goes on with something that has to be there. Where it isn't, gives the code of what is wrong.
 abbrev pub needs : {X Y : Type 0} → Option X → Code → (X → Result Y Code) → Result Y Code
 needs None why next = Err why
 needs (Some x) why next = next x
@@ -28,7 +27,7 @@ needs_address fields place next = needs (address_in (field fields place)) code.A
 abbrev pub with_fields : List (List ℕ) → ℕ → Result Record Code → Result Record Code
 with_fields fields count what = if length fields == count then what else Err code.Fields
 
--- The version of the format, of a header.
+-- The version of the format that a header says.
 unfoldable pub version_in : List (List ℕ) → Option ℕ
 version_in fields = if length fields == 2 && bytes_eq (field fields 0) (codes "encounter") then count_in 1 2 (field fields 1) else None
 
@@ -108,7 +107,7 @@ fate_of fields =
 unfoldable pub end_of : List (List ℕ) → Result Record Code
 end_of fields = with_fields fields 1 (Ok said.End)
 
--- The kinds of format 2 alone.
+-- The kinds of records that format 2 alone has.
 abbrev pub of_format_2 : ℕ → List (List ℕ) → Result Record Code
 of_format_2 version fields =
     if version == 2 && bytes_eq (field fields 0) (codes "climb") then climb_of fields else

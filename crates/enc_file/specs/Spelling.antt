@@ -28,7 +28,7 @@ kind_text Ra = codes "RA"
 kind_text Ta = codes "TA"
 kind_text Xpdr = codes "XPDR"
 
--- In an encounter each index that a record has is that of an aircraft.
+-- The address of the aircraft at an index. In an encounter each index of a record is that of an aircraft.
 abbrev pub address_at : List CraftSpec → ℕ → List ℕ
 address_at crafts i = address (address_in crafts i)
 
@@ -46,7 +46,7 @@ gains_record range altitude = codes "gains" ∷ number range.alpha ∷ number ra
 abbrev pub craft_record : CraftSpec → List (List ℕ)
 craft_record craft = codes "craft" ∷ address craft.address ∷ kind_text craft.kind ∷ signed_decimal craft.x ∷ signed_decimal craft.y ∷ signed_decimal craft.alt ∷ []
 
--- An aircraft has a record for its ceiling if it has one.
+-- The record of an aircraft's ceiling. An aircraft has one if it has a ceiling.
 abbrev pub climb_record : ℕ → ℤ → List (List ℕ)
 climb_record n limit = codes "climb" ∷ address n ∷ signed_decimal limit ∷ []
 

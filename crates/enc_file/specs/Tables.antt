@@ -18,7 +18,7 @@ use Rattle.enc_file.specs.declared.tables.Tables.{Tables}
 abbrev pub grouped : {X : Type 0} → (X → ℕ) → ℕ → List X → List (List X)
 grouped group groups xs = map (in_group group xs) (range_with_len 0 groups)
 
--- The encounter is made once the end was read.
+-- The encounter is made once the end was read, and not before.
 abbrev pub IsMade : List Record → Option Parts → Type 0
 IsMade earlier made = MatchOption made (has_ended earlier ≡ false) (λ e. (has_ended earlier ≡ true) × (e ≡ encounter_by earlier))
 
@@ -36,7 +36,7 @@ pub record Holds (earlier : List Record) (tables : Tables) : Type 0 where
   pub fates : tables.fates ≡ grouped fate_group (CRAFTS * CRAFTS) (fates_of earlier)
   pub made : IsMade earlier tables.made
 
--- They hold what some records give.
+-- The tables hold what some records give.
 pub record IsHeld (tables : Tables) : Type 0 where
   pub earlier : List Record
   pub holds : Holds earlier tables
@@ -46,21 +46,21 @@ pub record AreGoing (earlier : List Record) : Type 0 where
   pub some : 1 ≤ length earlier
   pub unended : has_ended earlier ≡ false
 
--- The code of a refusal after so many records is one of which this holds. Memory may be wanting at any time.
+-- The record after so many is refused with a code of which P holds. Memory may be wanting at any time.
 abbrev pub Refuses : ℕ → (Code → Type 0) → ReadError → Type 0
 Refuses count P (Refused refusal) = (why : Code) × P why × (refusal ≡ refusal_after count why)
 Refuses count P OutOfMemory = Unit {0}
 
--- A record was added, or is refused.
+-- The record was added, or it is refused.
 abbrev pub Adds : {T : Type 0} → List Record → Record → Tables → Result T ReadError → Type 0
 Adds earlier now tables result = MatchResult result (λ _. Holds (now ∷ earlier) tables) (Refuses (length earlier) (λ why. fault_of earlier now ≡ Some why))
 
--- The record that these fields say was added, or is refused.
+-- The record that these fields say was added, or it is refused.
 abbrev pub Takes : {T : Type 0} → List Record → List (List ℕ) → Tables → Result T ReadError → Type 0
 Takes earlier fields tables result =
     MatchResult result (λ _. (now : Record) × (next_record earlier fields ≡ Ok now) × Holds (now ∷ earlier) tables) (Refuses (length earlier) (λ why. next_record earlier fields ≡ Err why))
 
--- The next record was counted, or is refused for this.
+-- The next record was counted, or it is refused for this fault.
 abbrev pub Settles : {T : Type 0} → Tables → Option Code → Tables → Result T ReadError → Type 0
 Settles old fault new result =
     MatchOption fault (IsOk result × (new ≡ record old { count = old.count + 1 })) (λ why. IsErrAnd result (λ e. e ≡ Refused (refusal_after old.count why)) × (new ≡ old))

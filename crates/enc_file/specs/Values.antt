@@ -15,16 +15,16 @@ use Rattle.enc_file.specs.declared.record.Copies.{Copies}
 abbrev pub field : List (List ℕ) → ℕ → List ℕ
 field fields i = slice_index_or fields i []
 
--- What passes a test.
+-- A value, where it passes a test.
 abbrev pub passing : {X : Type 0} → (X → Bool) → Option X → Option X
 passing test None = None
 passing test (Some x) = if test x then Some x else None
 
--- Something, where these bytes are its text.
+-- A value, where these bytes are its text.
 abbrev pub if_spelled : {X : Type 0} → (X → List ℕ) → List ℕ → X → Option X
 if_spelled text bytes x = if bytes_eq (text x) bytes then Some x else None
 
--- The number from low to high of which the field is the plain decimal.
+-- The number from low to high whose plain decimal the field is.
 unfoldable pub number_in : ℤ → ℤ → List ℕ → Option ℤ
 number_in low high bytes = passing (λ n. int_le low n && int_le n high) (if_spelled signed_decimal bytes (signed_digits_value 10 bytes))
 
@@ -49,7 +49,7 @@ kind_in bytes =
 abbrev pub copy_in : List ℕ → List ℕ → Option CopyPlan
 copy_in held masked = option_and_then (λ hold. option_map (λ mask. record { hold = hold; mask = mask }) (mask_in masked)) (count_in 0 60 held)
 
--- The copy with a number, from 0, of so many copies that stand from a place on; zero where there is no such copy.
+-- The copy with a number, from 0, among `count` copies that stand from a place on. It is zero past the last copy.
 abbrev pub copy_from : List (List ℕ) → ℕ → ℕ → ℕ → Option CopyPlan
 copy_from fields start count n =
     if nat_le count n then Some plain_copy else copy_in (field fields (start + (n + n))) (field fields (start + (n + n + 1)))
@@ -61,7 +61,7 @@ copies_from fields start count =
     option_map (λ third. record { count = count; first = first; second = second; third = third })
     (copy_from fields start count 2)) (copy_from fields start count 1)) (copy_from fields start count 0)
 
--- How many copies a record of so many fields has, from a place on: none to three, of two fields each.
+-- How many copies a record of so many fields has, from a place on: none to three, with two fields each.
 abbrev pub copies_count : ℕ → ℕ → Option ℕ
 copies_count start fields =
     if fields == start then Some 0 else

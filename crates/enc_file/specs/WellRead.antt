@@ -36,7 +36,7 @@ pub record AreCycles (first last : ℕ) : Type 0 where
   pub to : IsCycle last
   pub order : first ≤ last
 
--- The copy at a place, from 0, of so many.
+-- The copy at a place, from 0, of `count` copies. It is zero past the last one.
 pub record IsCopySaid (place count : ℕ) (copy : CopyPlan) : Type 0 where
   pub hold : copy.hold ≤ 60
   pub byte : copy.mask < 256
@@ -48,7 +48,7 @@ pub record AreCopiesSaid (copies : Copies) : Type 0 where
   pub second : IsCopySaid 1 copies.count copies.second
   pub third : IsCopySaid 2 copies.count copies.third
 
--- The ranges of what a record says by itself.
+-- The fields that a record says by itself are in their ranges.
 abbrev pub IsSaid : Record → Type 0
 IsSaid (said.Header version) = IsVersion version
 IsSaid (said.Run run) = IsRunSaid run

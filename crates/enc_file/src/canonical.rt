@@ -15,7 +15,7 @@ use acas_io::{Failed, Sink};
 use acas_lines::{LineSink, Text, write_text};
 use acas_text::Line;
 
-// What has a line of its own, among the aircraft of an encounter.
+// A part of an encounter that has a line of its own.
 trait Spelled {
     ghost spelling: { List CraftSpec → Self → List ℕ };
 
@@ -126,7 +126,7 @@ impl Text for CanonicalText<'_> {
 
 /// Writes the canonical text of an encounter. It takes no memory.
 ///
-/// `Failed` comes only where the sink's count of faults rose; what was written then is a front of the text.
+/// `Failed` comes only where the sink's count of faults rose. Then a front of the text has been written.
 pub fn write<K: Sink>(encounter: &Encounter, sink: &mut K) -> Result<(), Failed>
     ensures { Puts (K.written sink.old) (K.written sink.new) (K.faults sink.old) (K.faults sink.new) (canonical_text encounter.now) result }
 {

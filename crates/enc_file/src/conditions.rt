@@ -11,7 +11,7 @@ use acas_base::{CopyPlan, CraftSpec, Fate, Leg, LinkPlan, Miss};
 // The most bits that a mask flips.
 const BITS: u32 = 3;
 
-/// What is missing where no record follows so many.
+/// What is missing where no record follows the first `count` ones.
 pub(crate) fn missing_after(count: u32) -> Code
     ensures { result ≡ missing_after count }
 {

@@ -8,20 +8,21 @@ ghost use Rattle.enc_file.specs.Records.{records_of};
 ghost use Rattle.enc_file.specs.declared.refusal.Refusal.{Refusal};
 ghost use Rattle.flight.specs.Inside.{IsInside};
 
-/// The records that CSV finds in the canonical text of an encounter are its canonical records: each on its line, with
-/// all its fields, and no others. It holds of all parts, in their ranges or not.
+/// A law: the records that CSV finds in the canonical text of an encounter are its canonical records. Each stands on
+/// its line, with all its fields, and there are no others. It holds of all parts, in their ranges or not.
 pub fn canonical_records_law()
     ensures { (e : Parts) → records_of (canonical_text e) ≡ canonical_records e }
 {}
 
-/// The canonical text of an encounter inside the box says that encounter, and no other.
+/// A law: the canonical text of an encounter inside the box says that encounter, and no other.
 pub fn canonical_text_law()
     ensures { (e : Parts) → IsEncounter e → IsInside e → Says (canonical_text e) e }
 {}
 
-/// A text is refused with the number of a record and a code exactly where no record before it has a fault, this code is
-/// a fault of it (or of there being no such record), and no lower code is. The faults are the conditions of the rules,
-/// one for each code, whatever else is wrong.
+/// A law: when a text is refused with the number of a record and a code. It is refused so exactly where no earlier
+/// record has a fault, the record has a fault of this code, and it has none of a lower code. Where the text ends too
+/// early, there is no such record, and that is the fault. The faults are the conditions of the rules, one for each
+/// code. It doesn't matter what else is wrong.
 pub fn refusal_law()
     ensures { (text : List ℕ) (refusal : Refusal) → (reading_of text ≡ Err refusal) ↔ IsRefused (records_of text) refusal }
 {}

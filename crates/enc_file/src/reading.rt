@@ -11,8 +11,11 @@ use std::alloc::Global;
 
 /// The encounter that a text says, in format 1 or 2.
 ///
-/// `Refused` comes exactly where the text says none: it names the first record with a fault, from 1, and the lowest of
-/// its codes. `OutOfMemory` comes where memory was wanting. It takes each record once, and time linear in the bytes.
+/// - `Refused`: the text says no encounter. It comes exactly then. It names the first record with a fault, from 1, and
+///   the lowest code of its faults.
+/// - `OutOfMemory`: memory was wanting.
+///
+/// It reads each record once, in time linear in the bytes.
 pub fn read(alloc: Global, bytes: &[u8]) -> Result<Encounter, ReadError>
     requires { length bytes.now < 2 ^ 32 - 1 }
     ensures reading { IsReading (reading_of bytes.now) result }

@@ -40,7 +40,7 @@ pub(crate) struct Addresses {
     pub(crate) second: Address,
 }
 
-/// A record of an encounter's text, read by itself: its fields are in their ranges.
+/// A record of an encounter's text, read by itself. Its fields are in their ranges.
 #[derive(Clone, Copy)]
 pub(crate) enum Record {
     Header(u8),

@@ -6,23 +6,23 @@ ghost use Rattle.enc_file.specs.declared.refusal.ReadError.TheVariants.{OutOfMem
 use std::alloc::{AllocError, AllocFailed};
 use thiserror::Error;
 
-/// What is wrong with a record. Of the faults of a record the one with the lowest number is told.
+/// What is wrong with a record. Where it has several faults, the one with the lowest number is reported.
 #[derive(Clone, Copy, Debug, PartialEq, Eq)]
 pub enum Code {
-    /// The first record is no header of format 1 or 2, or there is no record at all.
+    /// The first record isn't a header of format 1 or 2, or there is no record at all.
     Header,
-    /// The first field is no kind of the file's format.
+    /// The first field isn't a kind of record of the text's format.
     Kind,
-    /// The number of fields isn't the kind's.
+    /// The number of fields isn't one that this kind of record has.
     Fields,
-    /// A number is no plain decimal or out of its range; the kind of an aircraft is no such word; a mask isn't two
-    /// digits 0-9A-F; the last cycle of a miss is before its first.
+    /// A number isn't a plain decimal or is out of its range; the kind of an aircraft isn't one of the three words; a
+    /// mask isn't two digits 0-9A-F; the last cycle of a miss is before its first.
     Number,
     /// An address isn't six digits 0-9A-F, or is 000000 or FFFFFF.
     Address,
-    /// What the record gives was given before, or doesn't come after what was given before.
+    /// The record gives what was given before, or it doesn't come after what was given before.
     Repeat,
-    /// An address is that of no earlier `craft` record, or the two addresses are equal.
+    /// No earlier `craft` record has this address, or the two addresses are equal.
     Unknown,
     /// There are too many aircraft; at the end there is no run, or no aircraft of kind RA or TA.
     Count,
@@ -30,14 +30,14 @@ pub enum Code {
     Box,
     /// A mask has more than three bits set.
     Mask,
-    /// There is no `end`. The record is the one after the last.
+    /// There is no `end`. The number of the record is one more than that of the last record.
     NoEnd,
     /// The record stands after `end`.
     After,
 }
 
 impl Code {
-    /// The number of the code, in the line that tells of a refusal.
+    /// The number of the code, as the line of a refusal has it.
     pub fn number(self) -> u8
         ensures { result ≡ code_number self }
     {
@@ -58,7 +58,7 @@ impl Code {
     }
 }
 
-/// A refusal: the number of the record that is refused, from 1, and why.
+/// A refusal: the number of the refused record, from 1, and why it is refused.
 #[derive(Clone, Copy, Debug, PartialEq, Eq)]
 pub struct Refusal {
     pub at: u32,

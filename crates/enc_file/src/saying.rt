@@ -11,7 +11,7 @@ use crate::values::{address_in, copies_count, copies_from, count_in, field, kind
 use acas_base::{CraftSpec, Gains};
 use csv::ByteRecord;
 
-/// The version of the format, of a header.
+/// The version of the format that a header says.
 #[tactic(auto, unfolding(crate::specs::Saying::version_in))]
 pub(crate) fn version_in(row: &ByteRecord) -> Option<u8>
     ensures value { result ≡ version_in (fields_of row.now) }

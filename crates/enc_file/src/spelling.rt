@@ -8,7 +8,7 @@ use acas_base::{CopyPlan, CraftSpec, Encounter, Fate, Gains, Kind, Leg, LinkPlan
 use acas_lines::fixed_line;
 use acas_text::{LINE_BYTES, Line};
 
-// The number of an aircraft's address. In an encounter every index is that of an aircraft.
+// The number of the address of the aircraft at an index. In an encounter each index of a record is that of an aircraft.
 fn address_in(crafts: &[CraftSpec], index: u8) -> u32
     ensures value { result ≡ address_in crafts.now index }
     ensures fits { result < 2 ^ 24 }
@@ -123,7 +123,7 @@ fn add_copy(line: &mut Line, copy: CopyPlan)
     line.hex_field(u64::from(copy.mask), 2);
 }
 
-// Adds those of so many copies, in at most 27 bytes.
+// Adds the holds and masks of `copies` copies, in at most 27 bytes.
 fn add_copies(line: &mut Line, copies: u8, first: CopyPlan, second: CopyPlan, third: CopyPlan)
     requires { length line.old + 27 ≤ LINE_BYTES }
     ensures added { line.new ≡ line.old ++ flat_map (λ field. 44 ∷ field) (copies_fields copies first second third) }

@@ -29,8 +29,8 @@ const USUAL_GAINS: TrackGains = TrackGains {
     altitude: USUAL_ALTITUDE_GAINS,
 };
 
-/// What the records so far give. The aircraft's and the pairs' records stand in groups, so that the next one is compared
-/// with the last of its group alone.
+/// What the records so far give. The records of each aircraft and of each pair stand in groups. So the next record is
+/// compared with the last one of its group alone.
 #[derive(Drop)]
 pub(crate) struct Tables {
     count: u32,
@@ -46,7 +46,7 @@ pub(crate) struct Tables {
 }
 
 impl Tables {
-    /// Before the first record.
+    /// The tables before the first record.
     pub(crate) fn new(alloc: Global) -> Result<Tables, AllocError>
         ensures { IfOk result (Holds []) }
     {
@@ -75,7 +75,7 @@ impl Tables {
         })
     }
 
-    // The next record was added, or is refused for this.
+    // The next record was counted, or it is refused for this fault.
     fn settle(&mut self, fault: Option<Code>) -> Result<(), ReadError>
         requires { self.old.count < 2 ^ 32 - 1 }
         ensures { Settles self.old fault self.new result }

@@ -36,7 +36,7 @@ pub(crate) fn number_in(bytes: &[u8], low: i32, high: i32) -> Option<i32>
     Some(number as i32)
 }
 
-/// The same of numbers that aren't below 0.
+/// The same for numbers that aren't below 0.
 #[tactic(auto, unfolding(crate::specs::Values::count_in))]
 pub(crate) fn count_in(bytes: &[u8], low: u16, high: u16) -> Option<u16>
     ensures value { result ≡ count_in low high bytes.now }
@@ -91,7 +91,7 @@ fn copy_in(held: &[u8], masked: &[u8]) -> Option<CopyPlan>
     })
 }
 
-// The copy with a number, from 0, of so many copies that stand from a place on.
+// The copy with a number, from 0, among `count` copies that stand from a place on.
 fn copy_from(row: &ByteRecord, start: u8, count: u8, number: u8) -> Option<CopyPlan>
     requires { start + number + number + 1 < 256 }
     ensures value { result ≡ copy_from (fields_of row.now) start count number }

@@ -9,7 +9,7 @@ use Rattle.enc_gen.specs.Draws.{draw}
 use Rattle.enc_gen.specs.Making.{Made, one}
 use Rattle.enc_gen.specs.declared.crafts.Draft.{Draft}
 
--- The kind for the number that is drawn for an aircraft. Aircraft 0 is RA in any case.
+-- The kind of an aircraft, by the number that is drawn for it. Aircraft 0 is always RA.
 abbrev pub kind_of : ℕ → ℕ → Kind
 kind_of craft number = if craft == 0 then Ra else if number == 0 then Xpdr else if number == 1 then Ta else Ra
 
@@ -57,11 +57,11 @@ speed distance = neg_ℤ (int_div distance (pos 100))
 abbrev pub inwards : Draft → ℕ → Leg
 inwards d from = record { craft = d.craft; from = from; vx = speed d.x; vy = speed d.y; vz = d.climb }
 
--- A leg of the three opposite numbers.
+-- A leg with the opposite of these three rates.
 abbrev pub backwards : Draft → ℕ → Leg
 backwards d from = record { craft = d.craft; from = from; vx = neg_ℤ (speed d.x); vy = neg_ℤ (speed d.y); vz = neg_ℤ d.climb }
 
--- The legs of an aircraft, those that begin within the run.
+-- The legs of an aircraft. Only those that begin within the run count.
 unfoldable pub legs_of : ℕ → Draft → List Leg
 legs_of cycles d = filter (λ (leg : Leg). nat_le leg.from cycles) (inwards d 1 ∷ backwards d 201 ∷ inwards d 401 ∷ [])
 

@@ -1,4 +1,4 @@
--- Draws: numbers that follow from a state, which each draw moves on.
+-- Draws: numbers that follow from a state. Each draw moves the state on.
 use Rattle.std.specs.Prelude.{ℕ, ◌+◌, ◌*◌, ◌/◌, ◌%◌, ◌^◌}
 
 -- The first state, by the number of an encounter.

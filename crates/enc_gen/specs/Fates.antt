@@ -11,7 +11,7 @@ use Rattle.enc_gen.specs.Making.{Made, each, nothing, one, only}
 abbrev pub is_ra_at : List CraftSpec → ℕ → Bool
 is_ra_at crafts craft = option_map_or (λ (spec : CraftSpec). is_ra_kind spec.kind) (slice_get crafts craft) false
 
--- A fate of so many copies, of which the first may be held back or damaged.
+-- A fate of so many copies. The first may be held back or damaged.
 abbrev pub fate_of : ℕ → ℕ → ℕ → ℕ → CopyPlan → Fate
 fate_of sender receiver number copies first = record {
   sender = sender;
@@ -29,7 +29,7 @@ held sender receiver number s =
     let hold = draw 5 s in
     one (fate_of sender receiver number 1 (record { hold = 1 + hold.number; mask = 0 })) hold.state
 
--- One copy with a bit that is flipped.
+-- One copy with one bit that is flipped.
 abbrev pub damaged : ℕ → ℕ → ℕ → ℕ → Made Fate
 damaged sender receiver number s =
     let bit = draw 8 s in
@@ -44,7 +44,7 @@ fate_by drawn sender receiver number s =
     else if drawn == 3 then damaged sender receiver number s
     else nothing s
 
--- That of the message after so many others of a sender to a receiver.
+-- The fate of a sender's message to a receiver, after `before` others.
 abbrev pub fate : ℕ → ℕ → ℕ → ℕ → Made Fate
 fate sender receiver before s =
     let d = draw 10 s in
@@ -54,14 +54,14 @@ fate sender receiver before s =
 abbrev pub is_link : List CraftSpec → ℕ → ℕ → Bool
 is_link crafts sender receiver = is_ra_at crafts receiver && not (receiver == sender)
 
--- Those of the messages of a sender to a receiver, by number.
+-- The fates of the messages of a sender to a receiver, by number.
 abbrev pub link_fates : List CraftSpec → ℕ → ℕ → ℕ → ℕ → Made Fate
 link_fates crafts cycles sender receiver = only (is_link crafts sender receiver) (each (fate sender receiver) cycles)
 
--- Those of a sender, where it is RA, by receiver.
+-- The fates of the messages of a sender, where it is RA, by receiver.
 abbrev pub own_fates : List CraftSpec → ℕ → ℕ → ℕ → Made Fate
 own_fates crafts cycles sender = only (is_ra_at crafts sender) (each (link_fates crafts cycles sender) (length crafts))
 
--- Those of all aircraft, by sender.
+-- The fates of the messages of all aircraft, by sender.
 abbrev pub fates : List CraftSpec → ℕ → ℕ → Made Fate
 fates crafts cycles = each (own_fates crafts cycles) (length crafts)

@@ -13,14 +13,14 @@ nothing s = record { items = []; state = s }
 abbrev pub one : {X : Type 0} → X → ℕ → Made X
 one x s = record { items = x ∷ []; state = s }
 
--- One is made after the other.
+-- One thing is made after another.
 abbrev pub and_then : {X : Type 0} → Made X → (ℕ → Made X) → Made X
 and_then before make = record {
   items = before.items ++ (make before.state).items;
   state = (make before.state).state;
 }
 
--- What is made for each number below one, in their order.
+-- What is made for each number below n, in their order.
 unfoldable pub each : {X : Type 0} → (ℕ → ℕ → Made X) → ℕ → ℕ → Made X
 each make zero s = nothing s
 each make (suc n) s = and_then (each make n s) (make n)
@@ -29,7 +29,7 @@ each make (suc n) s = and_then (each make n s) (make n)
 unfoldable pub only : {X : Type 0} → Bool → (ℕ → Made X) → ℕ → Made X
 only test make s = if test then make s else nothing s
 
--- A list and a state before something was made, and after it.
+-- The list and the state before something was made, and after it.
 pub record Makes {X : Type 0} (make : ℕ → Made X) (before : ℕ) (old : List X) (after : ℕ) (new : List X) : Type 0 where
   pub items : new ≡ old ++ (make before).items
   pub state : after ≡ (make before).state

@@ -19,14 +19,14 @@ miss cycles own target s =
     let d = draw 4 s in
     if d.number == 0 then some_miss cycles own target d.state else nothing d.state
 
--- That of an own aircraft and a target, where they are two.
+-- The miss of an own aircraft and a target, where they are two aircraft.
 abbrev pub pair_miss : ℕ → ℕ → ℕ → ℕ → Made Miss
 pair_miss cycles own target = only (not (target == own)) (miss cycles own target)
 
--- Those of an own aircraft, where it is active, by target.
+-- The misses of an own aircraft, where it is active, by target.
 abbrev pub own_misses : List CraftSpec → ℕ → ℕ → ℕ → Made Miss
 own_misses crafts cycles own = only (is_active_at crafts own) (each (pair_miss cycles own) (length crafts))
 
--- Those of all aircraft, by own aircraft.
+-- The misses of all aircraft, by own aircraft.
 abbrev pub misses : List CraftSpec → ℕ → ℕ → Made Miss
 misses crafts cycles = each (own_misses crafts cycles) (length crafts)

@@ -11,8 +11,7 @@ use crate::draws::Draws;
 use acas_base::{Address, CraftSpec, Kind, Leg};
 use std::alloc::{AllocError, Global};
 
-// What is drawn for an aircraft: its kind, where it is in cycle 1 (ft), and how fast it climbs at first
-// (ft/min).
+// What is drawn for an aircraft: its kind, its place in cycle 1 (ft), and its first vertical rate (ft/min).
 #[derive(Clone, Copy, Debug)]
 pub(crate) struct Draft {
     craft: u8,
@@ -23,7 +22,7 @@ pub(crate) struct Draft {
     climb: i32,
 }
 
-// The kind for a number that is drawn.
+// The kind of an aircraft, by the number that is drawn for it.
 fn kind_of(craft: u8, number: u32) -> Kind
     ensures { result ≡ kind_of craft number }
 {
@@ -171,7 +170,7 @@ fn inwards(draft: &Draft, from: u16) -> Leg
     }
 }
 
-// The way back.
+// A leg with the opposite of an aircraft's first rates.
 fn backwards(draft: &Draft, from: u16) -> Leg
     requires { IsDraft draft.now }
     ensures { result ≡ backwards draft.now from }

@@ -26,7 +26,7 @@ impl Model for Draws {
 }
 
 impl Draws {
-    // The draws for an encounter of this number.
+    // The draws for the encounter of this number.
     #[tactic(auto, unfolding(crate::specs::Draws::seed))]
     pub(crate) fn new(number: u32) -> Draws
         ensures { result ≡ seed number }

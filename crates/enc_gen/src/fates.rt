@@ -21,7 +21,7 @@ fn is_ra_at(crafts: &[CraftSpec], craft: u8) -> bool
     }
 }
 
-// A fate of so many copies, of which the first may be held back or damaged.
+// A fate of so many copies. The first may be held back or damaged.
 fn fate_of(sender: u8, receiver: u8, number: u16, copies: u8, first: CopyPlan) -> Fate
     ensures { result ≡ fate_of sender receiver number copies first }
 {
@@ -48,7 +48,7 @@ fn draw_held(draws: &mut Draws) -> CopyPlan
     }
 }
 
-// A copy of which one bit is flipped.
+// A copy with one bit that is flipped.
 fn draw_damaged(draws: &mut Draws) -> CopyPlan
     ensures hold { result.hold ≡ 0 }
     ensures mask { result.mask ≡ 2 ^ (draw 8 draws.old).number }
@@ -75,7 +75,7 @@ fn fate_by(draws: &mut Draws, number: u32, sender: u8, receiver: u8, message: u1
     }
 }
 
-// Adds the fate of the message after so many others, if one is drawn.
+// Adds the fate of the message after `before` others, if one is drawn.
 fn add_fate(
     draws: &mut Draws,
     fates: &mut Vec<Fate>,

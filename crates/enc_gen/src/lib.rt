@@ -1,4 +1,4 @@
-//! Encounters that are made up: the number of one decides all of it.
+//! Encounters that are generated. The number of one decides all of it.
 #![tactic(auto)]
 
 mod crafts;

@@ -1,4 +1,4 @@
-// Encounters of a number.
+// The encounter of a number.
 ghost use Rattle.std.specs.Prelude.{◌≡◌, ◌≤◌, ℕ, IfOk};
 ghost use Rattle.acas_base.specs.Encounter.{IsEncounter};
 ghost use Rattle.acas_base.specs.Ranges.{IsCycle};
@@ -14,7 +14,7 @@ use crate::misses::draw_misses;
 use acas_base::{Encounter, USUAL_ALTITUDE_GAINS, USUAL_RANGE_GAINS, most_crafts};
 use std::alloc::{AllocError, Global};
 
-// The version of the format: the first where it has room for so many aircraft.
+// The version of the format: version 1 where it has room for so many aircraft, else version 2.
 fn version_of(crafts: u8) -> u8
     ensures { result ≡ version_of crafts }
 {
@@ -25,7 +25,7 @@ fn version_of(crafts: u8) -> u8
     }
 }
 
-/// The encounter of a number, of `crafts` aircraft and `cycles` cycles: version 1 up to eight aircraft,
+/// The encounter of a number, with `crafts` aircraft and `cycles` cycles. It has version 1 up to eight aircraft, and
 /// version 2 above (this project's profile). It is in the box, and has no ceiling and no plan.
 ///
 /// The error says that memory was wanting.
@@ -62,9 +62,8 @@ pub fn make(alloc: Global, number: u32, crafts: u8, cycles: u16) -> Result<Encou
     }
 }
 
-/// A law: the encounter of any number, of one to sixteen aircraft and 1 to 600 cycles, is an encounter, in
-/// the box. Its aircraft stay within 60,000 ft of zero in x and y, and between 1,600 and 38,300 ft in
-/// altitude.
+/// A law: for any number, one to sixteen aircraft and 1 to 600 cycles, what is generated is an encounter, and it is in
+/// the box. Its aircraft stay within 60,000 ft of zero in x and y, and between 1,600 and 38,300 ft in altitude.
 pub fn made_law()
     ensures valid { (number crafts cycles : ℕ) → 1 ≤ crafts → crafts ≤ CRAFTS → IsCycle cycles → IsEncounter (generated number crafts cycles) }
     ensures near { (number crafts cycles : ℕ) → crafts ≤ CRAFTS → IsCycle cycles → StaysNear (generated number crafts cycles) }

@@ -17,7 +17,7 @@ pub record IsFirstLeast (f : ℕ → ℕ) (last best : ℕ) : Type 0 where
   pub least : (k : ℕ) → 1 ≤ k → k ≤ last → f best ≤ f k
   pub first : (k : ℕ) → 1 ≤ k → k < best → f best < f k
 
--- In this cycle two aircraft are nearest: it is the first one of the run with their least slant range.
+-- In this cycle two aircraft are nearest. It is the first cycle of the run with their least slant range.
 abbrev pub IsClosest : Parts → ℕ → ℕ → ℕ → Type 0
 IsClosest e a b cycle = IsFirstLeast (range_between e a b) e.cycles cycle
 

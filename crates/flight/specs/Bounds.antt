@@ -1,4 +1,4 @@
--- How far the aircraft of any encounter can come, also outside the box.
+-- How far the aircraft of any encounter can come. It needn't stay in the box.
 use Rattle.std.specs.Prelude.{ℕ, ◌<◌, ◌≤◌, pos, ◌+ℤ◌, ◌*ℤ◌, unsigned_abs, List, All, length, min, slice_get, slice_index_or}
 use Rattle.std.specs.Option.{option_map_or}
 use Rattle.acas_base.specs.Encounter.{AreRates}
@@ -12,7 +12,8 @@ pub record IsStart (p : Place) : Type 0 where
   pub y : unsigned_abs p.y ≤ 1000000
   pub z : unsigned_abs p.z ≤ 3600000
 
--- A place that is reached from a start within 599 seconds, at no more than 2,000 ft/s on each axis and 10,000 ft/min.
+-- A place that can be reached from a start within 599 seconds, at no more than 2,000 ft/s on each axis and 10,000
+-- ft/min.
 pub record IsReachable (p : Place) : Type 0 where
   pub x : unsigned_abs p.x ≤ 2198000
   pub y : unsigned_abs p.y ≤ 2198000
@@ -24,7 +25,8 @@ pub record IsCourse (legs : List Leg) : Type 0 where
   pub from : All (λ (leg : Leg). IsCycle leg.from) legs
   pub rates : All AreRates legs
 
--- When the leg at an index begins, but no later than a cycle, and that cycle where there is no leg.
+-- The cycle in which the leg at an index begins, but no later than a given cycle. Where there is no such leg it is the
+-- given cycle.
 abbrev pub begins : List Leg → ℕ → ℕ → ℕ
 begins legs index cycle = option_map_or (λ (leg : Leg). min leg.from cycle) (slice_get legs index) cycle
 

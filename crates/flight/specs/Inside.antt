@@ -1,4 +1,4 @@
--- The box, which an encounter has to stay in.
+-- The box. An encounter has to stay in it.
 use Rattle.std.specs.Prelude.{ℕ, ◌<◌, ◌≤◌, ◌&&◌, Bool, ℤ, pos, neg_ℤ, int_le, length}
 use Rattle.std.specs.List.{list_all, range_with_len}
 use Rattle.acas_base.specs.Encounter.{Parts}
@@ -16,7 +16,7 @@ pub record IsInBox (p : Place) : Type 0 where
 abbrev pub IsInside : Parts → Type 0
 IsInside e = (craft cycle : ℕ) → craft < length e.crafts → 1 ≤ cycle → cycle ≤ e.cycles → IsInBox (position e craft cycle)
 
--- The same as a truth value.
+-- A number between two others, as a truth value.
 abbrev pub is_between : ℤ → ℤ → ℤ → Bool
 is_between low high n = int_le low n && int_le n high
 

@@ -9,11 +9,11 @@ use Rattle.flight.specs.Flight.{position}
 use Rattle.flight.specs.declared.place.Place.{Place}
 use Rattle.flight.specs.declared.measuring.Meas.{Meas}
 
--- An altitude in 1/60 ft, in whole feet, rounded down.
+-- An altitude in 1/60 ft, as whole feet, rounded down.
 abbrev pub feet : ℤ → ℤ
 feet z = int_div_euclid z (pos 60)
 
--- An altitude in 1/60 ft as it is reported: the nearest multiple of 25 ft, and the higher one of two that are as near.
+-- An altitude in 1/60 ft as it is reported: the nearest multiple of 25 ft, and the higher one where two are as near.
 abbrev pub reported : ℤ → ℤ
 reported z = pos 25 *ℤ int_div_euclid (z +ℤ pos 750) (pos 1500)
 
@@ -53,7 +53,7 @@ is_missed e own target cycle = list_any (covers own target cycle) e.misses
 abbrev pub misses_in : Parts → ℕ → Bool
 misses_in e cycle = list_any (lasts_in cycle) e.misses
 
--- The range from one place to another and the altitude reported there, where the range isn't too long.
+-- The range from one place to another one, and the altitude reported there; none where the range is too long.
 abbrev pub measured : Place → Place → Option Meas
 measured here there =
     if nat_lt longest (slant_range here there) then None

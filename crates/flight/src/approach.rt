@@ -15,8 +15,8 @@ pub struct ClosestApproach {
     pub range: u64,
 }
 
-/// The slant range of two aircraft in a cycle, as planned, in ft and rounded down, however long it is (this project's
-/// profile).
+/// The slant range of two aircraft in a cycle, as planned, in ft and rounded down. It has no upper limit (this
+/// project's profile).
 pub fn range_between(encounter: &Encounter, a: u8, b: u8, cycle: u16) -> u64
     requires a { a < length encounter.now.crafts }
     requires b { b < length encounter.now.crafts }

@@ -22,7 +22,7 @@ pub(crate) struct Course<'a> {
 }
 
 impl<'a> Course<'a> {
-    // That of an aircraft of an encounter.
+    // The course of an aircraft of an encounter.
     pub(crate) fn of(encounter: &'a Encounter, craft: usize) -> Course<'a>
         requires { craft < length encounter.now.crafts }
         ensures { (cycle : ℕ) → place_in result.start result.legs.now cycle ≡ position encounter.now craft cycle }
@@ -42,7 +42,7 @@ impl<'a> Course<'a> {
         let mut place = self.start;
         for index in 0..self.legs.len() {
             if self.legs[index].from >= cycle {
-                // The rest begin too late.
+                // The other legs begin too late.
                 return place;
             }
             place = place.flown(&self.legs[index], seconds_of(self.legs, index, cycle));
@@ -50,7 +50,7 @@ impl<'a> Course<'a> {
         place
     }
 
-    // Whether all places up to a cycle are in the box. Those on a leg lie between its ends.
+    // Whether all places up to a cycle are in the box. The places on a leg lie between its ends.
     pub(crate) fn stays_inside(&self, cycles: u16) -> bool
         requires { IsCycle cycles }
         ensures { IsTrue result ↔ ((cycle : ℕ) → 1 ≤ cycle → cycle ≤ cycles → IsInBox (place_in self.now.start self.now.legs.now cycle)) }
@@ -81,7 +81,7 @@ fn legs_of(legs: &[Leg], craft: usize) -> &[Leg]
     &rest[..past - first]
 }
 
-// How many legs are of aircraft before one.
+// How many legs are of aircraft with a lower index.
 fn count_before(legs: &[Leg], craft: usize) -> usize
     requires { IsRising leg_below legs.now }
     ensures bound { result ≤ length legs.now }
@@ -90,7 +90,7 @@ fn count_before(legs: &[Leg], craft: usize) -> usize
     legs.partition_point(|leg| usize::from(leg.craft) < craft)
 }
 
-// When the leg at an index begins, but no later than `cycle`, and `cycle` where there is no leg.
+// The cycle in which the leg at an index begins, but no later than `cycle`. Where there is no such leg it is `cycle`.
 fn begins(legs: &[Leg], index: usize, cycle: u16) -> u16
     ensures { result ≡ begins legs.now index cycle }
 {

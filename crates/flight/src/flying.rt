@@ -10,11 +10,10 @@ use crate::Place;
 use crate::course::Course;
 use acas_base::Encounter;
 
-/// Where an aircraft is in a cycle, counted from 1 (this project's profile): at its start in cycle 1,
-/// and from each cycle to the next it moves by the rates of its leg that began last, or not at all where
-/// none has begun.
+/// Where an aircraft is in a cycle, counted from 1 (this project's profile). In cycle 1 it is at its start. From each
+/// cycle to the next it moves by the rates of its leg that began last. Where no leg has begun it doesn't move.
 ///
-/// It takes the time of that aircraft's legs, however many cycles they last.
+/// It takes time for each of that aircraft's legs, however many cycles they last.
 pub fn position(encounter: &Encounter, craft: u8, cycle: u16) -> Place
     requires craft { craft < length encounter.now.crafts }
     requires cycle { IsCycle cycle }
@@ -37,7 +36,7 @@ pub fn inside(encounter: &Encounter) -> bool
     true
 }
 
-/// A law: the truth value of what [`inside`] tells is true exactly where all aircraft stay in the box.
+/// A law: the truth value that [`inside`] gives is true exactly where all aircraft stay in the box.
 pub fn inside_law()
     ensures { (e : Parts) → IsTrue (stays_inside e) ↔ IsInside e }
 {}

@@ -25,8 +25,8 @@ pub struct Meas {
 // The greatest range that is measured, in ft.
 const LONGEST: u64 = 182_280;
 
-/// What an own aircraft measures of a target in a cycle (this project's profile). None where a miss of
-/// that own aircraft and that target covers the cycle, or where the range is above 182,280 ft.
+/// What an own aircraft measures of a target in a cycle (this project's profile). None where a miss of that own
+/// aircraft and that target covers the cycle, or where the range is above 182,280 ft.
 pub fn measure(encounter: &Encounter, own: u8, target: u8, cycle: u16) -> Option<Meas>
     requires own { own < length encounter.now.crafts }
     requires target { target < length encounter.now.crafts }
@@ -56,14 +56,14 @@ pub fn own_altitude(encounter: &Encounter, craft: u8, cycle: u16) -> i32
     feet(position(encounter, craft, cycle).z)
 }
 
-/// A law: `slant_range p q` is the greatest whole number of feet that is no more than the distance
-/// between two places, and no other number is.
+/// A law: `slant_range p q` is the greatest whole number of feet that is no more than the distance between two places,
+/// and no other number is.
 pub fn slant_range_law()
     ensures greatest { (p q : Place) → IsSlantRange p q (slant_range p q) }
     ensures only { (p q : Place) (r : ℕ) → IsSlantRange p q r → r ≡ slant_range p q }
 {}
 
-// What is measured from one place of what is at another one, where no miss is recorded.
+// What is measured at one place of an aircraft at another one, where no miss is recorded.
 pub(crate) fn measured(here: Place, there: Place) -> Option<Meas>
     requires here { IsReachable here }
     requires there { IsReachable there }
@@ -81,7 +81,7 @@ pub(crate) fn measured(here: Place, there: Place) -> Option<Meas>
     })
 }
 
-/// The slant range between two places in ft, rounded down, however long it is (this project's profile).
+/// The slant range between two places in ft, rounded down. It has no upper limit (this project's profile).
 pub fn slant_range(here: Place, there: Place) -> u64
     requires here { IsReachable here }
     requires there { IsReachable there }
@@ -103,7 +103,7 @@ fn square(a: i64, b: i64) -> u64
     distance * distance
 }
 
-// An altitude in 1/60 ft, in whole feet, rounded down.
+// An altitude in 1/60 ft, as whole feet, rounded down.
 pub(crate) fn feet(z: i64) -> i32
     requires { unsigned_abs z ≤ 2 ^ 24 }
     ensures value { result ≡ feet z }

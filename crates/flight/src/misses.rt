@@ -19,7 +19,7 @@ pub(crate) fn is_missed(encounter: &Encounter, own: u8, target: u8, cycle: u16) 
     covers(&misses[first], own, target, cycle)
 }
 
-// Whether a record covers a cycle, whoever misses whom.
+// Whether some record covers a cycle, of whatever own aircraft and target.
 pub(crate) fn misses_in(encounter: &Encounter, cycle: u16) -> bool
     ensures { result ≡ misses_in encounter.now cycle }
 {

@@ -29,6 +29,7 @@ pub(crate) fn start_of(craft: &CraftSpec) -> Place
     }
 }
 
+// For the proof: the bounds of a product.
 fn carried(rate: i32, seconds: u16) -> i64
     requires rate { IsWithin 10000 rate }
     requires seconds { seconds ≤ 600 }
@@ -38,6 +39,7 @@ fn carried(rate: i32, seconds: u16) -> i64
     i64::from(rate) * i64::from(seconds)
 }
 
+// For the proof: the bounds of a sum.
 fn sum(a: i64, b: i64) -> i64
     requires a { unsigned_abs a ≤ 2 ^ 24 }
     requires b { unsigned_abs b ≤ 2 ^ 24 }
@@ -46,7 +48,7 @@ fn sum(a: i64, b: i64) -> i64
     a + b
 }
 
-// Where one coordinate is after so many seconds at a rate.
+// One coordinate after so many seconds at a rate.
 fn moved(from: i64, rate: i32, seconds: u16) -> i64
     requires from { unsigned_abs from ≤ 2 ^ 24 }
     requires rate { IsWithin 10000 rate }

@@ -15,13 +15,13 @@ use acas_base::{CRAFTS, Encounter};
 use std::array::from_fn;
 use std::marker::Model;
 
-/// Where all aircraft of an encounter are in a cycle, for those who measure several of them in it.
+/// Where all aircraft of an encounter are in a cycle, for a caller that measures several of them in it.
 #[derive(Debug, Drop)]
 pub struct Places<'a> {
     encounter: &'a Encounter,
     cycle: u16,
     list: [Place; CRAFTS],
-    // Whether some measurement is missed in that cycle: mostly none is.
+    // Whether some measurement is missed in that cycle. In most cycles none is.
     misses: bool,
 }
 
@@ -73,7 +73,7 @@ impl<'a> Places<'a> {
         ensures bounds { IsReachable result }
         ensures inside { IsInside self.now.encounter → self.now.cycle ≤ self.now.encounter.cycles → IsInBox result }
     {
-        // No encounter has more than 16 aircraft.
+        // For the proof: no encounter has more than 16 aircraft.
         self.encounter.valid_law();
         self.list[usize::from(craft)]
     }
@@ -123,7 +123,7 @@ fn place_at(encounter: &Encounter, craft: usize, cycle: u16) -> Place
     no_place()
 }
 
-// The place that stands for that of an aircraft which there isn't.
+// The place that stands for the place of an aircraft that doesn't exist.
 fn no_place() -> Place
     ensures value { result ≡ nowhere }
     ensures bounds { IsReachable result }

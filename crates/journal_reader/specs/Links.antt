@@ -1,4 +1,4 @@
--- What a reader keeps of each aircraft, and of each against each other one.
+-- What a reader keeps of each aircraft, and of each aircraft against each other one.
 use Rattle.std.specs.Prelude.{◌≡◌, ◌≢◌, ℕ, ◌+◌, ◌*◌, ◌<◌, ◌≤◌, ◌&&◌, ◌==◌, if◌then◌else◌, List, [], ◌∷◌, Option, Some, None, length, option_and_then, slice_index_or}
 use Rattle.acas_base.specs.Encounter.{Parts}
 use Rattle.acas_base.specs.Senses.{has_sense, sense_of}
@@ -55,7 +55,7 @@ pub record IsReader (e : Parts) (journal : List Entry) (at : ℕ) (counts : List
 
 -- ---- what each entry changes
 
--- Where the run began that an aircraft has after a commit at this position with this cell.
+-- Where an aircraft's run began, after a commit at this position with this cell.
 abbrev pub run_after : Link → Cell → ℕ → Option ℕ
 run_after link cell at = option_and_then (λ sense. if has_sense link.cell sense then link.run else Some at) (sense_of cell)
 
@@ -65,17 +65,17 @@ committed_link link cell at = record { cell = cell; run = run_after link cell at
 abbrev pub taken_link : Link → GoodTake → Link
 taken_link link taken = record { cell = link.cell; run = link.run; taken = Some taken; bound = link.bound }
 
--- The row of an aircraft is that after a commit with these cells.
+-- The links of an aircraft are those after a commit with these cells.
 pub record RowIs (old new : List Link) (own : ℕ) (cells : Cells) (at : ℕ) : Type 0 where
   pub size : length new ≡ 256
   pub row : (b : ℕ) → b < CRAFTS → link_at new own b ≡ committed_link (link_at old own b) (cell_at cells b) at
   pub others : (a b : ℕ) → a < CRAFTS → b < CRAFTS → a ≢ own → link_at new a b ≡ link_at old a b
 
--- One pair is that after a take.
+-- The link of one pair is that after a take.
 pub record PairIs (old new : List Link) (own sender : ℕ) (taken : GoodTake) : Type 0 where
   pub size : length new ≡ 256
   pub pair : (a b : ℕ) → a < CRAFTS → b < CRAFTS → link_at new a b ≡ (if own == a && sender == b then taken_link (link_at old a b) taken else link_at old a b)
 
--- The message that a word tells, by who sent it; nothing is complemented where it reads as none.
+-- The message that a word says, and who sent it. Where the word reads as no message, it has no complement.
 abbrev pub from_word : ℕ → ℕ → Told
 from_word sender word = record { sender = sender; vrc = complement_read (read_word word) }

@@ -9,7 +9,8 @@ use Rattle.air_rules.specs.Runs.{run_began}
 use Rattle.air_rules.specs.Takes.{Taken, is_from}
 use Rattle.journal_reader.specs.declared.links.GoodTake.{GoodTake}
 
--- An encounter, a journal of it, and its beginning that was read, each with the newest entry first.
+-- An encounter, a journal of it, and the beginning of the journal that was read. Both lists have the newest entry
+-- first.
 pub record Reading : Type 0 where
   pub encounter : Parts
   pub journal : List Entry
@@ -19,7 +20,7 @@ pub record Reading : Type 0 where
 abbrev pub read_of : List Entry → ℕ → List Entry
 read_of journal count = reverse (take count (reverse journal))
 
--- The entry after those that were read; none where these are all.
+-- The entry after those that were read; none where all were read.
 abbrev pub next_entry : Reading → Option Entry
 next_entry reading = slice_get (reverse reading.journal) (length reading.read)
 
@@ -31,11 +32,11 @@ taken_at (Send own target number word ∷ earlier) craft other = taken_at earlie
 taken_at (Take own send copy good ∷ earlier) craft other =
     if good && (own == craft && is_from (sent_at earlier send) other) then Some (length earlier) else taken_at earlier craft other
 
--- What a good take says beside its position.
+-- A good take without its position.
 abbrev pub taken_of : GoodTake → Taken
 taken_of it = record { send = it.send; vrc = it.vrc; commits = it.commits }
 
--- The position of the first commit of an aircraft's present run against another one; none where its last commit doesn't
+-- The position of the first commit of an aircraft's present run against another one. None where its last commit doesn't
 -- advise against that one.
 abbrev pub present_run : List Entry → ℕ → ℕ → Option ℕ
 present_run journal own other = option_and_then (λ sense. run_began journal own other sense) (sense_of (last_cell journal own other))

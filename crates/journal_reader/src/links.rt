@@ -19,7 +19,7 @@ pub struct GoodTake {
 }
 
 /// What the entries so far say of an aircraft against another one: its cell in the last commit, where its present run
-/// began, and its last good take of a message of that one, now and before its last commit.
+/// began, and its last good take of a message of the other one, now and before its last commit.
 #[derive(Clone, Copy, Debug, PartialEq, Eq)]
 pub(crate) struct Link {
     pub cell: Cell,
@@ -41,7 +41,7 @@ pub(crate) fn no_links() -> [Link; PAIRS]
     [link; PAIRS]
 }
 
-// Where the run began that an aircraft has after a commit at this position with this cell.
+// Where an aircraft's run began, after a commit at this position with this cell.
 fn run_after(link: &Link, cell: Cell, at: u32) -> Option<u32>
     ensures { result ≡ run_after link.now cell at }
 {

@@ -94,7 +94,7 @@ impl<'a> Reader<'a> {
         }
     }
 
-    /// A law: the journal is a legal one of the encounter, and begins with what was read, which so is legal, too.
+    /// A law: the journal is a legal one of the encounter. It begins with what was read, so that is legal, too.
     pub fn reading_law(&self)
         ensures valid { IsEncounter self.now.encounter }
         ensures begins { Begins self.now.read self.now.journal }
@@ -102,6 +102,7 @@ impl<'a> Reader<'a> {
         ensures read { IsLegal (air_of self.now.encounter) self.now.read }
     {
         self.state.legal_law();
+        // For the proof: a field is read, so the invariant is known.
         let _ = &self.at;
     }
 
@@ -112,7 +113,7 @@ impl<'a> Reader<'a> {
         self.at
     }
 
-    /// The entry that comes next, which stays unread; none at the end, where all of the journal was read.
+    /// The entry that comes next. It stays unread. None at the end, where all of the journal was read.
     pub fn peek(&self) -> Option<EntryRef<'a>>
         ensures entry { option_map entry_of result ≡ next_entry self.now }
         ensures end { MatchOption result (self.now.read ≡ self.now.journal) (λ entry. Begins (entry_of entry ∷ self.now.read) self.now.journal) }
@@ -120,7 +121,7 @@ impl<'a> Reader<'a> {
         self.state.entry_ref(self.at)
     }
 
-    /// Reads the entry that comes next; none at the end, where all of the journal was read.
+    /// Reads the entry that comes next. None at the end, where all of the journal was read.
     pub fn next(&mut self) -> Option<EntryRef<'a>>
         ensures entry { option_map entry_of result ≡ next_entry self.old }
         ensures read { MatchOption result ((self.old.read ≡ self.old.journal) × (self.new.read ≡ self.old.read)) (λ entry. self.new.read ≡ entry_of entry ∷ self.old.read) }
@@ -157,8 +158,8 @@ impl<'a> Reader<'a> {
         self.links[pair_of(own, other)].cell
     }
 
-    /// The position where the present run of an aircraft against another one began: the longest row of its commits, up to
-    /// the last one, that advise in one sense. None where the last one doesn't advise.
+    /// The position where the present run of an aircraft against another one began. A run is the longest row of its
+    /// commits, up to the last one, that advise in one sense. None where the last commit doesn't advise.
     pub fn run_began(&self, own: u8, other: u8) -> Option<u32>
         requires own { own < CRAFTS }
         requires other { other < CRAFTS }

@@ -8,7 +8,7 @@ use acas_base::Vrc;
 use air_journal::{AirState, EntryRef};
 use res_message::decode;
 
-/// A message, by who sent it, and its complement.
+/// A message: who sent it, and its complement.
 #[derive(Clone, Copy, Debug, PartialEq, Eq)]
 pub(crate) struct Told {
     pub sender: u8,

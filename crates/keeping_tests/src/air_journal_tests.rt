@@ -11,8 +11,7 @@ use std::alloc::Global;
 use std::test::Fail;
 use test_encounters::{aircraft, encounter, leg};
 
-// Two aircraft that fly towards each other at one altitude, where these messages of the first one are spoilt, held or
-// lost.
+// Two aircraft that fly towards each other at one altitude. These messages of the first one are spoilt, held or lost.
 fn meeting(
     alloc: Global,
     gain: Option<u16>,
@@ -57,7 +56,7 @@ fn goes_on_for(state: &mut AirState, entries: u32) -> bool {
     true
 }
 
-// What may be sent to another thread, and shared with it.
+// A type that may be sent to another thread, and shared with it.
 fn crosses_threads<T: Send + Sync>(_value: &T) -> bool {
     true
 }

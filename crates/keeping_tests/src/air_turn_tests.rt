@@ -26,7 +26,7 @@ fn opened(alloc: Global, enc: &Encounter) -> Result<(Air, Vec<Seat>), Fail>
 
 // ---- the seats
 
-// The most cycles of aircraft of these kinds, which stand still beside each other.
+// Aircraft of these kinds, which stand still beside each other, for the most cycles.
 fn standing(alloc: Global, kinds: &[Kind]) -> Result<Encounter, Fail> {
     let mut crafts = [aircraft(0x40_0A01, 1000, 35_000)?; 16];
     for place in 0..kinds.len().min(16) {
@@ -41,7 +41,7 @@ fn standing(alloc: Global, kinds: &[Kind]) -> Result<Encounter, Fail> {
     encounter(alloc, 600, None, crafts, &[], &[], &[])
 }
 
-// What may be sent to another thread, and shared with it.
+// A type that may be sent to another thread, and shared with it.
 fn crosses_threads<T: Send + Sync>(_value: &T) -> bool {
     true
 }
@@ -50,7 +50,7 @@ fn may_be_sent<T: Send>(_value: &T) -> bool {
     true
 }
 
-// Whether these are the aircraft of the seats.
+// Whether the seats are of these aircraft.
 fn are_of(seats: &[Seat], owns: &[u8]) -> bool {
     for place in 0..seats.len() {
         if !may_be_sent(&seats[place]) || owns.get(place) != Some(&seats[place].own()) {
@@ -60,7 +60,7 @@ fn are_of(seats: &[Seat], owns: &[u8]) -> bool {
     seats.len() == owns.len()
 }
 
-// The same, and that the journal is empty when none has made a call.
+// The same, and whether the journal is empty when no seat has made a call.
 fn are_all_of(air: Air, seats: Vec<Seat>, owns: &[u8]) -> bool
     requires { AreAllSeats air seats.items }
 {
@@ -69,7 +69,7 @@ fn are_all_of(air: Air, seats: Vec<Seat>, owns: &[u8]) -> bool
     same && count == 0
 }
 
-// Whether aircraft of these kinds get seats so.
+// Whether aircraft of these kinds get seats for these indices.
 fn has_seats(alloc: Global, kinds: &[Kind], owns: &[u8]) -> Result<bool, Fail> {
     let enc = standing(alloc, kinds)?;
     let (air, seats) = opened(alloc, &enc)?;
@@ -89,7 +89,7 @@ const SEATED: [Seated; 4] = [
     ),
 ];
 
-// The place of the first encounter that gets others.
+// The place of the first encounter whose aircraft get other seats.
 fn first_otherwise_seated(alloc: Global, rows: &[Seated]) -> Result<Option<usize>, Fail> {
     for place in 0..rows.len() {
         let (kinds, owns) = rows[place];
@@ -269,7 +269,7 @@ const LEARNS: &[(u8, Act)] = &[
     (0, Act::Commits(Commit::Done(2))),
 ];
 
-// The same, but it isn't told of it.
+// The same, but the first aircraft doesn't learn of the commit.
 const LEARNS_NOTHING: &[(u8, Act)] = &[
     (0, Act::Commits(Commit::Done(0))),
     (0, Act::Commits(Commit::Ahead(1, 0))),
@@ -310,7 +310,7 @@ fn commits_all<R: Wait>(rt: &R, air: &Air, enc: &Encounter, seat: &mut Seat)
     unreachable!()
 }
 
-// Each seat does so in a thread of its own.
+// Each seat makes its commits in a thread of its own.
 fn all_commit<R: Threads + Wait + Sync>(rt: &R, air: &Air, enc: &Encounter, seats: &mut [Seat])
     requires { All (λ seat. (IsSeatOf air.now seat) × (seat.encounter ≡ enc.now) × (seat.front ≡ [])) seats.old }
     ensures { (k : ℕ) (d : SeatState) → k < length seats.old → IsSameSeat (slice_index_or seats.old k d) (slice_index_or seats.new k d) }

@@ -19,8 +19,8 @@ fn meeting(alloc: Global) -> Result<Encounter, Fail> {
     encounter(alloc, 31, None, &crafts, &legs, &[], &[])
 }
 
-// The same two, where the second one climbs in the end. One copy of the first one's second message comes late, and its
-// fifth message is lost.
+// The same two. The second one climbs in the end. One copy of the first one's second message comes late, and its fifth
+// message is lost.
 fn climbing(alloc: Global) -> Result<Encounter, Fail> {
     let crafts = [
         aircraft(0x40_0A01, 0, 35_000)?,
@@ -36,7 +36,7 @@ fn climbing(alloc: Global) -> Result<Encounter, Fail> {
     encounter(alloc, 31, Some(1024), &crafts, &legs, &[], &fates)
 }
 
-// One between two others.
+// An aircraft between two others.
 fn between(alloc: Global) -> Result<Encounter, Fail> {
     let crafts = [
         aircraft(0x40_0A01, 45_600, 34_700)?,

@@ -1,4 +1,4 @@
-//! Tests of the public calls of the crates that stand on the floor keeping.
+//! Tests of the public calls of the crates of the floor keeping.
 #![tactic(auto)]
 
 #[cfg(test)]

@@ -1,4 +1,4 @@
--- What the steps towards a goal make of a sum of rates, whichever way the goal lies.
+-- What the steps towards a goal add to a sum of rates, whichever way the goal lies.
 use Rattle.std.specs.Prelude.{ℕ, zero, suc, ◌+◌, ◌*◌, if◌then◌else◌, nat_le, ℤ, pos, neg_ℤ, int_le}
 
 -- How far k steps lead towards a goal at a distance.
@@ -10,6 +10,6 @@ abbrev pub gains : ℕ → ℕ → ℕ → ℕ
 gains distance step zero = 0
 gains distance step (suc m) = gains distance step m + gain distance step (suc m)
 
--- So much towards the goal: up where the goal isn't below v, and else down.
+-- An amount towards the goal: up where the goal isn't below v, else down.
 abbrev pub toward : ℤ → ℤ → ℕ → ℤ
 toward v goal amount = if int_le v goal then pos amount else neg_ℤ (pos amount)

@@ -3,7 +3,8 @@
 use Rattle.std.specs.Prelude.{ℕ, zero, suc, ◌-◌, if◌then◌else◌, nat_le, ℤ, pos, ◌+ℤ◌, ◌-ℤ◌, ◌*ℤ◌, int_le}
 use Rattle.std.specs.Int.{int_min, int_max, int_div_euclid}
 
--- The rate of the half-second h: own rate v in the delay, and after it one step more towards the goal in each, not past it.
+-- The rate of half-second h. In the delay it is own rate v. In each half-second after it, it moves one more step
+-- towards the goal, and never past it.
 abbrev pub rate_at : ℤ → ℤ → ℕ → ℤ → ℕ → ℤ
 rate_at v goal delay step h =
     if nat_le h delay then v

@@ -1,4 +1,4 @@
-// What the steps towards a goal make of a sum of rates.
+// What the steps towards a goal add to a sum of rates.
 ghost use Rattle.std.specs.Prelude.{◌≡◌, ◌+◌, ◌*◌, ◌/◌, ◌<◌, ◌≤◌, ◌^◌};
 ghost use Rattle.project.specs.Gained.{gains};
 

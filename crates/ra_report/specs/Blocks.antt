@@ -1,4 +1,4 @@
--- The RA report blocks of a journal, which stands with its newest entry first.
+-- The RA report blocks of a journal. The newest entry of a journal stands first.
 use Rattle.std.specs.Prelude.{ℕ, zero, suc, ◌&&◌, ◌||◌, ◌==◌, Bool, true, false, if◌then◌else◌, List, [], ◌∷◌, Option, Some, None, codes, filter, length, option_and_then, option_map, option_to_list}
 use Rattle.std.specs.Fmt.{decimal}
 use Rattle.std.specs.List.{flat_map, list_any, range_with_len}
@@ -26,7 +26,7 @@ use Rattle.air_rules.specs.Takes.{complement_from}
 use Rattle.ra_report.specs.Words.{word_of}
 use Rattle.ra_report.specs.declared.block.RaBlock.{RaBlock}
 
--- ---- what an aircraft's own commits tell: the cells of each of them, the last one first
+-- ---- what follows from an aircraft's own commits: the cells of each of them, the last one first
 
 abbrev pub cells_of : List Entry → ℕ → List Cells
 cells_of [] craft = []
@@ -38,7 +38,7 @@ cells_of (Take own send copy good ∷ earlier) craft = cells_of earlier craft
 abbrev pub threats : ℕ → Cells → List ℕ
 threats count cells = filter (λ other. has_advisory (cell_at cells other)) (range_with_len 0 count)
 
--- An advisory, and its earlier cycles down to the one of age 1.
+-- An advisory, and the same advisory in its earlier cycles, down to age 1.
 abbrev pub course_from : Cell → List Intent → List Intent
 course_from Clear before = []
 course_from Traffic before = []
@@ -49,7 +49,7 @@ abbrev pub course : List Cells → ℕ → List Intent
 course [] other = []
 course (cells ∷ before) other = course_from (cell_at cells other) (course before other)
 
--- It has had this sense in one of these cycles.
+-- The advisory has had this sense in one of these cycles.
 abbrev pub has_had : List Cells → ℕ → Sense → Bool
 has_had commits other sense = list_any (λ (it : Intent). is_same_sense it.sense sense) (course commits other)
 
@@ -70,8 +70,8 @@ is_positive Level = false
 is_positive Positive = true
 is_positive Increase = true
 
--- The block of an advisory against a threat of this address, which has had its other sense or hasn't. The complements in force
--- come to it later.
+-- The block of an advisory against a threat of this address. `had` says which senses the advisory has had. The
+-- complements in force are added later.
 abbrev pub block_for : ℕ → (Sense → Bool) → Cell → Option RaBlock
 block_for address had Clear = None
 block_for address had Traffic = None
@@ -88,7 +88,7 @@ block_for address had (Ra it) = Some (record {
   threat = address;
 })
 
--- The one of a list that has one.
+-- The one item of a list that has exactly one.
 abbrev pub only_one : List ℕ → Option ℕ
 only_one [] = None
 only_one (one ∷ []) = Some one
@@ -104,7 +104,8 @@ abbrev pub is_none : List ℕ → Bool
 is_none [] = true
 is_none (one ∷ rest) = false
 
--- The block of the last one among so many commits that advises at all, where it does against exactly one aircraft.
+-- The block of the last advising commit among the last `n` ones, where that commit advises against exactly one
+-- aircraft.
 abbrev pub held_block : Parts → ℕ → List Cells → Option RaBlock
 held_block e zero commits = None
 held_block e (suc left) [] = None
@@ -117,14 +118,14 @@ hold = 18
 abbrev pub ended : RaBlock → RaBlock
 ended b = record { corrective = b.corrective; downward = b.downward; increased = b.increased; reversal = b.reversal; crossing = b.crossing; positive = b.positive; below = b.below; above = b.above; ended = true; threat = b.threat }
 
--- The block after the last commit: that of its advisory, or the one that is held where it has none.
+-- The block after the last commit: that of its advisory, or the block that is held where it has no advisory.
 abbrev pub advice : Parts → List Cells → Option RaBlock
 advice e [] = None
 advice e (cells ∷ before) = if is_none (threats (length e.crafts) cells) then option_map ended (held_block e hold before) else fresh_block e (cells ∷ before)
 
 -- ---- what is in force before a commit
 
--- One of the first so many numbers passes a test.
+-- One of the first n numbers passes a test.
 abbrev pub some_below : (ℕ → Bool) → ℕ → Bool
 some_below test zero = false
 some_below test (suc n) = some_below test n || test n
@@ -151,7 +152,7 @@ block_of e earlier own cells =
     then option_map (limited (is_limited is_not_below e earlier own) (is_limited is_not_above e earlier own)) (advice e (cells ∷ cells_of earlier own))
     else None
 
--- That of an aircraft's commit of a cycle; none where it hasn't committed it.
+-- The block of an aircraft's commit of a cycle. None where it hasn't committed that cycle.
 abbrev pub block_in : Parts → List Entry → ℕ → ℕ → Option RaBlock
 block_in e [] craft of_cycle = None
 block_in e (Commit own cycle cells ∷ earlier) craft of_cycle = if own == craft && cycle == of_cycle then block_of e earlier own cells else block_in e earlier craft of_cycle

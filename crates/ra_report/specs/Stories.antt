@@ -21,7 +21,7 @@ use Rattle.ra_report.specs.declared.story.Story.{Story}
 use Rattle.ra_report.specs.declared.story.Threats.{Threats}
 use Rattle.ra_report.specs.declared.story.Threats.TheVariants as kinds
 
--- No, one or many.
+-- No aircraft, one, or many.
 abbrev pub as_threats : List ℕ → Threats
 as_threats [] = kinds.Nobody
 as_threats (one ∷ []) = kinds.One one
@@ -32,7 +32,7 @@ with_threat kinds.Nobody other = kinds.One other
 with_threat (kinds.One one) other = kinds.Many
 with_threat kinds.Many other = kinds.Many
 
--- It is one of so many aircraft.
+-- The aircraft is one of the first so many.
 abbrev pub IsAmong : ℕ → Threats → Type 0
 IsAmong count kinds.Nobody = Unit {0}
 IsAmong count (kinds.One other) = other < count
@@ -57,8 +57,8 @@ senses_after before (Ra it) = record {
   down = is_same_sense it.sense Down || (if it.age == 1 then false else before.down);
 }
 
--- The block of the last commit that advised, if against exactly one aircraft, and how many commits have come since, while it is
--- held.
+-- What is held of an aircraft: the block of the last commit that advised, if that commit advised against exactly one
+-- aircraft, and how many commits have come since. It is held for `hold` commits.
 abbrev pub older : Held → Option Held
 older held = if nat_lt held.since hold then Some (record { block = held.block; since = held.since + 1 }) else None
 
@@ -69,13 +69,13 @@ abbrev pub held_of : Parts → List Cells → Option Held
 held_of e [] = None
 held_of e (cells ∷ before) = if is_none (threats (length e.crafts) cells) then option_and_then older (held_of e before) else option_map fresh (fresh_block e (cells ∷ before))
 
--- The same, from what was held, the senses after the commit and its threats.
+-- What is held after a commit, from what was held, the senses after the commit, and its threats.
 abbrev pub held_after : Parts → Option Held → Cells → List Senses → Threats → Option Held
 held_after e held cells senses kinds.Nobody = option_and_then older held
 held_after e held cells senses (kinds.One other) = option_map fresh (block_for (address_of e other) (had (slice_index_or senses other no_senses)) (cell_at cells other))
 held_after e held cells senses kinds.Many = None
 
--- What is told of it.
+-- The block as it is reported.
 abbrev pub told : Held → RaBlock
 told held = if held.since == 0 then held.block else ended held.block
 
@@ -94,7 +94,7 @@ block_by e earlier own held =
     then option_map (λ (h : Held). limited (is_limited is_not_below e earlier own) (is_limited is_not_above e earlier own) (told h)) held
     else None
 
--- The senses of each advisory are those after a commit.
+-- The senses of each advisory are those after the commit.
 pub record AreAfter (old : List Senses) (cells : Cells) (new : List Senses) : Type 0 where
   pub size : length new ≡ CRAFTS
   pub each : (other : ℕ) → other < CRAFTS → slice_index_or new other no_senses ≡ senses_after (slice_index_or old other no_senses) (cell_at cells other)

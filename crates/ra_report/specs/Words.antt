@@ -1,5 +1,5 @@
--- The words of RA report blocks: 56 bits, numbered 33 to 88 from the highest one on. The layout is this project's own, modelled
--- on the register BDS 3,0.
+-- The words of RA report blocks: 56 bits, numbered 33 to 88 from the highest one on. The layout is this project's own.
+-- Its model is the register BDS 3,0.
 use Rattle.std.specs.Prelude.{◌≡◌, ℕ, ◌+◌, ◌*◌, ◌/◌, ◌%◌, ◌^◌, ◌<◌, ◌==◌, ◌&&◌, nat_le, Bool, if◌then◌else◌, Option, Some, None}
 use Rattle.acas_base.specs.Ranges.{IsAddress}
 use Rattle.ra_report.specs.declared.block.RaBlock.{RaBlock}
@@ -39,11 +39,11 @@ word_of b =
     + (bit_of b.corrective * 2 ^ 46 + bit_of b.downward * 2 ^ 45 + bit_of b.increased * 2 ^ 44 + bit_of b.reversal * 2 ^ 43 + bit_of b.crossing * 2 ^ 42 + bit_of b.positive * 2 ^ 41)
     + bit_of b.below * 2 ^ 33 + bit_of b.above * 2 ^ 32 + bit_of b.ended * 2 ^ 29 + b.threat * 2 ^ 2
 
--- A word has a bit, told by the bit's value.
+-- Whether a word has a bit. The bit is given by its value.
 abbrev pub bit_at : ℕ → ℕ → Bool
 bit_at bit word = word / bit % 2 == 1
 
--- The block that a word's fields tell.
+-- The block that a word's fields say.
 abbrev pub block_at : ℕ → RaBlock
 block_at word = record {
   corrective = bit_at (2 ^ 46) word;
@@ -58,7 +58,7 @@ block_at word = record {
   threat = field 63 86 word;
 }
 
--- The block of a word: what its fields tell, where that has this word. It is none where the word is no block's.
+-- The block of a word: what its fields say, where that block has this word. None where no block has the word.
 abbrev pub read_block : ℕ → Option RaBlock
 read_block word = let block = block_at word in
     if nat_le 1 block.threat && (nat_le block.threat 16777214 && word_of block == word) then Some block else None

@@ -32,8 +32,8 @@ pub struct RaBlock {
     pub threat: Address,
 }
 
-// What is the same in all words: 3 in the bits 33 to 36, one threat in bit 41, and in the bits 61 and 62 that an address names
-// it.
+// The parts that all words have: 3 in the bits 33 to 36; one threat, in bit 41; and in the bits 61 and 62, that an
+// address names the threat.
 const ALWAYS: u64 = (3 << 52) + (1 << 47) + (1 << 26);
 
 // The lowest bit of the threat's address.
@@ -54,7 +54,7 @@ fn has(word: u64, bit: u64) -> bool
     word / bit % 2 == 1
 }
 
-// What the flags that tell of the advisory by itself add.
+// The bits of the flags about the advisory itself.
 fn advisory_bits(b: &RaBlock) -> u64
     ensures value { result ≡ bit_of b.now.corrective * 2 ^ 46 + bit_of b.now.downward * 2 ^ 45 + bit_of b.now.increased * 2 ^ 44 + bit_of b.now.reversal * 2 ^ 43 + bit_of b.now.crossing * 2 ^ 42 + bit_of b.now.positive * 2 ^ 41 }
     ensures bound { result < 2 ^ 47 }
@@ -89,7 +89,7 @@ pub fn decode(word: u64) -> Option<RaBlock>
     read(word)
 }
 
-// What the fields of a word tell, where that has this word.
+// What the fields of a word say, where that block has this word.
 fn read(word: u64) -> Option<RaBlock>
     ensures { result ≡ read_block word }
 {
@@ -113,7 +113,7 @@ fn read(word: u64) -> Option<RaBlock>
     }
 }
 
-/// A law: the word of a block is read as that block, so `decode(encode(&b))` is `b`.
+/// A law: the word of a block is read as that block. So `decode(encode(&b))` is `b`.
 pub fn read_law()
     ensures { (b : RaBlock) → IsAddress b.threat → read_block (word_of b) ≡ Some b }
 {}

@@ -7,14 +7,14 @@ use crate::block::RaBlock;
 use acas_base::Sense;
 use journal_reader::Reader;
 
-// The kinds of complements that are in force: "do not pass below" and "do not pass above".
+// The kinds of complements in force: "do not pass below" and "do not pass above".
 #[derive(Clone, Copy, Debug, PartialEq, Eq)]
 struct Limits {
     below: bool,
     above: bool,
 }
 
-// Those on an aircraft from the first so many aircraft, by the journal that was read.
+// The complements in force on an aircraft from the first `count` aircraft, by the journal that was read.
 fn limits_on(reader: &Reader<'_>, own: u8, count: u8) -> Limits
     requires own { own < CRAFTS }
     requires few { count ≤ CRAFTS }
@@ -32,7 +32,7 @@ fn limits_on(reader: &Reader<'_>, own: u8, count: u8) -> Limits
     Limits { below, above }
 }
 
-/// A block with the complements in force on its aircraft, by the journal that was read, with so many aircraft.
+/// A block with the complements in force on its aircraft, by the journal that was read. There are `count` aircraft.
 pub(crate) fn with_limits(block: RaBlock, reader: &Reader<'_>, own: u8, count: u8) -> RaBlock
     requires own { own < CRAFTS }
     requires few { count ≤ CRAFTS }

@@ -53,7 +53,8 @@ impl Text for Table<'_> {
     }
 }
 
-/// The RA report blocks of a state: how many there are, and the line of each, by cycle and then by the index of its aircraft.
+/// The RA report blocks of a state as a text: how many there are, and the line of each, by cycle and then by the index
+/// of the aircraft.
 #[derive(Drop)]
 pub struct Reports<'a>(pub &'a AirState);
 
@@ -72,7 +73,7 @@ impl Text for Reports<'_> {
 
 /// Writes the RA report blocks of a state. It takes no memory.
 ///
-/// `Failed` comes only where the sink's count of faults rose; what was written then is a front of the text.
+/// `Failed` comes only where the sink's count of faults rose. Then a front of the text has been written.
 pub fn write<K: Sink>(state: &AirState, sink: &mut K) -> Result<(), Failed>
     ensures { Puts (K.written sink.old) (K.written sink.new) (K.faults sink.old) (K.faults sink.new) (report_text state.now.encounter state.now.journal) result }
 {

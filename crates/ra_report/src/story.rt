@@ -62,7 +62,7 @@ impl Senses {
         }
     }
 
-    // Those after one cycle more.
+    // The senses one cycle later.
     fn after(self, cell: Cell) -> Senses
         ensures { result ≡ senses_after self cell }
     {
@@ -82,7 +82,7 @@ impl Senses {
 }
 
 impl Held {
-    // It is held for one commit more, or not any more.
+    // What is held one commit later; none where the hold is over.
     fn older(self) -> Option<Held>
         ensures { result ≡ older self }
     {
@@ -96,7 +96,7 @@ impl Held {
         }
     }
 
-    /// The block, as ended where its advisory is over.
+    /// The block as it is reported: as ended, where its advisory is over.
     pub fn told(self) -> RaBlock
         ensures { result ≡ told self }
     {
@@ -128,7 +128,7 @@ fn ended(block: RaBlock) -> RaBlock
 impl Threats {
     ghost use Rattle.ra_report.specs.Stories.{with_threat};
 
-    // One aircraft more.
+    // The threats with one aircraft more.
     fn with(self, other: u8) -> Threats
         ensures { result ≡ with_threat self other }
     {
@@ -138,7 +138,7 @@ impl Threats {
         }
     }
 
-    /// Those of a commit, among so many aircraft.
+    /// The threats of a commit, among so many aircraft.
     pub fn of(cells: &Cells, count: u8) -> Threats
         requires count { count ≤ CRAFTS }
         requires size { length cells.now.list ≡ CRAFTS }
@@ -209,7 +209,7 @@ fn senses_after(senses: &[Senses; CRAFTS], cells: &Cells) -> [Senses; CRAFTS]
     after
 }
 
-// What is held after a commit against these threats, whose senses are these.
+// What is held after a commit with these threats and senses.
 fn held_after(
     encounter: &Encounter,
     held: Option<Held>,
@@ -234,7 +234,7 @@ fn held_after(
 }
 
 impl Story {
-    /// That of an aircraft with one commit more.
+    /// The story of an aircraft with one commit more.
     pub fn after(&self, encounter: &Encounter, cells: &Cells) -> Story
         requires few { length encounter.now.crafts ≤ CRAFTS }
         requires size { length cells.now.list ≡ CRAFTS }

@@ -61,7 +61,7 @@ fn no_blocks() -> [Option<RaBlock>; PLACES]
     [None; PLACES]
 }
 
-// The block of a commit, which the aircraft's story already has, after the journal that was read.
+// The block of a commit, after the journal that was read. The aircraft's story has the commit already.
 fn block_of(encounter: &Encounter, reader: &Reader<'_>, own: u8, story: &Story) -> Option<RaBlock>
     requires same { reader.now.encounter ≡ encounter.now }
     requires few { length encounter.now.crafts ≤ CRAFTS }
@@ -76,7 +76,7 @@ fn block_of(encounter: &Encounter, reader: &Reader<'_>, own: u8, story: &Story) 
     Some(with_limits(held.told(), reader, own, count))
 }
 
-// Keeps a commit that comes next.
+// Keeps the commit that comes next.
 fn note_commit(
     encounter: &Encounter,
     reader: &Reader<'_>,

@@ -11,7 +11,7 @@ use Rattle.rec_text.specs.Report.{report_lines}
 abbrev pub head_line : List ℕ
 head_line = codes "recording,1\n"
 
--- Lines that tell how many lines follow.
+-- A line with the number of lines that follow.
 abbrev pub journal_line : ℕ → List ℕ
 journal_line count = count_line (codes "journal") count
 
@@ -25,7 +25,7 @@ close_line = codes "close\n"
 abbrev pub closing_lines : Parts → List Entry → List (List ℕ)
 closing_lines e journal = report_count_line (length (report_lines e journal)) ∷ (report_lines e journal ++ close_line ∷ [])
 
--- All of it.
+-- All lines of a recording.
 abbrev pub recording_lines : Parts → List Entry → List (List ℕ)
 recording_lines e journal =
     head_line ∷ (canonical_lines e ++ journal_line (length journal) ∷ (entry_lines (length e.crafts) journal ++ closing_lines e journal))

@@ -1,4 +1,4 @@
--- The report of a journal: what the crews hear and see, from commit to commit.
+-- The report of a journal: what the crews see and hear, from commit to commit.
 use Rattle.std.specs.Prelude.{◌≡◌, ℕ, ◌-◌, ◌<◌, List, [], length, slice_index_or, Option, Some, None, option_to_list}
 use Rattle.std.specs.List.{flat_map, range_with_len}
 use Rattle.acas_base.specs.Encounter.{Parts}
@@ -19,15 +19,15 @@ commit_report cycle address before (Some cells) = option_to_list (report_line cy
 abbrev pub shown_in : List Entry → ℕ → ℕ → Composite
 shown_in journal cycle own = shown (commit_cells journal own cycle)
 
--- The line for an aircraft's commit of a cycle, by what it showed after the cycle before.
+-- The line for an aircraft's commit of a cycle. It depends on what the aircraft showed after the cycle before.
 abbrev pub report_of : Parts → List Entry → ℕ → ℕ → List (List ℕ)
 report_of e journal cycle own = commit_report cycle (address_of e own) (shown_in journal (cycle - 1) own) (commit_cells journal own cycle)
 
--- By index.
+-- The lines of a cycle, by index.
 abbrev pub report_in : Parts → List Entry → ℕ → List (List ℕ)
 report_in e journal cycle = flat_map (report_of e journal cycle) (range_with_len 0 (length e.crafts))
 
--- By cycle.
+-- All lines, by cycle.
 unfoldable pub report_lines : Parts → List Entry → List (List ℕ)
 report_lines e journal = flat_map (report_in e journal) (range_with_len 1 e.cycles)
 

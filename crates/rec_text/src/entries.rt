@@ -75,8 +75,9 @@ fn add_take(line: &mut Line, own: u8, send: u32, copy: u8, good: bool, count: u8
     line.text("\n");
 }
 
-/// Makes the line of an entry that an encounter of so many aircraft can have, with its line feed, in place of what a line
-/// held. It is inlined where each entry is told: else a serial run of 16 aircraft takes 5 per cent more instructions.
+/// Makes the line of an entry, with its line feed, in place of what a line held. The entry is one that an encounter of
+/// so many aircraft can have. The call is inlined where all entries are written: else a serial run of 16 aircraft takes
+/// 5 per cent more instructions.
 #[inline(always)]
 pub fn set_entry_line(line: &mut Line, entry: &EntryRef<'_>, count: u8)
     requires few { count ≤ CRAFTS }

@@ -1,5 +1,5 @@
 //! The recording of a state of the air: the canonical text of its encounter, the line of each entry of its journal, and
-//! the report of what the crews hear. It tells what the journal says, and judges nothing.
+//! the report of what the crews hear. It says what the journal says, and judges nothing.
 #![tactic(auto)]
 
 mod counts;

@@ -26,8 +26,8 @@ impl Text for Closing<'_> {
     }
 }
 
-/// The recording of a state: a head; the canonical text of the encounter; how many entries there are, and the line of each,
-/// in the order in which they were made; and the closing.
+/// The recording of a state as a text: a head; the canonical text of the encounter; the number of entries; the line of
+/// each entry, in the order in which they were made; and the closing.
 #[derive(Drop)]
 pub struct Recording<'a>(pub &'a AirState);
 
@@ -47,7 +47,7 @@ impl Text for Recording<'_> {
 
 /// Writes the recording of a state. It takes no memory.
 ///
-/// `Failed` comes only where the sink's count of faults rose; what was written then is a front of the text.
+/// `Failed` comes only where the sink's count of faults rose. Then a front of the text has been written.
 pub fn write<K: Sink>(state: &AirState, sink: &mut K) -> Result<(), Failed>
     ensures { Puts (K.written sink.old) (K.written sink.new) (K.faults sink.old) (K.faults sink.new) (recording state.now.encounter state.now.journal) result }
 {

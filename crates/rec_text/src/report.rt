@@ -10,7 +10,7 @@ use acas_lines::{LineSink, Text, count_lines};
 use advisory_report::{Composite, composite_of, line};
 use air_journal::AirState;
 
-// Puts the line for a commit that changes what an aircraft shows, and gives what it shows then.
+// Puts the line of a commit, where the report has one, and gives what the aircraft shows after it.
 fn put_commit<S: LineSink>(
     cycle: u16,
     address: Address,
@@ -31,7 +31,8 @@ fn put_commit<S: LineSink>(
     after
 }
 
-// Puts the lines of a cycle. What the aircraft showed before it is kept, and becomes what they show after it.
+// Puts the lines of a cycle. `composites` has what the aircraft showed before the cycle, and is changed to what they
+// show after it.
 fn put_cycle<S: LineSink>(
     state: &AirState,
     cycle: u16,

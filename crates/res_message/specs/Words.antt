@@ -1,5 +1,5 @@
--- The words of resolution messages: the bits 33 to 88 of the interrogation that carries one, bit 33 the highest (ICAO Annex 10
--- vol. IV, 4.3; the places of the fields and their parity are this project's profile).
+-- The words of resolution messages: the bits 33 to 88 of the interrogation that carries one, bit 33 the highest (ICAO
+-- Annex 10 vol. IV, 4.3; the places of the fields and their parity are this project's profile).
 use Rattle.std.specs.Prelude.{◌≡◌, ℕ, ◌+◌, ◌-◌, ◌*◌, ◌/◌, ◌%◌, ◌^◌, ◌<◌, ◌==◌, ◌&&◌, nat_le, Bool, if◌then◌else◌, List, [], ◌∷◌, slice_index, bit_xor, Option, Some, None}
 use Rattle.acas_base.specs.Ranges.{IsAddress}
 use Rattle.acas_base.specs.declared.advisory.ResMsg.{ResMsg}
@@ -54,15 +54,15 @@ IsCodeWord word = (message : ResMsg) × Word message word
 abbrev pub word_of : ResMsg → ℕ
 word_of message = 0x30 * 2 ^ 48 + bit_of message.many * 2 ^ 46 + code_of message.cancel * 2 ^ 44 + code_of message.vrc * 2 ^ 42 + parity_of message.cancel message.vrc * 2 ^ 24 + message.sender
 
--- The complement of a field, which is at most 3; 3 is no complement, and no message has it.
+-- The complement of a field. A field is at most 3, and 3 is no complement: no message has it.
 abbrev pub complement_at : ℕ → Vrc
 complement_at code = if code == 0 then Nil else (if code == 1 then NotBelow else NotAbove)
 
--- The message that a word's fields tell.
+-- The message that a word's fields say.
 abbrev pub message_at : ℕ → ResMsg
 message_at word = record { many = field 42 42 word == 1; cancel = complement_at (field 43 44 word); vrc = complement_at (field 45 46 word); sender = field 65 88 word }
 
--- The message of a word: what its fields tell, where that has this word. It is none where the word is no message's.
+-- The message of a word: what its fields say, where that message has this word. None where no message has the word.
 abbrev pub read_word : ℕ → Option ResMsg
 read_word word = let message = message_at word in
     if nat_le 1 message.sender && (nat_le message.sender 16777214 && word_of message == word) then Some message else None
@@ -71,7 +71,8 @@ read_word word = let message = message_at word in
 abbrev pub flip_word : ℕ → ℕ → ℕ
 flip_word word mask = bit_xor word (mask / 16 * 2 ^ 42 + mask % 16 * 2 ^ 24)
 
--- The same by fields: the mask's halves are added to the two complements and to the parity, and no other bit changes.
+-- The same by fields. The mask's halves are added by exclusive or to the two complements and to the parity. No other
+-- bit changes.
 pub record IsFlipped (word mask flipped : ℕ) : Type 0 where
   pub complements : field 43 46 flipped ≡ bit_xor (field 43 46 word) (mask / 16)
   pub parity : field 61 64 flipped ≡ bit_xor (field 61 64 word) (mask % 16)

@@ -10,7 +10,7 @@ pub fn read_law()
     ensures flip { (word : ℕ) → flip_word word 0 ≡ word }
 {}
 
-/// A law: a word is the word of one message at most, and a message has one word.
+/// A law: a word is the word of at most one message, and a message has one word.
 pub fn once_law()
     ensures message { (m n : ResMsg) (word : ℕ) → Word m word → Word n word → m ≡ n }
     ensures word { (m : ResMsg) (v w : ℕ) → Word m v → Word m w → v ≡ w }
@@ -21,8 +21,8 @@ pub fn distance_law()
     ensures { (m : ResMsg) (word mask : ℕ) → Word m word → mask < 256 → 1 ≤ count_ones mask → count_ones mask ≤ 3 → ¬ IsCodeWord (flip_word word mask) }
 {}
 
-/// A law: a message's word with at most three of the protected bits flipped is read as that message, if
-/// it is read at all.
+/// A law: flip at most three of the protected bits of a message's word. If the result is read at all, it is read as
+/// that message.
 pub fn spoilt_law()
     ensures { (m : ResMsg) (mask : ℕ) → IsAddress m.sender → mask < 256 → count_ones mask ≤ 3 → IfSome (read_word (flip_word (word_of m) mask)) (λ n. n ≡ m) }
 {}

@@ -8,8 +8,8 @@ use acas_base::{Address, ResMsg, Vrc};
 // UDS1, the bits 33 to 36, is 3.
 const UDS1: u64 = 3 << 52;
 
-// The lowest bit of each other field that isn't 0: more than one threat, the complement that is
-// cancelled, the one that is set, and the parity of these two.
+// The lowest bit of each other field that can differ from 0: more than one threat, the cancelled complement, the
+// complement that is set, and the parity of these two.
 const MTB: u64 = 1 << 46;
 
 const CVC: u64 = 1 << 44;
@@ -29,7 +29,7 @@ fn code(complement: Vrc) -> u64
     }
 }
 
-// The complement of a field; 3, which is none, is read as 2.
+// The complement of a field. 3 is no complement, and is read as 2.
 fn complement(code: u64) -> Vrc
     ensures { result ≡ complement_at code }
 {
@@ -65,8 +65,8 @@ fn bit(many: bool) -> u64
     u64::from(many)
 }
 
-/// The word of a message: the bits 33 to 88 of the interrogation that carries it, bit 33 the highest,
-/// in the low 56 bits (ICAO Annex 10 vol. IV, 4.3, in this project's profile).
+/// The word of a message: the bits 33 to 88 of the interrogation that carries it, bit 33 the highest, in the low 56
+/// bits (ICAO Annex 10 vol. IV, 4.3, in this project's profile).
 pub fn encode(m: &ResMsg) -> u64
     ensures value { result ≡ word_of m.now }
     ensures word { Word m.now result }
@@ -78,8 +78,8 @@ pub fn encode(m: &ResMsg) -> u64
         + u64::from(m.sender.value())
 }
 
-/// The message of a word. None where it is no message's word: where a bit that isn't a field's is
-/// wrong, a complement is 3, the parity is wrong, or the address is all zeros or all ones.
+/// The message of a word. None where no message has the word: a bit that belongs to no field is wrong, a complement is
+/// 3, the parity is wrong, or the address is all zeros or all ones.
 pub fn decode(word: u64) -> Option<ResMsg>
     ensures value { result ≡ read_word word }
     ensures some { (m : ResMsg) → (result ≡ Some m) ↔ Word m word }
@@ -99,8 +99,8 @@ pub fn decode(word: u64) -> Option<ResMsg>
     }
 }
 
-/// The word with bits flipped: those of the mask, highest first, are the bits 43 to 46, the two
-/// complements, and 61 to 64, their parity.
+/// The word with some bits flipped. The bits of the mask, highest first, stand for the bits 43 to 46, which are the two
+/// complements, and 61 to 64, which are their parity.
 pub fn flip(word: u64, mask: u8) -> u64
     ensures value { result ≡ flip_word word mask }
     ensures fields { IsFlipped word mask result }
