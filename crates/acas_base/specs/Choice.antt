@@ -1,4 +1,5 @@
--- The choice of sense and strength, from one view (FAA, Introduction to TCAS II v7.1; the details are this project's profile).
+-- The choice of sense and strength, from one view (FAA, Introduction to TCAS II v7.1; the details are this project's
+-- profile).
 use Rattle.std.specs.Prelude.{Bool, true, false, not, ◌&&◌, if◌then◌else◌, ℤ, pos, neg_ℤ, int_lt, int_le, nat_le, nat_lt, List, slice_index_or, find, unwrap_or}
 use Rattle.acas_base.specs.Senses.{other_sense}
 use Rattle.acas_base.specs.Strengths.{place_of, is_at_most, weakest_first, strongest_first, is_allowed}

@@ -7,7 +7,8 @@ use Rattle.acas_base.specs.declared.advisory.Sense.TheVariants.{Up, Down}
 use Rattle.acas_base.specs.declared.advisory.Vrc.{Vrc}
 use Rattle.acas_base.specs.declared.advisory.Vrc.TheVariants.{Nil, NotBelow, NotAbove}
 
--- The sense that a complement forbids to its receiver: "do not pass below" forbids down, "do not pass above" forbids up.
+-- The sense that a complement forbids to its receiver. "Do not pass below" forbids down, and "do not pass above"
+-- forbids up.
 abbrev pub forbidden_sense : Vrc → Option Sense
 forbidden_sense Nil = None
 forbidden_sense NotBelow = Some Down

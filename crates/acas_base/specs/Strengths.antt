@@ -1,5 +1,5 @@
--- Strengths of an advisory: their order, their floors, and which are allowed (FAA, Introduction to TCAS II v7.1; the floors
--- and the heights above ground are this project's profile).
+-- Strengths of an advisory: their order, their floors, and which are allowed (FAA, Introduction to TCAS II v7.1; the
+-- floors and the heights above ground are this project's profile).
 use Rattle.std.specs.Prelude.{ℕ, Bool, true, not, ◌&&◌, ℤ, pos, neg_ℤ, int_le, nat_le, List, [], ◌∷◌}
 use Rattle.acas_base.specs.declared.advisory.Sense.{Sense}
 use Rattle.acas_base.specs.declared.advisory.Sense.TheVariants.{Up, Down}

@@ -1,4 +1,4 @@
--- What the crew hears (FAA, Introduction to TCAS II v7.1, for the words; punctuation, repeats and moments are this project's
+-- What the crew hears (the words: FAA, Introduction to TCAS II v7.1; punctuation, repeats and moments: this project's
 -- profile).
 use Rattle.std.specs.Prelude.{ℕ, Bool, true, false, not, ◌&&◌, ◌||◌, if◌then◌else◌, List, codes, Option, Some, None, is_some}
 use Rattle.acas_base.specs.Senses.{other_sense}

@@ -1,4 +1,4 @@
--- The state of the air is asked for the entry that it allows about a thing.
+-- The state of the air is asked which entry it allows about a thing.
 use Rattle.std.specs.Prelude.{◌≡◌, ◌∷◌, Bool, MatchBool, List}
 use Rattle.acas_base.specs.declared.entry.Entry.{Entry}
 use Rattle.air_rules.specs.Air.{Air}
@@ -17,6 +17,6 @@ pub record Added (air : Air) (old new : List Entry) (about : Key) : Type 0 where
 abbrev pub NothingAbout : Air → List Entry → Key → Type 0
 NothingAbout air journal about = (entry : Entry) → key entry ≡ about → IsAllowed air journal entry → ⊥
 
--- It was added, or none is allowed.
+-- The allowed entry about a thing was added, or none is allowed.
 abbrev pub Asks : Air → List Entry → List Entry → Key → Bool → Type 0
 Asks air old new about added = MatchBool added (Added air old new about) (NothingAbout air old about)

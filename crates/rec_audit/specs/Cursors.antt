@@ -1,4 +1,4 @@
--- A text that is taken line by line.
+-- A text that is read line by line.
 use Rattle.std.specs.Prelude.{◌≡◌, ◌≢◌, ℕ, ◌+◌, Bool, true, MatchBool, List, [], ◌∷◌, ◌++◌, length}
 
 -- The lines that are still to come, and how many were taken before them.
@@ -11,11 +11,11 @@ pub record Took (before now : Cursor) (lines : List (List ℕ)) : Type 0 where
   pub lines_are : before.left ≡ lines ++ now.left
   pub taken_is : now.taken ≡ before.taken + length lines
 
--- The next line was taken where it is this one. Else none was taken.
+-- The next line was taken where it is this one. Else no line was taken.
 abbrev pub TakesLine : Cursor → Cursor → List ℕ → Bool → Type 0
 TakesLine before after line taken = MatchBool taken (Took before after (line ∷ [])) ((after ≡ before) × ((rest : List (List ℕ)) → before.left ≢ line ∷ rest))
 
--- A front of these lines was taken, and the next one isn't what comes.
+-- A front of these lines was taken. The next one of them isn't the line that comes.
 pub record StoppedIn (before now : Cursor) (lines : List (List ℕ)) : Type 0 where
   pub front : List (List ℕ)
   pub took : Took before now front
@@ -24,6 +24,6 @@ pub record StoppedIn (before now : Cursor) (lines : List (List ℕ)) : Type 0 wh
   pub lines_are : lines ≡ front ++ next ∷ later
   pub differs : (rest : List (List ℕ)) → now.left ≢ next ∷ rest
 
--- What a comparison with these lines does, which may have differed before.
+-- What a comparison with these lines does. It does nothing where an earlier line differed.
 abbrev pub Compares : Cursor → Cursor → Bool → Bool → List (List ℕ) → Type 0
 Compares before now differed differs lines = MatchBool differed ((now ≡ before) × (differs ≡ true)) (MatchBool differs (StoppedIn before now lines) (Took before now lines))

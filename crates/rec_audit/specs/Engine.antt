@@ -1,4 +1,4 @@
--- The entries of lines, made again one after the other.
+-- The entries of lines, added to a journal one after the other.
 use Rattle.std.specs.Prelude.{◌≡◌, ◌⊎◌, ℕ, ◌+◌, ◌<◌, ◌≤◌, List, [], ◌∷◌, length}
 use Rattle.acas_base.specs.Encounter.{IsEncounter, Parts}
 use Rattle.acas_base.specs.declared.entry.Entry.{Entry}
@@ -23,7 +23,7 @@ use Rattle.rec_audit.specs.declared.fault.Fault.{Fault}
 use Rattle.rec_text.specs.Entries.{entry_line}
 use Rattle.rec_text.specs.Recording.{closing_lines}
 
--- The next line was taken, and the entry that has it was added.
+-- The next line was taken, and its entry was added.
 pub record AddedNext (air : Air) (old new : List Entry) (before after : Cursor) : Type 0 where
   pub entry : Entry
   pub took : Took before after (entry_line air.count entry ∷ [])
@@ -34,32 +34,32 @@ pub record AddedNext (air : Air) (old new : List Entry) (before after : Cursor) 
 abbrev pub IsWrongNext : Air → List Entry → List (List ℕ) → Reason → Type 0
 IsWrongNext air journal lines reason = (line : List ℕ) (rest : List (List ℕ)) → lines ≡ line ∷ rest → IsWrongLine air journal line reason
 
--- Lines were taken, at most so many, and the journal is theirs. It stopped there, or no line is left.
+-- At most so many lines were taken, and the journal has their entries. It stopped there, or no line is left.
 pub record Replayed (air : Air) (before after : Cursor) (most : ℕ) (journal : List Entry) : Type 0 where
   pub replays : Replays air before.left journal after.left
   pub taken_is : after.taken ≡ before.taken + length journal
   pub within : length journal ≤ most
   pub ends : (length journal ≡ most) ⊎ (after.left ≡ [])
 
--- One of them is wrong.
+-- One of these lines is wrong.
 pub record StoppedAt (air : Air) (before : Cursor) (most : ℕ) (fault : Fault) : Type 0 where
   pub entries : ℕ
   pub stops : StopsAt air before.left entries fault.reason
   pub within : entries < most
   pub line_is : fault.line ≡ before.taken + 1 + entries
 
--- All lines are those of a complete journal of so many entries and of what follows them.
+-- The lines are those of a complete journal of so many entries, and then those that follow them in its recording.
 pub record ReplayedAll (e : Parts) (lines : List (List ℕ)) (count : ℕ) (journal : List Entry) : Type 0 where
   pub replays : Replays (air_of e) lines journal (closing_lines e journal)
   pub count_is : length journal ≡ count
   pub complete : IsComplete (air_of e) journal
 
--- All lines are those of a legal journal of at most so many entries.
+-- The lines are those of a legal journal of at most so many entries.
 pub record ReplayedFirst (e : Parts) (lines : List (List ℕ)) (count : ℕ) (journal : List Entry) : Type 0 where
   pub replays : Replays (air_of e) lines journal []
   pub within : length journal ≤ count
 
--- What the entries of a whole recording or of a beginning give.
+-- What the entry lines of a whole recording give, and those of a beginning.
 abbrev pub ReplayedTo : Extent → Parts → List (List ℕ) → ℕ → List Entry → Type 0
 ReplayedTo Whole e lines count journal = ReplayedAll e lines count journal
 ReplayedTo Beginning e lines count journal = ReplayedFirst e lines count journal
@@ -68,7 +68,7 @@ abbrev pub IsWrongIn : Extent → Parts → ℕ → List (List ℕ) → ℕ → 
 IsWrongIn Whole e count lines line reason = IsWrongAfter e count lines line reason
 IsWrongIn Beginning e count lines line reason = IsWrongBeginning e count lines line reason
 
--- What comes first differs from these lines at the line of this number.
+-- The lines that come differ from these lines. The first difference is at the line of this number.
 pub record DiffersFrom (before : Cursor) (line : ℕ) (lines : List (List ℕ)) : Type 0 where
   pub same : ℕ
   pub differ : DifferAt same before.left lines
@@ -98,7 +98,7 @@ abbrev pub IsReplayed : Extent → Parts → ℕ → List (List ℕ) → Loaded 
 IsReplayed extent e count lines (loaded.Legal state) = (state.encounter ≡ e) × ReplayedTo extent e lines count state.journal
 IsReplayed extent e count lines (loaded.Wrong line reason) = IsWrongIn extent e count lines line reason
 
--- What loading so much of a recording gives.
+-- What loading gives, of a whole recording and of a beginning.
 abbrev pub IsLoadedAs : Extent → List ℕ → Loaded → Type 0
 IsLoadedAs Whole bytes found = IsLoaded bytes found
 IsLoadedAs Beginning bytes found = IsPartLoaded bytes found

@@ -8,7 +8,7 @@ abbrev pub fields_left : Option (Bor (List ℕ)) → List (List ℕ)
 fields_left None = []
 fields_left (Some rest) = fields_of rest.now
 
--- The first field is a single byte, and another one follows.
+-- The first field is a single byte, and another field follows.
 pub record BeginsShort (text : List ℕ) : Type 0 where
   pub long : 2 ≤ length text
   pub field : slice_index text 0 ≢ 44

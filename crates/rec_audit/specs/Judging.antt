@@ -32,7 +32,7 @@ pub record IsRecordingOf (bytes : List ℕ) (state : State) : Type 0 where
   pub complete : IsComplete (air_of state.encounter) state.journal
   pub bytes_are : bytes ≡ recording state.encounter state.journal
 
--- What is wrong after the number of entries.
+-- What is wrong after the number of entries: the line, from 1, and the reason.
 pub data IsWrongAfter (e : Parts) (count : ℕ) (lines : List (List ℕ)) : ℕ → Reason → Type 0 where
   wrong_entry : {entries : ℕ} {reason : Reason} → StopsAt (air_of e) lines entries reason → entries < count → IsWrongAfter e count lines (first_entry e + entries) reason
   too_few : {journal : List Entry} → Replays (air_of e) lines journal [] → length journal < count → IsWrongAfter e count lines (first_entry e + length journal) Spelling
@@ -40,12 +40,12 @@ pub data IsWrongAfter (e : Parts) (count : ℕ) (lines : List (List ℕ)) : ℕ 
   other_end : {journal : List Entry} {rest : List (List ℕ)} {same : ℕ} → Replays (air_of e) lines journal rest → length journal ≡ count → IsComplete (air_of e) journal → DifferAt same rest (closing_lines e journal) →
       IsWrongAfter e count lines (first_entry e + (count + same)) Report
 
--- What is wrong with the lines of a recording: of the first step that fails the line, from 1, and the reason.
+-- What is wrong with the lines of a recording. It is the line, from 1, and the reason of the first step that fails.
 pub data IsWrong (lines : List (List ℕ)) : ℕ → Reason → Type 0 where
   at_opening : {line : ℕ} {reason : Reason} → IsWrongOpening lines line reason → IsWrong lines line reason
   after_opening : {e : Parts} {count line : ℕ} {rest : List (List ℕ)} {reason : Reason} → Opens e count lines rest → IsWrongAfter e count rest line reason → IsWrong lines line reason
 
--- A recording of so many entries.
+-- The bytes are a recording of so many entries.
 pub record IsRecording (bytes : List ℕ) (entries : ℕ) : Type 0 where
   pub state : State
   pub recording : IsRecordingOf bytes state
@@ -56,14 +56,14 @@ abbrev pub Judged : List ℕ → Verdict → Type 0
 Judged bytes (verdict.Legal entries) = IsRecording bytes entries
 Judged bytes (verdict.Wrong line reason) = IsWrong (lines_of bytes) line reason
 
--- What loading them gives.
+-- What loading the bytes gives.
 abbrev pub IsLoaded : List ℕ → Loaded → Type 0
 IsLoaded bytes (loaded.Legal state) = IsRecordingOf bytes state
 IsLoaded bytes (loaded.Wrong line reason) = IsWrong (lines_of bytes) line reason
 
 -- ---- beginnings of recordings
 
--- The bytes begin a recording: they end after the number of entries or after one of the entries, at most so many.
+-- The bytes begin a recording. They end after the number of entries or after one of the entries.
 pub record IsBeginningOf (bytes : List ℕ) (state : State) : Type 0 where
   pub encounter : IsEncounter state.encounter
   pub inside : IsInside state.encounter
@@ -73,7 +73,7 @@ pub record IsBeginningOf (bytes : List ℕ) (state : State) : Type 0 where
   pub within : length state.journal ≤ count
   pub bytes_are : bytes ≡ joined (head_line ∷ (canonical_lines state.encounter ++ journal_line count ∷ entry_lines (length state.encounter.crafts) state.journal))
 
--- What is wrong after the number of entries.
+-- What is wrong after the number of entries of a beginning.
 pub data IsWrongBeginning (e : Parts) (count : ℕ) (lines : List (List ℕ)) : ℕ → Reason → Type 0 where
   wrong_line : {entries : ℕ} {reason : Reason} → StopsAt (air_of e) lines entries reason → entries < count → IsWrongBeginning e count lines (first_entry e + entries) reason
   too_many : {journal : List Entry} {line : List ℕ} {rest : List (List ℕ)} → Replays (air_of e) lines journal (line ∷ rest) → length journal ≡ count → IsWrongBeginning e count lines (first_entry e + count) Report

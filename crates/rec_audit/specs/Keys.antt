@@ -13,7 +13,7 @@ key (Commit own cycle cells) = keys.Commit own cycle
 key (Send own target number word) = keys.Send own target
 key (Take own send copy good) = keys.Take own send copy
 
--- The first fields of an entry's line tell its key.
+-- The first fields of an entry's line. They say its key.
 abbrev pub key_fields : Key → List (List ℕ)
 key_fields (keys.Commit own cycle) = codes "c" ∷ decimal own ∷ decimal cycle ∷ []
 key_fields (keys.Send own target) = codes "s" ∷ decimal own ∷ decimal target ∷ []

@@ -24,16 +24,16 @@ pub record Opens (e : Parts) (count : ℕ) (lines rest : List (List ℕ)) : Type
 abbrev pub first_entry : Parts → ℕ
 first_entry e = length (canonical_lines e) + 3
 
--- ---- what can be wrong, step by step: a step is only taken where the ones before it went well
+-- ---- what can be wrong, step by step; a step is taken only where the steps before it went well
 
 abbrev pub end_line : List ℕ
 end_line = line_of end_record
 
--- No line of these is the number of entries, or it isn't the first.
+-- The lines don't begin with the number of entries.
 abbrev pub NoCount : List (List ℕ) → Type 0
 NoCount lines = (count : ℕ) (rest : List (List ℕ)) → count ≤ MOST_TOLD → lines ≢ journal_line count ∷ rest
 
--- What is wrong with the lines of an encounter, or with the one after them.
+-- What is wrong with the lines of an encounter, or with the line after them.
 pub data IsWrongPart (part rest : List (List ℕ)) : ℕ → Reason → Type 0 where
   refused : (refusal : Refusal) → reading_of (joined part) ≡ Err refusal → IsWrongPart part rest 2 (Encounter refusal.code)
   not_canonical : (e : Parts) → Says (joined part) e → part ≢ canonical_lines e → IsWrongPart part rest 2 Spelling
@@ -43,7 +43,7 @@ pub data IsWrongPart (part rest : List (List ℕ)) : ℕ → Reason → Type 0 w
 abbrev pub HasNoEnd : List (List ℕ) → Type 0
 HasNoEnd lines = AllByRecursion (λ line. line ≢ end_line) lines
 
--- The lines up to the first end, and the others.
+-- The lines up to the first end, and the lines after it.
 pub record IsCut (lines part rest : List (List ℕ)) : Type 0 where
   pub front : List (List ℕ)
   pub none : HasNoEnd front

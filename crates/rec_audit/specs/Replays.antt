@@ -14,8 +14,8 @@ pub record Replays (air : Air) (lines : List (List ℕ)) (journal : List Entry) 
   pub legal : IsLegal air journal
   pub begins : lines ≡ entry_lines air.count journal ++ rest
 
--- What is wrong with a line after a journal: no entry has it; or nothing about the same thing is allowed; or what is
--- allowed about the same thing is another entry.
+-- What is wrong with a line after a journal. Either no entry has the line; or nothing about the same thing is allowed;
+-- or another entry about the same thing is allowed.
 pub data IsWrongLine (air : Air) (journal : List Entry) (line : List ℕ) : Reason → Type 0 where
   misspelled : ((entry : Entry) → IsEntry air.count entry → entry_line air.count entry ≢ line) → IsWrongLine air journal line Spelling
   forbidden : (entry : Entry) → IsEntry air.count entry → line ≡ entry_line air.count entry →
@@ -23,7 +23,7 @@ pub data IsWrongLine (air : Air) (journal : List Entry) (line : List ℕ) : Reas
   changed : (entry other : Entry) → IsEntry air.count entry → line ≡ entry_line air.count entry →
       key other ≡ key entry → IsAllowed air journal other → other ≢ entry → IsWrongLine air journal line OtherContent
 
--- So many entries stand before the first line that is wrong.
+-- The first wrong line has so many entries before it.
 pub record StopsAt (air : Air) (lines : List (List ℕ)) (entries : ℕ) (reason : Reason) : Type 0 where
   pub journal : List Entry
   pub line : List ℕ

@@ -15,7 +15,7 @@ use air_journal::{AirState, Commit, EntryRef, Sent, TookThis};
 use craft_view::{Surveillance, is_active};
 use flight::Places;
 
-// Makes the places of another cycle. All that look in one cycle share them.
+// Changes to the places of another cycle. All aircraft that look in one cycle share them.
 fn move_to(places: &mut Places<'_>, cycle: u16)
     requires { IsCycle cycle }
     ensures { places.new ≡ record { encounter = places.old.encounter; cycle = cycle } }

@@ -1,4 +1,4 @@
-// Texts made again, and compared as their lines come.
+// Texts that are made again, and compared with the lines that come.
 ghost use Rattle.std.specs.Prelude.{MatchBool};
 ghost use Rattle.rec_audit.specs.Cursors.{Compares, StoppedIn, Took};
 
@@ -6,7 +6,7 @@ use crate::lines::TextLines;
 use acas_lines::{LineSink, Text};
 use acas_text::Line;
 
-// Compares the lines that it is given with those that come. Where one differs it stays there.
+// Compares the lines that it takes with those that come. It stays at the first line that differs.
 #[derive(Drop)]
 struct Comparison<'a> {
     lines: TextLines<'a>,
@@ -30,7 +30,8 @@ impl LineSink for Comparison<'_> {
     }
 }
 
-/// Takes the lines of a text where they come next. Else it takes those before the first one that differs or is missing.
+/// Takes the lines of a text where they come next. Else it takes the lines before the first one that differs or is
+/// missing.
 pub(crate) fn take_text<T: Text>(text: &T, lines: &mut TextLines<'_>) -> bool
     ensures { MatchBool result (Took lines.old lines.new (T.lines text.now)) (StoppedIn lines.old lines.new (T.lines text.now)) }
 {

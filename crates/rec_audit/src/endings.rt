@@ -16,7 +16,7 @@ use craft_view::Surveillance;
 use flight::Places;
 use rec_text::Closing;
 
-// The number of the first line that isn't the one of the report and the close, where there is one.
+// The number of the first line that differs from the report and the close; none where no line does.
 fn other_end(state: &AirState, lines: &mut TextLines<'_>) -> Option<u32>
     ensures { MatchOption result
         (lines.old.left ≡ closing_lines state.now.encounter state.now.journal)
@@ -42,7 +42,8 @@ pub(crate) enum Extent {
     Beginning,
 }
 
-/// Replays the entries of a recording, and compares what follows them. The journal has to be empty. It takes no memory.
+/// Replays the entries of a recording, and compares the lines after them. The journal has to be empty. It takes no
+/// memory.
 pub(crate) fn replay_to_end(
     extent: Extent,
     state: &mut AirState,

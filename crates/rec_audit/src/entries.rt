@@ -18,7 +18,7 @@ use acas_text::parse_hex;
 // How many digits the word of a message has.
 const WORD_DIGITS: usize = 14;
 
-// The take about a copy, of which the last field is to come.
+// The take of a copy, by the last field of its line, which is still to come.
 fn take_of(fields: &mut Fields<'_>, count: u8, own: u8, send: u32, copy: u8) -> Option<Entry>
     requires key { IsKey count (Key.Take own send copy) }
     ensures { ReadsFields count (key_fields (Key.Take own send copy) ++ fields.old) result }
@@ -35,7 +35,7 @@ fn take_of(fields: &mut Fields<'_>, count: u8, own: u8, send: u32, copy: u8) -> 
     })
 }
 
-// The send of a pair, of which the number and the word are to come.
+// The send of a pair, by the number and the word, which are still to come.
 fn send_of(fields: &mut Fields<'_>, count: u8, own: u8, target: u8) -> Option<Entry>
     requires key { IsKey count (Key.Send own target) }
     requires count { count ≤ CRAFTS }
@@ -54,7 +54,7 @@ fn send_of(fields: &mut Fields<'_>, count: u8, own: u8, target: u8) -> Option<En
     })
 }
 
-// The cell that a text spells in one's own place, which is Clear, or in another one.
+// The cell that a text spells. In the place of the aircraft itself it has to be Clear.
 fn cell_in(text: &[u8], own: bool) -> Option<Cell>
     ensures { MatchOption result
         ((cell : Cell) → IsCell cell → (IsTrue own → cell ≡ Cell.Clear) → cell_text cell ≢ text.now)
@@ -84,7 +84,7 @@ fn cells_of(fields: &mut Fields<'_>, count: u8, own: u8) -> Option<Cells>
     Some(Cells { list })
 }
 
-// The commit of an aircraft and a cycle, of which the cells are to come.
+// The commit of an aircraft and a cycle, by the cells, which are still to come.
 fn commit_of(fields: &mut Fields<'_>, count: u8, own: u8, cycle: u16) -> Option<Entry>
     requires key { IsKey count (Key.Commit own cycle) }
     requires count { count ≤ CRAFTS }
@@ -94,7 +94,7 @@ fn commit_of(fields: &mut Fields<'_>, count: u8, own: u8, cycle: u16) -> Option<
     Some(Entry::Commit { own, cycle, cells })
 }
 
-// The entry of a line's fields.
+// The entry that the fields of a line spell.
 fn entry_of(fields: &mut Fields<'_>, count: u8) -> Option<Entry>
     requires { (0 < count) × (count ≤ CRAFTS) }
     ensures { ReadsFields count fields.old result }
@@ -106,9 +106,9 @@ fn entry_of(fields: &mut Fields<'_>, count: u8) -> Option<Entry>
     }
 }
 
-/// The entry that a line spells, in an encounter of so many aircraft: indices of these aircraft, cycles and numbers from 1 to
-/// 600, positions below 2^32, copies from 0 to 2, as many cells as aircraft and ages from 1 to 600. None where no such entry
-/// has this line.
+/// The entry that a line spells, in an encounter of so many aircraft. It has indices of these aircraft, cycles and
+/// numbers from 1 to 600, positions below 2^32, copies from 0 to 2, as many cells as aircraft, and ages from 1 to 600.
+/// None where no such entry has this line.
 pub(crate) fn read_entry(line: &[u8], count: u8) -> Option<Entry>
     requires { (0 < count) × (count ≤ CRAFTS) }
     ensures { ReadsLine count line.now result }

@@ -1,7 +1,7 @@
 // What is wrong.
 use crate::verdict::Reason;
 
-/// The first line that is wrong, from 1, and why.
+/// The first wrong line, from 1, and why it is wrong.
 #[derive(Clone, Copy, Debug, PartialEq, Eq)]
 pub(crate) struct Fault {
     pub line: u32,

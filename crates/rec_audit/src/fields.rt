@@ -52,7 +52,7 @@ impl<'a> Fields<'a> {
         }
     }
 
-    /// The byte that the next field is, where it is a single one and another field follows. Else none is taken.
+    /// The next field, where it is a single byte and another field follows. Else no field is taken.
     pub fn letter(&mut self) -> Option<u8>
         ensures { MatchOption result
             ((self.new ≡ self.old) × ((c : ℕ) (next : List ℕ) (rest : List (List ℕ)) → c ≢ 44 → self.old ≢ (c ∷ []) ∷ next ∷ rest))
@@ -79,7 +79,7 @@ impl<'a> Fields<'a> {
             ((n : ℕ) (rest : List (List ℕ)) → IsWithin low high n → self.old ≢ decimal n ∷ rest)
             (λ n. IsWithin low high n × (self.old ≡ decimal n ∷ self.new)) }
     {
-        // Most numbers that are read have one digit.
+        // Most numbers in a recording have one digit.
         if let Some(glyph) = self.letter() {
             return digit_within(glyph, low, high);
         }
@@ -113,7 +113,7 @@ fn digit_within(glyph: u8, low: u32, high: u32) -> Option<u32>
     }
 }
 
-// Where the first comma stands. A field has a few bytes, so they are looked at one by one.
+// Where the first comma stands. A field has few bytes, so they are compared one by one.
 fn comma_in(text: &[u8]) -> Option<usize>
     ensures { IsFirstByte (is_byte 44) text.now result }
 {

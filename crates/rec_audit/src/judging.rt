@@ -62,12 +62,12 @@ fn load_as(extent: Extent, alloc: Global, bytes: &[u8]) -> Result<Loaded, AllocE
     }
 }
 
-/// Loads a recording: the state of the air exactly where the bytes are the recording of an encounter inside the box and a
-/// legal and complete journal, with that encounter and journal. Else the line, from 1, and the reason of the first step of the
-/// judge that fails.
+/// Loads a recording. It gives the state of the air exactly where the bytes are the recording of an encounter inside
+/// the box and a legal and complete journal; the state has that encounter and journal. Else it gives the line, from 1,
+/// and the reason of the judge's first step that fails.
 ///
-/// It takes memory for the encounter that it reads and for a whole run of that, and none by the number of entries that a
-/// recording tells. Its time is linear in the bytes.
+/// It takes memory for the encounter that it reads and for a whole run of it, whatever number of entries the recording
+/// says. Its time is linear in the bytes. The error says that memory was wanting.
 pub fn load(alloc: Global, bytes: &[u8]) -> Result<Loaded, AllocError>
     requires { length bytes.now < 2 ^ 32 - 1 }
     ensures { IfOk result (IsLoaded bytes.now) }
@@ -75,11 +75,11 @@ pub fn load(alloc: Global, bytes: &[u8]) -> Result<Loaded, AllocError>
     load_as(Extent::Whole, alloc, bytes)
 }
 
-/// Loads a beginning of a recording, which may end after the number of entries or after any entry: the state of the air exactly
-/// where the bytes are such a beginning, of an encounter inside the box and a legal journal. Else the line, from 1, and the
-/// reason of the first step that fails.
+/// Loads a beginning of a recording. It may end after the number of entries or after any entry. It gives the state of
+/// the air exactly where the bytes are such a beginning, of an encounter inside the box and a legal journal. Else it
+/// gives the line, from 1, and the reason of the first step that fails.
 ///
-/// It takes memory as [`load`] does, and time linear in the bytes.
+/// It takes memory as [`load`] does, and time linear in the bytes. The error says that memory was wanting.
 pub fn load_part(alloc: Global, bytes: &[u8]) -> Result<Loaded, AllocError>
     requires { length bytes.now < 2 ^ 32 - 1 }
     ensures { IfOk result (IsPartLoaded bytes.now) }
@@ -87,8 +87,8 @@ pub fn load_part(alloc: Global, bytes: &[u8]) -> Result<Loaded, AllocError>
     load_as(Extent::Beginning, alloc, bytes)
 }
 
-/// Judges a recording, as [`load`] does: Legal, with the number of entries, exactly where the bytes are the recording of an
-/// encounter inside the box and a legal and complete journal.
+/// Judges a recording, as [`load`] does. It gives Legal, with the number of entries, exactly where the bytes are the
+/// recording of an encounter inside the box and a legal and complete journal. The error says that memory was wanting.
 pub fn judge(alloc: Global, bytes: &[u8]) -> Result<Verdict, AllocError>
     requires { length bytes.now < 2 ^ 32 - 1 }
     ensures { IfOk result (Judged bytes.now) }

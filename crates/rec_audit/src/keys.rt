@@ -51,8 +51,9 @@ fn take_key(fields: &mut Fields<'_>, count: u8) -> Option<Key>
     })
 }
 
-/// The key that comes first in the fields of a line. It is inlined, as is `read_key`, so that the fields are kept in registers
-/// where each line of a recording is read: without, judging one of 8 or 16 aircraft takes 8 and 12 per cent more instructions.
+/// The key that comes first in the fields of a line. This call and `read_key` are inlined, so that the fields are kept
+/// in registers where each line of a recording is read. Without that, judging a recording of 8 or 16 aircraft takes 8
+/// or 12 per cent more instructions.
 #[inline(always)]
 pub(crate) fn key_of(fields: &mut Fields<'_>, count: u8) -> Option<Key>
     requires { (0 < count) × (count ≤ CRAFTS) }
@@ -66,8 +67,8 @@ pub(crate) fn key_of(fields: &mut Fields<'_>, count: u8) -> Option<Key>
     }
 }
 
-/// What the entry is about whose line a text begins with, in an encounter of so many aircraft. None only where it begins with
-/// the line of no entry. No byte behind the key is looked at.
+/// The key of the entry whose line a text begins with, in an encounter of so many aircraft. None only where the text
+/// begins with the line of no entry. It reads no byte behind the key.
 #[inline(always)]
 pub(crate) fn read_key(text: &[u8], count: u8) -> Option<Key>
     requires { (0 < count) × (count ≤ CRAFTS) }

@@ -1,4 +1,4 @@
-// The lines of a text, taken one after the other.
+// The lines of a text, read one after the other.
 ghost use Rattle.std.specs.Prelude.{◌≡◌, ◌≢◌, ◌∷◌, ◌+◌, ◌<◌, ◌≤◌, ◌-◌, ◌^◌, ◌↔◌, [], List, ℕ, IsTrue, MatchOption, length, take, drop};
 ghost use Rattle.acas_lines.specs.Split.{IsLine, lines_of};
 ghost use Rattle.acas_lines.specs.Lines.{joined};
@@ -41,7 +41,7 @@ impl<'a> TextLines<'a> {
         }
     }
 
-    /// The same lines, to be taken again.
+    /// The same lines, to be read again.
     pub fn again(&self) -> TextLines<'a>
         ensures { result ≡ self.now }
     {
@@ -58,7 +58,7 @@ impl<'a> TextLines<'a> {
         self.rest
     }
 
-    /// The number of the next line, from 1; where none is left, the one after the last.
+    /// The number of the next line, from 1. Where no line is left, it is one more than the number of the last line.
     pub fn number(&self) -> u32
         ensures { result ≡ self.now.taken + 1 }
     {
@@ -85,7 +85,8 @@ impl<'a> TextLines<'a> {
         self.rest.is_empty()
     }
 
-    /// Takes the next line where it is this one, which has its line feed. So it isn't looked where the next line ends.
+    /// Takes the next line where it is this one. `line` has its line feed, so the end of the next line needn't be
+    /// looked for.
     pub fn take_whole(&mut self, line: &[u8]) -> bool
         requires { IsLine line.now }
         ensures { TakesLine self.old self.new line.now result }
@@ -118,7 +119,7 @@ impl<'a> TextLines<'a> {
     }
 }
 
-// What stands behind a whole line, where a text begins with it.
+// What stands behind a whole line, where a text begins with that line.
 fn behind<'a>(text: &'a [u8], line: &[u8]) -> Option<&'a [u8]>
     requires { IsLine line.now }
     ensures { MatchOption result ((rest : List (List ℕ)) → lines_of text.now ≢ line.now ∷ rest) (λ after. lines_of text.now ≡ line.now ∷ lines_of after.now) }

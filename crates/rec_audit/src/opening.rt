@@ -19,7 +19,7 @@ use acas_base::Encounter;
 use enc_file::{CanonicalText, ReadError, read};
 use std::alloc::{AllocError, Global};
 
-// The most entries that a recording can tell of.
+// The most entries that a recording can say.
 const MOST_TOLD: u32 = 999_999_999;
 
 /// The encounter, the number of entries, and the lines after it.
@@ -30,7 +30,7 @@ pub(crate) struct Opened<'a> {
     pub lines: TextLines<'a>,
 }
 
-// The number of entries that the fields after the first one tell.
+// The number of entries that the fields after the first one spell.
 fn number_in(fields: &mut Fields<'_>) -> Option<u32>
     ensures { MatchOption result ((count : ℕ) → count ≤ MOST_TOLD → fields.old ≢ decimal count ∷ []) (λ count. (count ≤ MOST_TOLD) × (fields.old ≡ decimal count ∷ [])) }
 {
@@ -41,7 +41,7 @@ fn number_in(fields: &mut Fields<'_>) -> Option<u32>
     Some(count)
 }
 
-// The number of entries that fields tell.
+// The number of entries that fields spell.
 fn told_in(fields: &mut Fields<'_>) -> Option<u32>
     ensures { MatchOption result ((count : ℕ) → count ≤ MOST_TOLD → fields.old ≢ codes "journal" ∷ decimal count ∷ []) (λ count. (count ≤ MOST_TOLD) × (fields.old ≡ codes "journal" ∷ decimal count ∷ [])) }
 {
@@ -52,7 +52,7 @@ fn told_in(fields: &mut Fields<'_>) -> Option<u32>
     number_in(fields)
 }
 
-// The number of entries that a line tells.
+// The number of entries that a line spells.
 fn count_of(line: &[u8]) -> Option<u32>
     ensures { MatchOption result ((count : ℕ) → count ≤ MOST_TOLD → journal_line count ≢ line.now) (λ count. (count ≤ MOST_TOLD) × (line.now ≡ journal_line count)) }
 {
@@ -75,7 +75,7 @@ fn skip_part(lines: &mut TextLines<'_>) -> bool
     false
 }
 
-// The number of entries that the next line tells.
+// The number of entries that the next line spells.
 fn take_count(lines: &mut TextLines<'_>) -> Option<u32>
     ensures { MatchOption result (NoCount lines.old.left) (λ count. (count ≤ MOST_TOLD) × Took lines.old lines.new (journal_line count ∷ [])) }
 {
@@ -122,7 +122,8 @@ fn take_encounter(
     Ok(Ok(encounter))
 }
 
-/// Reads what stands before the entries of a recording. It takes memory for the encounter.
+/// Reads what stands before the entries of a recording. It takes memory for the encounter. The error says that memory
+/// was wanting.
 pub(crate) fn open(alloc: Global, bytes: &[u8]) -> Result<Result<Opened<'_>, Fault>, AllocError>
     requires { length bytes.now < 2 ^ 32 - 1 }
     ensures { IfOk result (λ opened. MatchResult opened

@@ -1,4 +1,4 @@
-// Entries read from lines and made again.
+// Entries that are read from lines and added to a journal.
 ghost use Rattle.std.specs.Prelude.{◌≡◌, ◌<◌, ◌≤◌, [], IfOk, MatchResult, Some, length, reverse, slice_get};
 ghost use Rattle.acas_base.specs.declared.TheConstants.{CRAFTS};
 ghost use Rattle.acas_base.specs.declared.entry.Entry.{Entry};
@@ -23,7 +23,7 @@ use craft_view::Surveillance;
 use flight::Places;
 use rec_text::set_entry_line;
 
-// Takes the next line where it is that of the entry at a position. That line is made again.
+// Takes the next line where it is the line of the entry at a position. That line is made again for it.
 fn take_entry_at(state: &AirState, at: u32, made: &mut Line, lines: &mut TextLines<'_>) -> bool
     ensures { (entry : Entry) → slice_get (reverse state.now.journal) at ≡ Some entry → TakesLine lines.old lines.new (entry_line (length state.now.encounter.crafts) entry) result }
 {
@@ -49,8 +49,8 @@ fn read_first(lines: &TextLines<'_>, count: u8) -> Option<Entry>
     }
 }
 
-// Adds the entry of the next line, where it is the one that is allowed, and takes the line. It is read whole only where it is
-// wrong, to tell why.
+// Adds the entry of the next line, where that entry is allowed, and takes the line. The whole line is parsed only where
+// it is wrong, to find the reason.
 fn add_next(
     state: &mut AirState,
     surveillance: &mut Surveillance,
@@ -88,7 +88,8 @@ fn add_next(
     }
 }
 
-/// Adds the entries of the lines to the empty journal, at most so many, until a line is wrong. It takes no memory.
+/// Adds the entries of the lines to the empty journal, at most `most` of them, until a line is wrong. It takes no
+/// memory.
 pub(crate) fn replay(
     state: &mut AirState,
     surveillance: &mut Surveillance,

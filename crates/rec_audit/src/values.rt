@@ -36,7 +36,7 @@ fn strength_of(digit: u8) -> Option<Strength>
     }
 }
 
-/// Whether a copy was good, as its letter says.
+/// Whether a copy was taken good, as its letter says.
 pub(crate) fn outcome_of(text: &[u8]) -> Option<bool>
     ensures { MatchOption result ((good : Bool) → outcome good ≢ text.now) (λ good. text.now ≡ outcome good) }
 {
@@ -58,7 +58,7 @@ pub(crate) fn before_flag(text: &[u8], letter: u8) -> (&[u8], bool)
     }
 }
 
-// The advisory of a sense and a strength whose age and letters a text spells.
+// The advisory of this sense and strength. A text spells its age and letters.
 fn advisory_of(sense: Sense, strength: Strength, text: &[u8]) -> Option<Intent>
     ensures { MatchOption result
         ((it : Intent) → IsWithin 1 600 it.age → age_text it ≢ text.now)

@@ -5,25 +5,27 @@ ghost use Rattle.rec_audit.specs.Reasons.{reason_number};
 use air_journal::AirState;
 use enc_file::Code;
 
-/// Why a line of a recording is wrong. Of the steps of the judge the first that fails is told.
+/// Why a line of a recording is wrong: the reason of the judge's first step that fails.
 #[derive(Clone, Copy, Debug, PartialEq, Eq)]
 pub enum Reason {
     /// The lines up to the first `end` are refused as an encounter, with this code.
     Encounter(Code),
-    /// The line isn't spelled as any that can stand there, or is missing; or the encounter isn't in its canonical text.
+    /// The line isn't spelled like any that can stand there, or it is missing. Or the encounter's text isn't its
+    /// canonical text.
     Spelling,
-    /// After the entries before it no commit of this aircraft and cycle, send of this pair, or take of this copy is allowed.
+    /// After the entries before it, no commit of this aircraft and cycle, send of this pair, or take of this copy is
+    /// allowed.
     NotAllowed,
-    /// The entry that is allowed about the same thing is another one.
+    /// The allowed entry about the same thing is another one.
     OtherContent,
     /// The entries end before every active aircraft has all its commits and owes nothing.
     Incomplete,
-    /// The rest isn't the report of the journal and the close: this line differs, is missing or is too many.
+    /// The rest isn't the report of the journal and the close. This line differs, is missing, or is one too many.
     Report,
 }
 
 impl Reason {
-    /// The number of the reason, in the line that tells of a verdict.
+    /// The number of the reason, as the line of a verdict has it.
     pub fn number(self) -> u8
         ensures { result ≡ reason_number self }
     {
@@ -38,12 +40,12 @@ impl Reason {
     }
 }
 
-/// What a judge says of a recording.
+/// The verdict on a recording.
 #[derive(Clone, Copy, Debug, PartialEq, Eq)]
 pub enum Verdict {
-    /// It is the recording of a legal and complete journal of so many entries.
+    /// It is the recording of a legal and complete journal with so many entries.
     Legal(u32),
-    /// The first line that is wrong, from 1, and why.
+    /// The first wrong line, from 1, and why it is wrong.
     Wrong(u32, Reason),
 }
 
@@ -52,6 +54,6 @@ pub enum Verdict {
 pub enum Loaded {
     /// The encounter and the journal.
     Legal(AirState),
-    /// The first line that is wrong, from 1, and why.
+    /// The first wrong line, from 1, and why it is wrong.
     Wrong(u32, Reason),
 }

@@ -17,8 +17,9 @@ pub record HasOne (air : Air) (journal : List Entry) (made : ℕ) : Type 0 where
   pub active : is_active air own ≡ true
   pub made_is : commits journal own ≡ made
 
--- After so many rounds: the aircraft before this one have committed in the next round, the others not yet, and these
--- owe nothing and have nothing due. Either somebody has committed in this round, or all is done since the one before.
+-- After so many rounds, within the next one. The aircraft before this one have committed in it. The others haven't, and
+-- they owe nothing and have nothing due. Either somebody has committed in this round, or nothing is left of the round
+-- before.
 pub record BeforeCommit (air : Air) (journal : List Entry) (own rounds : ℕ) : Type 0 where
   pub committed : (other : ℕ) → is_active air other ≡ true → other < own → commits journal other ≡ rounds + 1
   pub others : (other : ℕ) → is_active air other ≡ true → own ≤ other → commits journal other ≡ rounds
@@ -31,7 +32,7 @@ pub record BeforeSends (air : Air) (journal : List Entry) (own rounds : ℕ) : T
   pub level : AreLevel air journal rounds
   pub sent : (before : ℕ) → before < own → OwesNothing air journal before
 
--- All are level, nobody owes, and the aircraft before this one have taken all.
+-- All are level, nobody owes, and the aircraft before this one have taken all that is due to them.
 pub record BeforeTakes (air : Air) (journal : List Entry) (own rounds : ℕ) : Type 0 where
   pub level : AreLevel air journal rounds
   pub sent : NobodyOwes air journal

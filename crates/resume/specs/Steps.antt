@@ -11,7 +11,8 @@ use Rattle.air_rules.specs.Owed.{OwesNothing}
 use Rattle.air_rules.specs.Serial.{IsIdle, IsUneven}
 use Rattle.resume.specs.Filling.{FillsNext, IsFirstSend, IsFirstTake}
 
--- Among the first so many active aircraft this one has the fewest commits, and is the first of those.
+-- This is the aircraft with the fewest commits among the active ones of the first so many aircraft. Of several such
+-- aircraft it is the first.
 pub record IsSlowestOf (air : Air) (journal : List Entry) (count own : ℕ) : Type 0 where
   pub active : is_active air own ≡ true
   pub below : own < count
@@ -21,11 +22,11 @@ pub record IsSlowestOf (air : Air) (journal : List Entry) (count own : ℕ) : Ty
 abbrev pub NoneActive : Air → ℕ → Type 0
 NoneActive air count = (other : ℕ) → other < count → is_active air other ≡ true → ⊥
 
--- Among the first so many active aircraft none has more commits than this.
+-- No active aircraft among the first so many has more commits than this.
 abbrev pub NobodyAhead : Air → List Entry → ℕ → ℕ → Type 0
 NobodyAhead air journal made count = (other : ℕ) → other < count → is_active air other ≡ true → commits journal other ≤ made
 
--- Some active aircraft has more.
+-- Some active aircraft has more commits.
 pub record IsSomeAhead (air : Air) (journal : List Entry) (made : ℕ) : Type 0 where
   pub own : ℕ
   pub active : is_active air own ≡ true
@@ -35,7 +36,7 @@ pub record IsSomeAhead (air : Air) (journal : List Entry) (made : ℕ) : Type 0 
 abbrev pub NoneOwes : Air → List Entry → ℕ → Type 0
 NoneOwes air journal count = (other : ℕ) → other < count → OwesNothing air journal other
 
--- Nothing is due to the first so many active aircraft.
+-- Nothing is due to the active ones of the first so many aircraft.
 abbrev pub NoneIsDue : Air → List Entry → ℕ → Type 0
 NoneIsDue air journal count = (other : ℕ) → other < count → is_active air other ≡ true → NothingDue air journal other
 
@@ -67,18 +68,18 @@ pub record MayGo (air : Air) (journal : List Entry) (own : ℕ) : Type 0 where
   pub uneven : IsUneven air journal
   pub free : IsFree air journal own
 
--- Either all are even, or something hinders it.
+-- Either all have equally many commits, or something hinders the commit.
 pub data HasToWait (air : Air) (journal : List Entry) (own : ℕ) : Type 0 where
   is_even : (IsUneven air journal → ⊥) → HasToWait air journal own
   is_held : IsUneven air journal → (answer : Commit) → Hinders air journal own answer → HasToWait air journal own
 
--- One entry more was added, the one that comes next.
+-- One entry was added, the one that comes next.
 pub record Stepped (air : Air) (old new : List Entry) : Type 0 where
   pub entry : Entry
   pub next : FillsNext air old entry
   pub new_is : new ≡ entry ∷ old
 
--- The slowest of the first so many aircraft, where one of them is active.
+-- The slowest of the first so many aircraft; none where none of them is active.
 abbrev pub SlowestSoFar : Air → List Entry → ℕ → Option ℕ → Type 0
 SlowestSoFar air journal count best = MatchOption best (NoneActive air count) (IsSlowestOf air journal count)
 

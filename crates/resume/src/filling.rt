@@ -51,10 +51,9 @@ fn finish(state: &mut AirState, enc: &Encounter, surveillance: &mut Surveillance
     }
 }
 
-/// Goes on with a journal to its end. The next entry is that of the serial order where it is allowed; else
-/// the first owed message, by sender and receiver; else the first due copy, by receiver, position and
-/// copy. What was there stays, and the journal is legal and complete in the end. The encounter has to be
-/// that of the state.
+/// Goes on with a journal to its end. The next entry is that of the serial order, where it is allowed; else the first
+/// owed message, by sender and receiver; else the first due copy, by receiver, position and copy. The entries that were
+/// there stay. In the end the journal is legal and complete. `enc` has to be the encounter of the state.
 pub fn fill(state: &mut AirState, enc: &Encounter)
     requires { state.old.encounter ≡ enc.now }
     ensures encounter { state.new.encounter ≡ enc.now }
@@ -69,8 +68,9 @@ pub fn fill(state: &mut AirState, enc: &Encounter)
     state.legal_law();
 }
 
-/// A law: a legal journal is filled to a legal and complete one that begins with it. From one journal at most one
-/// journal is filled. The empty journal is filled to the serial one, and so is each beginning of the serial one.
+/// A law: filling a legal journal gives a legal and complete journal that begins with it. One journal has at most one
+/// filling. The filling of the empty journal is the serial journal, and so is that of each beginning of the serial
+/// journal.
 pub fn filled_law()
     ensures legal { (air : Air) (first : List Entry) (journal : List Entry) → IsSound air → IsLegal air first → IsFilled air first journal → IsLegal air journal }
     ensures complete { (air : Air) (first : List Entry) (journal : List Entry) → IsSound air → IsLegal air first → IsFilled air first journal → IsComplete air journal }

@@ -1,7 +1,7 @@
-//! A journal that was begun is gone on with to its end.
+//! A journal that was begun goes on to its end.
 //!
-//! `fill` adds, entry by entry, what comes next in the serial order where that is allowed; else the first
-//! owed message, else the first due copy (`specs/Filling`). What it leaves is legal and complete.
+//! `fill` adds the entry that comes next in the serial order, where that is allowed; else the first owed message; else
+//! the first due copy (`specs/Filling`). In the end the journal is legal and complete.
 #![tactic(auto)]
 
 mod filling;

@@ -1,4 +1,4 @@
-// Rounds, from an even start.
+// Rounds, from a journal in which all are level.
 ghost use Rattle.std.specs.Prelude.{◌≡◌, ◌+◌, ◌<◌, length};
 ghost use Rattle.air_journal.specs.Airs.{air_of};
 ghost use Rattle.air_rules.specs.Journal.{commits};

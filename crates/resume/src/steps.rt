@@ -27,7 +27,7 @@ pub(crate) fn slowest(state: &AirState, enc: &Encounter) -> Option<u8>
     best
 }
 
-// The slowest of one aircraft more.
+// The slowest of the aircraft so far and one more.
 fn slower(state: &AirState, enc: &Encounter, best: Option<u8>, own: u8) -> Option<u8>
     requires same { state.now.encounter ≡ enc.now }
     requires best { SlowestSoFar (air_of enc.now) state.now.journal own best }

@@ -17,8 +17,8 @@ use std::alloc::{AllocError, Global};
 use std::sync::Wait;
 use std::thread::Threads;
 
-// Two aircraft with resolution advisories that fly towards each other, at different altitudes and at the same one,
-// without the end of the text.
+// Two aircraft with resolution advisories that fly towards each other, at different altitudes and at the same one. The
+// end of the text is missing.
 const APART: &[u8] =
     b"encounter,1\nrun,31,0\ncraft,400A01,RA,0,0,35000\ncraft,400B02,RA,91200,0,35300\nleg,400A01,1,760,0,0\nleg,400B02,1,-760,0,0\n";
 
@@ -29,7 +29,7 @@ const LEVEL: &[u8] =
 const LEVEL_2: &[u8] =
     b"encounter,2\nrun,31,0\ncraft,400A01,RA,0,0,35000\ncraft,400B02,RA,91200,0,35000\nleg,400A01,1,760,0,0\nleg,400B02,1,-760,0,0\n";
 
-// How the text of the two at one altitude goes on, where a copy is held back so long that it is taken last.
+// How the text of the two at one altitude goes on. A copy is held back so long that it is taken last.
 const HELD_LONG: &[u8] =
     b"gains,1024,1024,1024,1024\nleg,400B02,27,-760,0,6000\nfate,400A01,400B02,2,0,00,3,00\nfate,400A01,400B02,5\nend\n";
 
@@ -37,7 +37,7 @@ const HELD_LONG: &[u8] =
 const LAPSING: &[u8] =
     b"encounter,1\nrun,33,0\ncraft,400A01,RA,0,0,35000\ncraft,400B02,RA,91200,0,35000\nleg,400A01,1,760,0,0\nleg,400B02,1,-760,0,0\nmiss,400A01,400B02,22,60\nfate,400A01,400B02,2\n";
 
-// One aircraft between two others, of which one is above it and one below.
+// An aircraft between two others, one above it and one below.
 const BETWEEN: &[u8] =
     b"encounter,1\nrun,25,0\ngains,1024,1024,1024,1024\ncraft,400A01,RA,45600,0,34700\ncraft,400B02,RA,-45600,0,35300\ncraft,400C03,RA,0,0,35000\nleg,400A01,1,-760,0,0\nleg,400B02,1,760,0,0\n";
 
@@ -59,7 +59,7 @@ const ONE_CYCLE: &[u8] =
 const ONE_CYCLE_RECORDING: &[u8] =
     b"recording,1\nencounter,1\nrun,1,0\ngains,683,256,512,128\ncraft,400100,RA,-55000,39000,22400\nleg,400100,1,550,-390,-800\nend\njournal,1\nc,0,1,-\nreport,0\nclose\n";
 
-// Holds nobody.
+// Makes no aircraft wait.
 struct NoPause;
 
 impl Pause for NoPause {
@@ -73,7 +73,7 @@ struct Outcome {
     sink: MemSink,
 }
 
-// Runs the words of a line on a source and a sink in memory, which fail at these reads and writes.
+// Runs the words of a line on a source and a sink in memory. These reads and writes fail.
 fn run_with<R: Threads + Wait + Sync + Alloc<A = Global>, P: Pause + Sync>(
     rt: &R,
     line: &str,
@@ -159,7 +159,7 @@ fn entry_in(text: &[u8], position: usize) -> &[u8] {
     &[]
 }
 
-// The lines of a text from one number on, from 1, as far as another one.
+// The lines of a text from one number, from 1, to another one.
 fn lines_between(alloc: Global, text: &[u8], first: u64, last: u64) -> Result<Vec<u8>, AllocError> {
     let mut lines = Vec::new(alloc);
     let mut number = 0u64;

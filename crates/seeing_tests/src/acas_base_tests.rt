@@ -34,7 +34,7 @@ fn make(alloc: Global, count: u32, fates: &[Fate]) -> Result<Option<Encounter>, 
     ))
 }
 
-// An encounter may be sent to and shared with other threads.
+// A type that may be sent to other threads, and shared with them.
 fn may_be_shared<T: Send + Sync>(_: &T) {}
 
 // A leg of each of sixteen aircraft in each of 600 cycles.
@@ -62,7 +62,7 @@ fn longest(alloc: Global) -> Result<Option<Encounter>, Fail> {
     ))
 }
 
-// Whether an encounter is made of them, and a copy of it has what it has.
+// Whether the longest encounter is made, and a copy of it has the same.
 fn is_copied(alloc: Global) -> Result<bool, Fail> {
     let encounter = longest(alloc)?.ok_or("refused")?;
     may_be_shared(&encounter);
@@ -103,7 +103,7 @@ fn makes_nothing_of_wrong_fates(rt: HostRuntime) -> Result<(), Fail> {
     Ok(())
 }
 
-// An encounter of format 2, in which a link loses all messages but the second one, which is held back.
+// An encounter of format 2. A link loses all its messages but the second one, which is held back.
 fn with_link(alloc: Global, held: CopyPlan) -> Result<Encounter, Fail> {
     let plan = LinkPlan {
         sender: 0,

@@ -20,8 +20,8 @@ fn is_read(read: Result<Vec<u8>, InError>, want: Result<&[u8], InError>) -> bool
     }
 }
 
-// Whether this is read of five bytes up to a limit, where these reads of two bytes fail, and so many faults are
-// counted.
+// Whether this is read of five bytes up to a limit, and so many faults are counted. A read gives two bytes, and these
+// reads fail.
 fn reads(
     alloc: Global,
     fails: &[u64],
@@ -49,7 +49,8 @@ fn reads_up_to_the_limit(rt: HostRuntime) -> Result<(), AllocError> {
     Ok(())
 }
 
-// Whether two pieces are written whole to a sink with room for one, which takes two bytes at a time and fails after it.
+// Whether two pieces are written whole to a sink with room for one. It takes two bytes at a time, and fails when it is
+// full.
 fn writes_one(alloc: Global, piece: &[u8], other: &[u8]) -> Result<bool, AllocError> {
     let room = Vec::with_capacity(alloc, piece.len())?;
     let mut sink = MemSink::new(room, 2, [4].to_vec(alloc)?);
@@ -89,8 +90,8 @@ impl Read for Input {
     }
 }
 
-// A writer that takes at most so many bytes at a time, and flags those that aren't flushed. The write and the flush of
-// these numbers, from 1, fail.
+// A writer that takes at most so many bytes at a time, and notes whether bytes are left unflushed. The write and the
+// flush of these numbers, from 1, fail.
 #[derive(Drop)]
 struct Output {
     most: usize,
@@ -150,7 +151,7 @@ fn reads_twice(buf: &mut [u8], row: &Twice) -> bool {
         && input.reads == 2
 }
 
-// Each read asks the reader once: also after a short read, after one that failed, and into a large buffer.
+// Each read asks the reader once, also after a short read, after one that failed, and into a large buffer.
 #[test]
 fn reads_the_reader_once(rt: HostRuntime) {
     let mut buf = [0; 8192];
@@ -202,7 +203,8 @@ fn writes_once(piece: &[u8], row: &Once) -> bool {
         && (want.is_err() || !output.unflushed)
 }
 
-// Each write asks the writer once, and flushes what it took: also a large piece, and never again after an error.
+// Each write asks the writer once, and flushes what it took. That holds of a large piece, too. After an error it
+// doesn't ask again.
 #[test]
 fn writes_and_flushes_once(rt: HostRuntime) {
     for place in 0..ONCE.len() {

@@ -65,7 +65,7 @@ fn writes_lines_in_order(rt: HostRuntime) -> Result<(), Fail> {
     Ok(())
 }
 
-// 12,011 bytes are two writes. Of those that fail nothing comes, and none is tried again.
+// 12,011 bytes are two writes. Of a write that fails nothing comes, and it isn't tried again.
 #[test]
 fn gathers_lines_into_few_writes(rt: HostRuntime) -> Result<(), Fail> {
     let counts = [65_535; 2_000];

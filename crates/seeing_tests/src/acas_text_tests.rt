@@ -16,7 +16,7 @@ const DECIMALS: [Decimal; 9] = [
     (b"10000000000", None),
 ];
 
-// The place of the first text that is read otherwise.
+// The place of the first text that is read as something else.
 fn first_decimal(rows: &[Decimal]) -> Option<usize> {
     for place in 0..rows.len() {
         let (text, want) = rows[place];
@@ -43,7 +43,7 @@ const DIGITS: [Digits; 5] = [
     (b"00AB0G", None),
 ];
 
-// The place of the first text that is read otherwise.
+// The place of the first text that is read as something else.
 fn first_digits(rows: &[Digits]) -> Option<usize> {
     for place in 0..rows.len() {
         let (text, want) = rows[place];

@@ -73,10 +73,10 @@ fn running(est: i64, rate: i64) -> TrackState {
     }
 }
 
-// A craft may be sent to and shared with other threads.
+// A type that may be sent to other threads, and shared with them.
 fn may_be_shared<T: Send + Sync>(_: &T) {}
 
-// An aircraft, a cycle, and whether the first one sees it tested, as traffic, so that it resolves, and as a threat.
+// An aircraft, a cycle, and the first one's view of it: tested, traffic, resolves, threat.
 type Seen = (usize, u16, bool, bool, bool, bool);
 
 const SEEN: [Seen; 8] = [
@@ -131,7 +131,7 @@ fn keeps_tracks(rt: HostRuntime) -> Result<(), Fail> {
     Ok(())
 }
 
-// Whether a view of the lower one from above is this.
+// Whether this is a view of the lower one from above.
 fn is_from_above(view: &View) -> bool {
     view.halves == 70
         && view.alim == 600 * FOOT
@@ -147,7 +147,7 @@ fn separates_two_that_meet(rt: HostRuntime) -> Result<(), Fail> {
     Ok(())
 }
 
-// An aircraft near the ground, which may climb as far as here.
+// An aircraft near the ground. It may climb below this ceiling.
 fn low(address: u32, x: i32, ceiling: i32) -> Result<CraftSpec, Fail> {
     Ok(CraftSpec {
         ceiling: Some(ceiling),
@@ -155,7 +155,7 @@ fn low(address: u32, x: i32, ceiling: i32) -> Result<CraftSpec, Fail> {
     })
 }
 
-// Whether a view of one at the same altitude, from the ceiling, is this.
+// Whether this is a view of one at the same altitude, from the ceiling.
 fn is_from_the_ceiling(view: &View) -> bool {
     view.halves == 30
         && view.alim == 300 * FOOT
@@ -166,7 +166,8 @@ fn is_from_the_ceiling(view: &View) -> bool {
         && !view.climbs
 }
 
-// Each sees the other reported a foot higher than it is. One may not climb at its ceiling, and the other may below it.
+// Each sees the other reported a foot higher than it is. One is at its ceiling and may not climb. The other is below
+// its ceiling and may.
 #[test]
 fn separates_two_near_the_ground(rt: HostRuntime) -> Result<(), Fail> {
     let own = low(0x40_0A01, 0, 1_099)?;

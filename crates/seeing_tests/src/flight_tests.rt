@@ -34,7 +34,7 @@ fn measured(enc: &Encounter, own: u8, target: u8, cycle: u16) -> Option<Meas> {
 // Own aircraft, the other one, a cycle, and what is measured in it: range and altitude.
 type Row = (u8, u8, u16, Option<(u32, i32)>);
 
-// The place of the first row that is measured otherwise.
+// The place of the first row with another measurement.
 fn first_other(enc: &Encounter, rows: &[Row]) -> Option<usize> {
     for place in 0..rows.len() {
         let (own, target, cycle, wanted) = rows[place];
@@ -65,7 +65,7 @@ const FAR: [Row; 6] = [
 
 const LOW: [Row; 1] = [(0, 1, 16, Some((6_000, 1_100)))];
 
-// The first other row of two that meet, of two far from each other, and of two near the ground.
+// The first row with another measurement: of two that meet, of two far from each other, and of two near the ground.
 fn other_of_meeting(alloc: Global) -> Result<Option<usize>, Fail> {
     let legs = [leg(0, 1, 760, 0), leg(1, 1, -760, 0)];
     let enc = pair(alloc, 35_000, 91_200, 35_300, &legs, &[])?;
@@ -106,7 +106,8 @@ fn stands(enc: &Encounter, craft: u8, cycle: u16) -> Option<(Place, i32)> {
     Some((position(enc, craft, cycle), own_altitude(enc, craft, cycle)))
 }
 
-// The place of the first row where the aircraft of this index stands otherwise: a cycle, x in ft and z in 1/60 ft.
+// The place of the first row where the aircraft of this index is somewhere else. A row has a cycle, x in ft, z in 1/60
+// ft, and the altitude in feet.
 fn first_elsewhere(enc: &Encounter, craft: u8, rows: &[(u16, i64, i64, i32)]) -> Option<usize> {
     for place in 0..rows.len() {
         let (cycle, x, z, feet) = rows[place];
@@ -137,7 +138,7 @@ fn moves_by_the_leg_of_the_cycle_left(rt: HostRuntime) -> Result<(), Fail> {
     Ok(())
 }
 
-// Whether a pair stays in its box, whose second aircraft starts here.
+// Whether both of a pair stay in the box. The second aircraft starts here.
 fn stays(alloc: Global, low: i32, x: i32, high: i32, legs: &[Leg]) -> Result<bool, Fail> {
     Ok(inside(&pair(alloc, low, x, high, legs, &[])?))
 }

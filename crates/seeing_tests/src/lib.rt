@@ -1,4 +1,4 @@
-//! Tests of the public calls of the crates that stand on the floors ground and seeing.
+//! Tests of the public calls of the crates of the floors ground and seeing.
 #![tactic(auto)]
 
 #[cfg(test)]

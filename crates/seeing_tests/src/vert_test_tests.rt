@@ -11,7 +11,7 @@ const LEVEL_5: Row = Row {
     zthr: 600 * FOOT,
 };
 
-// Within 600 ft whatever the rate; beyond it 25 s at 40 ft/s, and one unit more; and at the same rate apart.
+// Within 600 ft, whatever the rate. Beyond it at 40 ft/s: 25 s, and one unit more. At the same rate apart.
 #[test]
 fn tells_a_little_more_than_tau(rt: HostRuntime) {
     let rows = [

@@ -1,4 +1,4 @@
--- Sensitivity levels: a table that is read by bands (FAA, Introduction to TCAS II v7.1, table of sensitivity levels).
+-- Sensitivity levels, as a table of bands (FAA, Introduction to TCAS II v7.1, table of sensitivity levels).
 use Rattle.std.specs.Prelude.{◌≡◌, ℕ, ◌*◌, ◌≤◌, ℤ, pos, int_lt, List, [], ◌∷◌, find, unwrap_or, option_map, Option, Some, None, MatchOption}
 use Rattle.acas_base.specs.declared.level.Level.{Level}
 use Rattle.acas_base.specs.declared.level.Row.{Row}
@@ -12,11 +12,11 @@ feet n = pos (n * 1024)
 abbrev pub row : ℕ → ℕ → ℕ → Row
 row tau dmod zthr = record { tau = pos tau; dmod = feet dmod; zthr = feet zthr }
 
--- a level's number, its thresholds, and ALIM in ft.
+-- A level: its number, its thresholds, and ALIM in ft.
 abbrev pub level : ℕ → Row → Option Row → ℕ → Level
 level sl ta ra alim = record { sl = sl; ta = ta; ra = ra; alim = feet alim }
 
--- a level, and the number of feet at which the next band begins: a lower bound belongs to the higher band.
+-- A level, and the number of feet at which the next band begins. A lower bound belongs to the higher band.
 pub record Band : Type 0 where
   pub end : ℤ
   pub level : Level
@@ -42,17 +42,17 @@ altitude_bands =
 abbrev pub highest : Level
 highest = level 7 (row 48 7898 1200) (Some (row 35 6683 800)) 700
 
--- The level of the first band that ends above a number of feet, or the level above them all.
+-- The level of the first band that ends above a number of feet, or the given level above all bands.
 abbrev pub level_in : List Band → Level → ℤ → Level
 level_in bands above n = unwrap_or (option_map (λ b. b.level) (find (λ b. int_lt n b.end) bands)) above
 
--- The level at an altitude and a height above the ground: the height is asked first.
+-- The level at an altitude and a height above the ground. The bands of the height come first.
 abbrev pub level_at : ℤ → ℤ → Level
 level_at altitude height = level_in height_bands (level_in altitude_bands highest altitude) height
 
--- What every row and every level of the table keeps, for those who compute with it.
+-- Bounds of every row and every level of the table.
 
--- At most a minute, 10,000 ft and 2,000 ft.
+-- Tau is at most a minute, DMOD at most 10,000 ft, and ZTHR at most 2,000 ft.
 pub record IsTableRow (row : Row) : Type 0 where
   pub tau : IsBetween (pos 1) (pos 60) row.tau
   pub dmod : IsBetween (feet 1) (feet 10000) row.dmod

@@ -6,12 +6,12 @@ ghost use Rattle.sens_table.specs.Levels.{level_at, IsLevel};
 
 use acas_base::{Level, Row};
 
-/// The sensitivity level at an own altitude over ground of an elevation, both in ft (FAA,
-/// Introduction to TCAS II v7.1, table of sensitivity levels).
+/// The sensitivity level at an own altitude over ground of an elevation, both in ft (FAA, Introduction to TCAS II v7.1,
+/// table of sensitivity levels).
 ///
-/// The two lowest levels go by the height above the ground, and the others by the altitude; a lower
-/// bound belongs to the higher band, and there is no hysteresis. DMOD in ft is 6,076 times the
-/// booklet's nautical miles, rounded down (this project's profile).
+/// The two lowest levels go by the height above the ground, and the others by the altitude. A lower bound belongs to
+/// the higher band, and there is no hysteresis. DMOD in ft is 6,076 times the booklet's nautical miles, rounded down
+/// (this project's profile).
 pub fn level_of(altitude: i32, elevation: i32) -> Level
     requires altitude { IsWithin 100000 altitude }
     requires elevation { IsWithin 100000 elevation }

@@ -1,4 +1,4 @@
-//! The sense of a new advisory.
+//! The chosen sense.
 #![tactic(auto)]
 
 mod choice;

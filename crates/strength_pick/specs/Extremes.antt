@@ -15,25 +15,25 @@ IsWeakest Is strength = Is strength × ((other : Strength) → place_of other < 
 abbrev pub IsStrongest : (Strength → Type 0) → Strength → Type 0
 IsStrongest Is strength = Is strength × ((other : Strength) → place_of strength < place_of other → ¬ Is other)
 
--- A choice may take it.
+-- A choice may take the strength.
 abbrev pub IsAllowed : View → Sense → Bool → Strength → Type 0
 IsAllowed view sense fresh strength = IsTrue (is_allowed view sense strength fresh)
 
 abbrev pub IsStrongestAllowed : View → Sense → Bool → Strength → Type 0
 IsStrongestAllowed view sense fresh strength = IsStrongest (IsAllowed view sense fresh) strength
 
--- The weakest one of the kind, or the strongest that is allowed where none is of the kind.
+-- The weakest strength of the kind. Where none is of the kind, it is the strongest allowed one.
 abbrev pub IsWeakestOrStrongest : (Strength → Type 0) → View → Sense → Bool → Strength → Type 0
 IsWeakestOrStrongest Is view sense fresh strength = IsWeakest Is strength ⊎ (((other : Strength) → ¬ Is other) × IsStrongestAllowed view sense fresh strength)
 
--- A choice may take it, and it gives ALIM.
+-- A choice may take the strength, and it gives ALIM.
 abbrev pub Serves : View → Sense → Bool → Strength → Type 0
 Serves view sense fresh strength = IsAllowed view sense fresh strength × IsTrue (gives_alim view sense strength fresh)
 
 abbrev pub IsLeast : View → Sense → Bool → Strength → Type 0
 IsLeast view sense fresh strength = IsWeakestOrStrongest (Serves view sense fresh) view sense fresh strength
 
--- A choice may take it, and it is at least as strong as two others.
+-- A choice may take the strength, and it is at least as strong as two others.
 abbrev pub Reaches : View → Sense → Bool → Strength → Strength → Strength → Type 0
 Reaches view sense fresh one two strength = IsAllowed view sense fresh strength × (place_of one ≤ place_of strength) × (place_of two ≤ place_of strength)
 

@@ -14,23 +14,23 @@ pub fn strongest_law()
     ensures { (view : View) (sense : Sense) (fresh : Bool) → IsStrongestAllowed view sense fresh (strongest view sense fresh) }
 {}
 
-/// A law: the least strength is allowed and gives ALIM, and no weaker one is and does; or none gives
-/// ALIM, and it is the strongest that is allowed.
+/// A law: the least strength is allowed and gives ALIM, and no weaker one is allowed and gives ALIM. Where no allowed
+/// strength gives ALIM, it is the strongest allowed one.
 pub fn least_law()
     ensures { (view : View) (sense : Sense) (fresh : Bool) → IsLeast view sense fresh (least_strength view sense fresh) }
 {}
 
-/// A law: where the advisory doesn't weaken to `Level`, its next strength is allowed and at least as
-/// strong as the one before and the least one, and no weaker one is; or none is, and it is the
-/// strongest that is allowed.
+/// A law about the next strength of an advisory that doesn't weaken to `Level`. It is the weakest allowed strength that
+/// is at least as strong as the one before and as the least strength. Where there is none, it is the strongest allowed
+/// one.
 pub fn next_law()
     ensures weakens { (before : Intent) (view : View) → IsTrue (weakens before view) → strength_after before view ≡ Strength.Level }
     ensures goes_on { (before : Intent) (view : View) → IsTrue (not (weakens before view)) → IsNext before view (strength_after before view) }
 {}
 
-/// A law: no choice is a limit to 1,000 or to 500 ft/min, if in the view each limit that own rate meets separates the two
-/// aircraft alike, as each of them asks for own rate. Where such a limit is allowed and gives ALIM the limit to
-/// 2,000 ft/min does so, too, and is taken first.
+/// A law: no choice is a limit to 1,000 or to 500 ft/min. It asks of the view that all limits which own rate meets give
+/// the same separation; they do, since each asks for own rate. Where a stricter limit is allowed and gives ALIM, the
+/// limit to 2,000 ft/min is allowed and gives ALIM, too, and is taken first.
 pub fn limits_law()
     ensures strongest { (view : View) (sense : Sense) (fresh : Bool) → is_stricter_limit (strongest view sense fresh) ≡ false }
     ensures least { (view : View) (sense : Sense) (fresh : Bool) → LimitsAskForOwnRate view → is_stricter_limit (least_strength view sense fresh) ≡ false }

@@ -6,7 +6,7 @@ ghost use Rattle.acas_base.specs.Choice.{present_separation, weakens, reaches_bo
 use crate::weakest::least;
 use acas_base::{Intent, Sense, Strength, View, allowed, strongest};
 
-// The age in cycles from which an advisory may weaken to `Level`.
+// From this age on, in cycles, an advisory may weaken to `Level`.
 const WEAKENS_FROM: u16 = 5;
 
 // The present separation of this sense is at least ALIM.
@@ -29,8 +29,8 @@ fn is_at_least(strength: Strength, other: Strength) -> bool
     other.place() <= strength.place()
 }
 
-/// Whether the advisory weakens to `Level`: it is at least five cycles old and at least `Level`, and its sense
-/// already has ALIM (this project's profile).
+/// Whether the advisory weakens to `Level`: it is at least five cycles old and at least `Level`, and the present
+/// separation of its sense is at least ALIM (this project's profile).
 pub fn weakens(prev: &Intent, view: &View) -> bool
     ensures { result ≡ weakens prev.now view.now }
 {
@@ -55,7 +55,7 @@ fn reaches_both(
         && is_at_least(strength, two)
 }
 
-// The weakest of these, or the strongest that the choice may take where there is none.
+// The weakest of these. Where there is none, it is the strongest strength that the choice may take.
 fn least_of_both(view: &View, sense: Sense, fresh: bool, one: Strength, two: Strength) -> Strength
     ensures { result ≡ least_of_both view.now sense fresh one two }
 {
@@ -78,10 +78,10 @@ fn least_of_both(view: &View, sense: Sense, fresh: bool, one: Strength, two: Str
 
 /// The next strength of an advisory that keeps its sense (this project's profile).
 ///
-/// It is `Level` where the advisory is at least five cycles old and at least `Level`, and its sense
-/// already has ALIM. Else it is the weakest one that the choice may take and that is at least as
-/// strong as the one before and the least one of the present view, or the strongest that the choice
-/// may take where there is none.
+/// It is `Level` where the advisory is at least five cycles old and at least `Level`, and the present separation of its
+/// sense is at least ALIM. Else it is the weakest strength that the choice may take and that is at least as strong as
+/// the one before and as the least strength of the present view. Where there is none, it is the strongest one that the
+/// choice may take.
 pub fn next_strength(prev: &Intent, view: &View) -> Strength
     ensures { result ≡ strength_after prev.now view.now }
 {

@@ -5,15 +5,15 @@ ghost use Rattle.acas_base.specs.Choice.{gives_alim, least_strength};
 
 use acas_base::{Sense, Strength, View, allowed, gives_alim, strongest};
 
-// A choice may take this strength, and it gives ALIM.
+// Whether a choice may take this strength, and it gives ALIM.
 fn serves(view: &View, sense: Sense, strength: Strength, fresh: bool) -> bool
     ensures { result ≡ (is_allowed view.now sense strength fresh && gives_alim view.now sense strength fresh) }
 {
     allowed(view, sense, strength, fresh) && gives_alim(view, sense, strength, fresh)
 }
 
-/// The least strength of this sense: the weakest allowed one that gives ALIM, or the strongest allowed
-/// one where none does (this project's profile).
+/// The least strength of this sense: the weakest allowed one that gives ALIM. Where none does, it is the strongest
+/// allowed one (this project's profile).
 pub fn least(view: &View, sense: Sense, fresh: bool) -> Strength
     ensures { result ≡ least_strength view.now sense fresh }
 {

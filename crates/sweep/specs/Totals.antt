@@ -11,6 +11,6 @@ total list = record {
   lines = sum_by (λ (counts : Counts). counts.lines) list;
 }
 
--- Each fits 32 bits.
+-- Each count fits 32 bits.
 abbrev pub Fit : Counts → Type 0
 Fit counts = (counts.commits < 2 ^ 32) × (counts.sends < 2 ^ 32) × (counts.takes < 2 ^ 32) × (counts.lines < 2 ^ 32)

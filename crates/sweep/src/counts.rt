@@ -2,7 +2,7 @@
 ghost use Rattle.std.specs.Prelude.{◌≡◌};
 ghost use Rattle.sweep.specs.Totals.{Fit, total};
 
-/// What a run has: its commits, its messages sent, its copies taken, and the lines of its report.
+/// The counts of a run: its commits, its messages sent, its copies taken, and the lines of its report.
 #[derive(Clone, Copy, Debug, PartialEq, Eq)]
 pub struct Counts {
     pub commits: u32,

@@ -1,5 +1,5 @@
-//! Jobs that are told by numbers, each of a row of numbers, in as many threads as there are processors; and what each of them
-//! counted, in the order of the numbers.
+//! A job for each number of a row of numbers, done in as many threads as there are processors. It gives what the job
+//! counted of each number, in the order of the numbers.
 #![tactic(auto)]
 
 mod counts;

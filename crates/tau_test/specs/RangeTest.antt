@@ -4,8 +4,8 @@ use Rattle.std.specs.Prelude.{ℕ, ◌-◌, ◌*◌, ◌≤◌, ◌⊎◌, ◌||
 use Rattle.acas_base.specs.declared.level.Row.{Row}
 use Rattle.acas_num.specs.Seconds.{need}
 
--- Modified tau in whole seconds, rounded up: (r * r - dmod * dmod) / (r * rate), for a range beyond DMOD that closes at
--- so great a rate.
+-- Modified tau in whole seconds, rounded up: (r * r - dmod * dmod) / (r * rate). It is for a range beyond DMOD that
+-- closes at this rate.
 abbrev pub modified_tau : ℕ → ℕ → ℕ → ℕ
 modified_tau r rate dmod = need (r * r - dmod * dmod) (r * rate)
 
@@ -19,7 +19,7 @@ pub record IsClosingIn (r rdot : ℤ) (row : Row) : Type 0 where
 abbrev pub IsRangeHit : ℤ → ℤ → Row → Type 0
 IsRangeHit r rdot row = (r ≤ℤ row.dmod) ⊎ IsClosingIn r rdot row
 
--- The same as a truth value, so that what is seen is a function of what is known.
+-- The same as a truth value. So what is seen is a function of what is known.
 unfoldable pub is_range_hit : ℤ → ℤ → Row → Bool
 is_range_hit r rdot row =
     int_le r row.dmod || (int_lt rdot (pos 0) && nat_le (modified_tau (unsigned_abs r) (unsigned_abs rdot) (unsigned_abs row.dmod)) (unsigned_abs row.tau))

@@ -6,12 +6,11 @@ ghost use Rattle.tau_test.specs.RangeTest.{modified_tau, is_range_hit, IsRangeHi
 
 use acas_base::Row;
 
-/// Whether a slant range `r` (1/1024 ft) that changes by `rdot` (1/1024 ft/s) is within the DMOD of a
-/// row, or closes so fast that its modified tau is at most the row's tau (Munoz et al. 2013; FAA,
-/// Introduction to TCAS II v7.1).
+/// Whether the range test holds: a slant range `r` (1/1024 ft) that changes by `rdot` (1/1024 ft/s) is within the DMOD
+/// of a row, or it closes so fast that its modified tau is at most the row's tau (Munoz et al. 2013; FAA, Introduction
+/// to TCAS II v7.1).
 ///
-/// Modified tau is `(r * r - dmod * dmod) / (r * -rdot)`; it is compared exactly, so that 25.02 s is
-/// more than 25 s.
+/// Modified tau is `(r * r - dmod * dmod) / (r * -rdot)`. It is compared exactly, so 25.02 s is more than 25 s.
 pub fn range_test(r: i64, rdot: i64, row: &Row) -> bool
     requires range { IsBetween (pos 0) (pos (2 ^ 28)) r }
     requires rate { unsigned_abs rdot ≤ 2 ^ 23 }
@@ -33,7 +32,7 @@ pub fn range_test(r: i64, rdot: i64, row: &Row) -> bool
     )
 }
 
-// Whether modified tau is at most `tau`, without a division: the products are at most 2^56, 2^56 and 2^63.
+// Whether modified tau is at most `tau`, without a division. The products are at most 2^56, 2^56 and 2^63.
 fn is_soon(r: u64, rate: u64, dmod: u64, tau: u64) -> bool
     requires range { r ≤ 2 ^ 28 }
     requires beyond { dmod < r }

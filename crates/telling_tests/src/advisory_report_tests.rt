@@ -41,7 +41,7 @@ fn crossing(composite: Composite) -> Composite {
     }
 }
 
-// Advice that own rate meets.
+// Advice whose rate own aircraft flies already.
 fn preventive(composite: Composite) -> Composite {
     Composite {
         corrective: false,
@@ -61,7 +61,7 @@ fn both(up: Strength, down: Strength) -> Composite {
 // A composite, the next one, and the phrase.
 type Phrase = (Composite, Composite, Aural);
 
-// The place of the first phrase that is another one.
+// The place of the first row with another phrase.
 fn first_unsaid(phrases: &[Phrase]) -> Option<usize> {
     for place in 0..phrases.len() {
         let (before, after, said) = phrases[place];
@@ -176,7 +176,7 @@ fn tells_lines_of_cells(rt: HostRuntime) -> Result<(), Fail> {
     Ok(())
 }
 
-// A strength of each sense, and the line where this is advised first.
+// A strength of each sense, and the line where they are advised first.
 type Word = (Option<Strength>, Option<Strength>, &'static str);
 
 const WORDS: [Word; 11] = [
@@ -237,7 +237,7 @@ const WORDS: [Word; 11] = [
     ),
 ];
 
-// Whether the line from one composite to the next one is this; none where it is empty.
+// Whether this is the line from one composite to the next one. It is empty where there is no line.
 fn says(own: Address, before: &Composite, after: &Composite, want: &str) -> bool {
     match line(1, own, before, after) {
         Some(told) => told.bytes() == want.as_bytes(),
@@ -245,7 +245,7 @@ fn says(own: Address, before: &Composite, after: &Composite, want: &str) -> bool
     }
 }
 
-// The place of the first word that is told otherwise.
+// The place of the first row with another line.
 fn first_other(own: Address, words: &[Word]) -> Option<usize> {
     for place in 0..words.len() {
         let (up, down, want) = words[place];

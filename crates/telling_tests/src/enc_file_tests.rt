@@ -1,5 +1,5 @@
 // Expected values: by hand from "Encounter text", "Refusals" and "Canonical text" in docs/FORMATS.md. Texts are read
-// and written, and of faulty ones the record is told that is refused, and why.
+// and written. Of a faulty text the refused record is given, and why it is refused.
 use Front::{
     Edge, Eight, Given, Header1, Header2, Long, Nothing, OtherEdge, Pair1, Pair2, Run1, RunEight,
     RunSixteen, Sixteen, ThereAndBack, Two,
@@ -24,7 +24,7 @@ const SPELLINGS: [&[u8]; 7] = [
 const CANONICAL: &[u8] =
     b"encounter,1\nrun,31,0\ngains,683,256,512,128\ncraft,400A01,TA,0,0,35000\ncraft,400B02,TA,91200,0,35300\nleg,400A01,1,760,0,0\nleg,400B02,1,-760,0,0\nend\n";
 
-// Texts with their records in another order, and in that of the canonical text.
+// Texts with their records in another order, and the same in the order of the canonical text.
 const UNORDERED_1: &[u8] =
     b"encounter,1\ncraft,400C03,XPDR,0,60000,30000\ncraft,400B02,TA,91200,0,35300\ncraft,400A01,RA,0,0,35000\nfate,400A01,400B02,2\nleg,400A01,1,760,0,0\nfate,400B02,400A01,1,0,00\nmiss,400A01,400B02,1,5\nleg,400B02,1,-760,0,0\nfate,400A01,400C03,3,1,07\nleg,400A01,2,750,0,-600\nmiss,400B02,400A01,9,9\nfate,400B02,400A01,3,60,E0,0,00\nleg,400B02,10,-700,0,600\nmiss,400A01,400B02,6,6\ngains,1024,0,1,2\nmiss,400B02,400C03,600,600\nfate,400A01,400B02,600\nrun,31,-500\nend\n";
 
@@ -70,7 +70,7 @@ fn canonical(alloc: Global, text: &[u8]) -> Result<MemSink, Fail> {
     Ok(sink)
 }
 
-// The place of the first text whose canonical text isn't this one, or itself where none is given.
+// The place of the first text whose canonical text isn't this one. Where none is given, it should be the text itself.
 fn first_unlike(
     alloc: Global,
     texts: &[&[u8]],
@@ -195,7 +195,7 @@ fn encounter(alloc: Global) -> Result<Option<Encounter>, AllocError> {
 const FORMAT_2: &[u8] =
     b"encounter,2\nrun,31,-500\ngains,1024,0,1,2\ncraft,400A01,RA,0,-20,35000\ncraft,0B0002,XPDR,91200,-20,35000\ncraft,FFFFFE,TA,-1000000,-20,35000\nclimb,400A01,-1000\nclimb,FFFFFE,36000\nleg,0B0002,600,-2000,0,10000\nmiss,FFFFFE,400A01,7,9\nplan,400A01,FFFFFE,0,00,60,C1\nfate,400A01,FFFFFE,1\nfate,400A01,FFFFFE,12,60,C1,0,00,5,0A\nend\n";
 
-// Whether an encounter is written so, and where these writes of 16 bytes fail a front of it.
+// Whether an encounter is written so. Where these writes of 16 bytes fail, a front of it is written.
 fn is_written(
     alloc: Global,
     encounter: &Encounter,
@@ -234,7 +234,7 @@ enum Front {
     Pair2,
     // Three records: two aircraft without a run.
     Two,
-    // Fifteen records of format 2: of each kind what may not be given again.
+    // Fifteen records of format 2. They have one record of each kind that may not be given again.
     Given,
     // Three records: an aircraft at an edge of the box, and at the opposite one.
     Edge,
@@ -281,7 +281,7 @@ impl Front {
     }
 }
 
-// How a text begins and goes on; the number of the record that is refused, from 1; the number of the lowest code of its
+// How a text begins and goes on, the number of the refused record, from 1, and the number of the lowest code of its
 // faults.
 type Fault = (Front, &'static str, u32, u8);
 
@@ -635,7 +635,7 @@ const ENDS: &[Fault] = &[
     (Pair2, "end\n\n\nclimb,400A01,30000", 8, 12),
 ];
 
-// What a text of two parts is refused for; zeros where it is accepted.
+// The number of the record and of the code with which a text of two parts is refused; zeros where it is accepted.
 fn refusal(alloc: Global, front: Front, rest: &str) -> Result<(u32, u8), Fail> {
     let mut text = Vec::new(alloc);
     text.extend_from_slice(front.text())?;
@@ -650,7 +650,7 @@ fn refusal(alloc: Global, front: Front, rest: &str) -> Result<(u32, u8), Fail> {
     }
 }
 
-// The first of some texts that is refused for something else, or accepted, and for what it is refused.
+// The first text that is accepted or refused with something else, and what it is refused with.
 fn first_other(alloc: Global, faults: &[Fault]) -> Result<Option<(Fault, u32, u8)>, Fail> {
     for &fault in faults {
         let (front, rest, at, code) = fault;

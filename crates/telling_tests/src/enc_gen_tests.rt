@@ -7,7 +7,7 @@ use std::test::Fail;
 
 const PLAIN: CopyPlan = CopyPlan { hold: 0, mask: 0 };
 
-// What is asked for, how many records it has of each list, and the last ones.
+// What is asked for, how many records each list has, and the last record of each.
 #[derive(Drop)]
 struct Row {
     number: u32,
@@ -133,7 +133,7 @@ fn last_craft(row: &Row) -> Result<CraftSpec, Fail> {
     })
 }
 
-// Whether an encounter has so many records of each list, and these last ones.
+// Whether each list of an encounter has so many records, and these last ones.
 fn is_row(made: &Encounter, row: &Row, last: &CraftSpec) -> bool {
     made.version() == row.version
         && made.crafts().len() == usize::from(row.crafts)

@@ -1,4 +1,4 @@
-//! Tests of the public calls of the crates that stand on the floor telling.
+//! Tests of the public calls of the crates of the floor telling.
 #![tactic(auto)]
 
 #[cfg(test)]

@@ -22,7 +22,7 @@ const BOTH: &[u8] = b"journal,2\nc,0,1,-,-\nc,1,1,-,-\n";
 
 const CLOSE: &[u8] = b"report,0\nclose\n";
 
-// The bytes of these parts, where they are few.
+// The bytes of these parts; none where they are too many.
 fn bytes_of(alloc: Global, parts: [&[u8]; 4]) -> Result<Option<Vec<u8>>, AllocError>
     ensures { IfOk result (λ found. IfSome found (λ bytes. length bytes.items ≤ 1000)) }
 {
@@ -105,7 +105,7 @@ fn is_judged(alloc: Global, row: &Judged) -> Result<bool, Fail> {
     Ok(judge(alloc, &bytes)? == want)
 }
 
-// The place of the first row that is judged otherwise.
+// The place of the first row with another verdict.
 fn first_misjudged(alloc: Global, rows: &[Judged]) -> Result<Option<usize>, Fail> {
     for place in 0..rows.len() {
         if !is_judged(alloc, &rows[place])? {
@@ -129,7 +129,7 @@ fn loaded(found: Loaded) -> Option<u32> {
     }
 }
 
-// The parts of a recording, and how many entries are loaded of the whole and of the beginning that they are.
+// The parts of a recording, and how many entries are loaded of them as a whole recording and as a beginning.
 type Loading = ([&'static [u8]; 4], Option<u32>, Option<u32>);
 
 const LOADED: [Loading; 6] = [
@@ -151,7 +151,7 @@ fn is_loaded(alloc: Global, row: &Loading) -> Result<bool, Fail> {
     Ok(loaded(load(alloc, &bytes)?) == whole && loaded(load_part(alloc, &bytes)?) == part)
 }
 
-// The place of the first row of which something else is loaded.
+// The place of the first row with another number of loaded entries.
 fn first_misloaded(alloc: Global, rows: &[Loading]) -> Result<Option<usize>, Fail> {
     for place in 0..rows.len() {
         if !is_loaded(alloc, &rows[place])? {

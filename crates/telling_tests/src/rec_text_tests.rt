@@ -27,7 +27,7 @@ fn state_of(alloc: Global, text: &[u8]) -> Result<AirState, Fail> {
     }
 }
 
-// Whether a recording is written so, and where these writes of 1,000 bytes fail a front of it.
+// Whether a recording is written so. Where these writes of 1,000 bytes fail, a front of it is written.
 fn is_written(alloc: Global, state: &AirState, fails: &[u64], want: &[u8]) -> Result<bool, Fail> {
     let mut sink = sink(alloc, fails)?;
     let written = write(state, &mut sink);

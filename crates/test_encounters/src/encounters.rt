@@ -33,7 +33,7 @@ pub fn leg(craft: u8, from: u16, vx: i32, vz: i32) -> Leg {
     }
 }
 
-/// The cycles in which one aircraft gets no replies of another one.
+/// The cycles in which one aircraft gets no replies from another one.
 pub fn miss(own: u8, target: u8, from: u16, to: u16) -> Miss {
     Miss {
         own,
@@ -43,7 +43,7 @@ pub fn miss(own: u8, target: u8, from: u16, to: u16) -> Miss {
     }
 }
 
-/// The fate of a message of the first aircraft to the second one, of which two copies arrive at most.
+/// The fate of a message of the first aircraft to the second one. At most two copies arrive.
 pub fn fate(number: u16, copies: u8, first: CopyPlan, second: CopyPlan) -> Fate {
     Fate {
         sender: 0,
@@ -56,8 +56,8 @@ pub fn fate(number: u16, copies: u8, first: CopyPlan, second: CopyPlan) -> Fate 
     }
 }
 
-/// An encounter of these parts, in the box or not, whose tracks all have this gain, or the usual ones where there is
-/// none.
+/// An encounter of these parts, in the box or not. All its tracks have this gain; where none is given, they have the
+/// usual ones.
 pub fn any_encounter(
     alloc: Global,
     cycles: u16,

@@ -1,5 +1,5 @@
 //! Parts of small encounters, and encounters of them, for the tests of several crates. No crate of the program stands
-//! on it.
+//! on this one.
 #![tactic(auto)]
 
 mod encounters;

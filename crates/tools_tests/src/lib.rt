@@ -1,4 +1,4 @@
-//! Tests of the public calls of the crates that stand on the floor tools.
+//! Tests of the public calls of the crates of the floor tools.
 #![tactic(auto)]
 
 #[cfg(test)]

@@ -8,7 +8,7 @@ use Rattle.acas_num.specs.Seconds.{need}
 abbrev pub are_opposite : ℤ → ℤ → Bool
 are_opposite a b = (int_lt a (pos 0) && int_lt (pos 0) b) || (int_lt (pos 0) a && int_lt b (pos 0))
 
--- The height shrinks, and the time to the same altitude, in whole seconds, rounded up, is at most TAU.
+-- The height shrinks. The time to the same altitude, in whole seconds and rounded up, is at most TAU.
 pub record IsConvergingIn (dz dzdot : ℤ) (row : Row) : Type 0 where
   pub converging : IsTrue (are_opposite dz dzdot)
   pub soon : need (unsigned_abs dz) (unsigned_abs dzdot) ≤ unsigned_abs row.tau
@@ -17,7 +17,7 @@ pub record IsConvergingIn (dz dzdot : ℤ) (row : Row) : Type 0 where
 abbrev pub IsAltHit : ℤ → ℤ → Row → Type 0
 IsAltHit dz dzdot row = (unsigned_abs dz ≤ unsigned_abs row.zthr) ⊎ IsConvergingIn dz dzdot row
 
--- The same as a truth value, so that what is seen is a function of what is known.
+-- The same as a truth value. So what is seen is a function of what is known.
 unfoldable pub is_altitude_hit : ℤ → ℤ → Row → Bool
 is_altitude_hit dz dzdot row =
     nat_le (unsigned_abs dz) (unsigned_abs row.zthr)

@@ -7,11 +7,11 @@ ghost use Rattle.vert_test.specs.AltTest.{IsAltHit, are_opposite, is_altitude_hi
 
 use acas_base::Row;
 
-/// Whether a height `dz` of the other aircraft over the own one (1/1024 ft) that changes by `dzdot`
-/// (1/1024 ft/s) is within the ZTHR of a row, or shrinks so fast that the time to the same altitude
-/// is at most the row's tau (FAA, Introduction to TCAS II v7.1).
+/// Whether the altitude test holds: a height `dz` of the other aircraft over own aircraft (1/1024 ft) that changes by
+/// `dzdot` (1/1024 ft/s) is within the ZTHR of a row, or it shrinks so fast that the time to the same altitude is at
+/// most the row's tau (FAA, Introduction to TCAS II v7.1).
 ///
-/// The time is compared exactly, so that a little more than 25 s is more than 25 s.
+/// The time is compared exactly, so a little more than 25 s is more than 25 s.
 pub fn alt_test(dz: i64, dzdot: i64, row: &Row) -> bool
     requires height { unsigned_abs dz ≤ 2 ^ 28 }
     requires rate { unsigned_abs dzdot ≤ 2 ^ 23 }
@@ -37,7 +37,7 @@ pub fn are_opposite(a: i64, b: i64) -> bool
     (a < 0 && b > 0) || (a > 0 && b < 0)
 }
 
-// Whether `rate` a second make up `height` within `tau` s, without a division: the product is at most 2^35.
+// Whether a rate of `rate` a second covers `height` within `tau` s, without a division. The product is at most 2^35.
 fn is_soon(height: u64, rate: u64, tau: u64) -> bool
     requires rate { rate ≤ 2 ^ 23 }
     requires converging { 0 < rate }
