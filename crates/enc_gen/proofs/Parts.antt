@@ -93,8 +93,8 @@ made-valid number crafts cycles some few run =
       };
     }
 
--- What is made, one list after another: the lists as they were returned (`ds`, `list`, `legs`, `missed`, `fated`), and as they were
--- read.
+-- What is made, one list after another. It is given as the lists were returned (`ds`, `list`, `legs`, `missed`,
+-- `fated`), and as they were read.
 pub record AreMade (number crafts cycles s t u v : ℕ) (ds dr ds2 : List Draft) (list one two : List CraftSpec) (legs : List Leg) (missed : List Miss) (fated : List Fate) : Type 0 where
   pub seeded : s ≡ seed number
   pub drawn : Makes (each draft crafts) s [] t ds

@@ -6,7 +6,8 @@ use Rattle.advisory_report.specs.Composite.{clear}
 use Rattle.rec_text.specs.Report.{report_of, shown_in}
 use Rattle.rec_text.proofs.report.put_cycle.Given as goal
 
--- The lines of the aircraft so far were put. These show what they do after the cycle, and the others what they did before it.
+-- The lines of the aircraft so far were put. The composites of these are what they show after the cycle, and those of
+-- the others are what they showed before it.
 abbrev pub invariant-loop-own : goal.invariant-loop-own
 invariant-loop-own g l = record {
   lines : g.S.LineSink.took l.fn.sink l.sink (flat_map (report_of l.state.encounter l.state.journal l.cycle) (range_with_len 0 l.own));
