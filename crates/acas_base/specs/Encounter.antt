@@ -115,13 +115,13 @@ pub record AreRates (leg : Leg) : Type 0 where
   pub vy : IsWithin 2000 leg.vy
   pub vz : IsWithin 10000 leg.vz
 
--- A leg of one of so many aircraft.
+-- A leg of one of `count` aircraft.
 pub record IsLeg (count : ℕ) (leg : Leg) : Type 0 where
   pub craft : leg.craft < count
   pub from : IsCycle leg.from
   pub rates : AreRates leg
 
--- Two of so many aircraft.
+-- Two different indices of `count` aircraft.
 pub record IsPair (count a b : ℕ) : Type 0 where
   pub first : a < count
   pub second : b < count
@@ -177,11 +177,11 @@ pub record AreCrafts (version : ℕ) (crafts : List CraftSpec) : Type 0 where
   pub addresses : AllPairs AreApart crafts
   pub active : IsTrue (list_any is_active crafts)
 
--- Records of so many aircraft, each in its ranges, and in their order.
+-- Records that name aircraft among `count` ones, each in its ranges, and in their order.
 abbrev pub AreListed : {X : Type 0} → (ℕ → X → Type 0) → (X → X → Bool) → ℕ → List X → Type 0
 AreListed Fits below count xs = All (Fits count) xs × IsRising below xs
 
--- The four lists of records of so many aircraft.
+-- The four lists of records of an encounter with `count` aircraft.
 pub record AreRecords (count : ℕ) (xs : List Leg) (ys : List Miss) (zs : List LinkPlan) (ws : List Fate) : Type 0 where
   pub legs : AreListed IsLeg leg_below count xs
   pub misses : AreListed IsMiss miss_below count ys

@@ -72,7 +72,7 @@ impl Strength {
     }
 }
 
-/// After so many commits of its taker a complement that isn't renewed lapses (this project's profile).
+/// A complement that isn't renewed lapses after this many commits of its taker (this project's profile).
 pub const LAPSE: u16 = 6;
 
 /// The vertical resolution advisory complement: none, "do not pass below", which forbids the sense

@@ -13,7 +13,7 @@ pub trait Record {
 
     ghost below: { Self → Self → Bool };
 
-    /// Whether it is in its ranges, and names aircraft among so many.
+    /// Whether it is in its ranges, and names aircraft among `count` ones.
     fn fits(&self, count: usize) -> bool
         ensures { IsTrue result ↔ fits count self.now };
 
@@ -23,7 +23,7 @@ pub trait Record {
         ensures { result ≡ below self.now other.now };
 }
 
-/// Whether these are the lists of an encounter with so many aircraft.
+/// Whether these are the lists of an encounter with `count` aircraft.
 pub(crate) fn are_all_records(
     count: usize,
     legs: &[Leg],
@@ -39,7 +39,7 @@ pub(crate) fn are_all_records(
         && are_records(count, fates)
 }
 
-// Whether these are a list of an encounter with so many aircraft.
+// Whether these are a list of an encounter with `count` aircraft.
 fn are_records<T: Record>(count: usize, records: &[T]) -> bool
     ensures { IsTrue result ↔ AreListed T.fits T.below count records.now }
 {

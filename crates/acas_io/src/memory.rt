@@ -8,7 +8,7 @@ ghost use Rattle.acas_io.specs.Stream.{Writes};
 use crate::{Failed, Sink, Source};
 use std::marker::Model;
 
-// Whether the call after so many calls is one that fails.
+// Whether the call after `done` calls is one that fails.
 fn is_next(fails: &[u64], done: u64) -> bool
     ensures { IsTrue result ↔ Contains fails.now (done + 1) }
 {

@@ -7,7 +7,7 @@ use Rattle.acas_num.specs.declared.track.TrackState.{TrackState}
 use Rattle.acas_num.specs.declared.track.TrackState.TheVariants.{Empty, One, Run}
 use Rattle.acas_num.specs.Clamp.{clamped, LiesBetween}
 
--- So many feet, or ft/s, in units of 1/1024.
+-- Feet, or ft/s, in units of 1/1024.
 abbrev pub units : ℤ → ℤ
 units feet = pos 1024 *ℤ feet
 

@@ -14,7 +14,7 @@ pub fn floor_div(a: i64, b: i64) -> i64
 }
 
 /// A law: `need a b` is the least whole number of seconds in which a rate of `b` a second covers `a`. So one product
-/// shows whether so many seconds are enough.
+/// shows whether a number of seconds is enough.
 pub fn seconds_law()
     ensures least { (a b : ℕ) → 0 < b → IsNeed a b (need a b) }
     ensures by_product { (a b seconds : ℕ) → 0 < b → (need a b ≤ seconds) ↔ (a ≤ seconds * b) }

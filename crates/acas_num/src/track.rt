@@ -116,7 +116,7 @@ impl TrackState {
     }
 }
 
-// So many feet in 1/1024 ft.
+// A number of feet in 1/1024 ft.
 fn in_units(feet: i64) -> i64
     requires { unsigned_abs (units feet) ≤ 2 ^ 28 }
     ensures { result ≡ units feet }

@@ -100,7 +100,7 @@ impl Line {
         self.hex(u64::from(value), 6);
     }
 
-    /// Adds a number in so many hexadecimal digits, 0-9A-F, the highest first. The number may have no more digits than
+    /// Adds a number in `digits` hexadecimal digits, 0-9A-F, the highest first. The number may have no more digits than
     /// that.
     pub fn hex(&mut self, value: u64, digits: u8)
         requires few { digits ≤ 16 }
@@ -168,7 +168,7 @@ impl Line {
         self.address(value);
     }
 
-    /// Adds a comma and a number in so many hexadecimal digits, as `hex` does.
+    /// Adds a comma and a number in `digits` hexadecimal digits, as `hex` does.
     pub fn hex_field(&mut self, value: u64, digits: u8)
         requires few { digits ≤ 16 }
         requires fits { value < 16 ^ digits }

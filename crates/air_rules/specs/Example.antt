@@ -175,7 +175,7 @@ pub record IsTwiceEqual : Type 0 where
 abbrev pub complement_after : ℕ → Vrc
 complement_after made = vrc_in_force (Some (record { send = 2; vrc = NotAbove; commits = 26 })) made
 
--- Its first round, and so many more commits of one aircraft.
+-- Its first round, and n more commits of one aircraft.
 abbrev pub and_commits : ℕ → ℕ → List Entry
 and_commits own n = replicate n (commit own 2 0 Clear) ++ reverse first_round
 

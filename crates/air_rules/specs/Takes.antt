@@ -42,11 +42,11 @@ last_take air (Take own send copy good ∷ earlier) craft other =
     then Some (record { send = send; vrc = complement_read (read_copy air (sent_at earlier send) copy); commits = commits earlier craft })
     else last_take air earlier craft other
 
--- After so many commits of its taker a complement that isn't renewed lapses.
+-- A complement that isn't renewed lapses after this many commits of its taker.
 abbrev pub lapse : ℕ
 lapse = LAPSE
 
--- The complement in force from the last good take, once its taker has made so many commits.
+-- The complement in force from the last good take, once its taker has made `made` commits.
 abbrev pub vrc_in_force : Option Taken → ℕ → Vrc
 vrc_in_force None made = Nil
 vrc_in_force (Some taken) made = in_force taken.vrc taken.commits made

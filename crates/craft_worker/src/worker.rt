@@ -28,7 +28,7 @@ pub(crate) struct Worker {
     pub done: bool,
 }
 
-// A round of a worker ends after so many tries in a row that find another aircraft behind.
+// A round of a worker ends after this many tries in a row that find another aircraft behind.
 const TRIES: u32 = 64;
 
 impl Worker {

@@ -30,7 +30,7 @@ abbrev pub next_record : List Record → List (List ℕ) → Result Record Code
 next_record [] fields = header_of fields
 next_record (last ∷ earlier) fields = later_record (last ∷ earlier) fields
 
--- The refusal of the record after so many.
+-- The refusal of the record after the first `count` ones.
 abbrev pub refusal_after : ℕ → Code → Refusal
 refusal_after count why = record { at = count + 1; code = why }
 
@@ -38,7 +38,7 @@ refusal_after count why = record { at = count + 1; code = why }
 abbrev pub missing_after : ℕ → Code
 missing_after count = if count == 0 then code.Header else code.NoEnd
 
--- What follows where nothing is wrong with the record after so many.
+-- What follows where nothing is wrong with the record after the first `count` ones.
 abbrev pub goes_on : ℕ → Result Record Code → (Record → Result Parts Refusal) → Result Parts Refusal
 goes_on count (Err why) next = Err (refusal_after count why)
 goes_on count (Ok now) next = next now

@@ -23,7 +23,7 @@ needs_count fields place low high next = needs (count_in low high (field fields 
 abbrev pub needs_address : {Y : Type 0} → List (List ℕ) → ℕ → (ℕ → Result Y Code) → Result Y Code
 needs_address fields place next = needs (address_in (field fields place)) code.Address next
 
--- A record of so many fields.
+-- A record of `count` fields.
 abbrev pub with_fields : List (List ℕ) → ℕ → Result Record Code → Result Record Code
 with_fields fields count what = if length fields == count then what else Err code.Fields
 

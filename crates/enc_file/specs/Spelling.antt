@@ -71,7 +71,7 @@ miss_record crafts miss = codes "miss" ∷ address_at crafts miss.own ∷ addres
 abbrev pub copy_fields : CopyPlan → List (List ℕ)
 copy_fields copy = number copy.hold ∷ hex 2 copy.mask ∷ []
 
--- So many copies.
+-- The fields of the first `copies` copies.
 abbrev pub copies_fields : ℕ → CopyPlan → CopyPlan → CopyPlan → List (List ℕ)
 copies_fields copies first second third = flat_map copy_fields (take copies (first ∷ second ∷ third ∷ []))
 

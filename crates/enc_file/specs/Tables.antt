@@ -46,7 +46,7 @@ pub record AreGoing (earlier : List Record) : Type 0 where
   pub some : 1 ≤ length earlier
   pub unended : has_ended earlier ≡ false
 
--- The record after so many is refused with a code of which P holds. Memory may be wanting at any time.
+-- The record after the first `count` ones is refused with a code for which P holds. Memory may be wanting at any time.
 abbrev pub Refuses : ℕ → (Code → Type 0) → ReadError → Type 0
 Refuses count P (Refused refusal) = (why : Code) × P why × (refusal ≡ refusal_after count why)
 Refuses count P OutOfMemory = Unit {0}

@@ -61,7 +61,7 @@ copies_from fields start count =
     option_map (λ third. record { count = count; first = first; second = second; third = third })
     (copy_from fields start count 2)) (copy_from fields start count 1)) (copy_from fields start count 0)
 
--- How many copies a record of so many fields has, from a place on: none to three, with two fields each.
+-- How many copies a record of `fields` fields has, from a place on: none to three, with two fields each.
 abbrev pub copies_count : ℕ → ℕ → Option ℕ
 copies_count start fields =
     if fields == start then Some 0 else

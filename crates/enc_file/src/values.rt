@@ -104,7 +104,7 @@ fn copy_from(row: &ByteRecord, start: u8, count: u8, number: u8) -> Option<CopyP
     copy_in(field(row, place), field(row, place + 1))
 }
 
-/// So many copies that stand from a place on.
+/// The `count` copies that stand from a place on.
 pub(crate) fn copies_from(row: &ByteRecord, start: u8, count: u8) -> Option<Copies>
     requires start { start ≤ 4 }
     requires few { count ≤ 3 }
@@ -122,7 +122,7 @@ pub(crate) fn copies_from(row: &ByteRecord, start: u8, count: u8) -> Option<Copi
     })
 }
 
-/// How many copies a record of so many fields has, from a place on.
+/// How many copies a record of `fields` fields has, from a place on.
 pub(crate) fn copies_count(start: u8, fields: usize) -> Option<u8>
     requires { start ≤ 4 }
     ensures value { result ≡ copies_count start fields }

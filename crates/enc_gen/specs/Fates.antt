@@ -11,7 +11,7 @@ use Rattle.enc_gen.specs.Making.{Made, each, nothing, one, only}
 abbrev pub is_ra_at : List CraftSpec → ℕ → Bool
 is_ra_at crafts craft = option_map_or (λ (spec : CraftSpec). is_ra_kind spec.kind) (slice_get crafts craft) false
 
--- A fate of so many copies. The first may be held back or damaged.
+-- A fate of `copies` copies. The first may be held back or damaged.
 abbrev pub fate_of : ℕ → ℕ → ℕ → ℕ → CopyPlan → Fate
 fate_of sender receiver number copies first = record {
   sender = sender;

@@ -9,7 +9,7 @@ use Rattle.enc_gen.specs.Making.{Made, each}
 use Rattle.enc_gen.specs.Misses.{misses}
 use Rattle.enc_gen.specs.declared.crafts.Draft.{Draft}
 
--- The version of the format: version 1 where it has room for so many aircraft, else version 2.
+-- The version of the format: version 1 where it has room for all aircraft, else version 2.
 abbrev pub version_of : ℕ → ℕ
 version_of crafts = if nat_le crafts (most_crafts 1) then 1 else 2
 
@@ -17,8 +17,8 @@ version_of crafts = if nat_le crafts (most_crafts 1) then 1 else 2
 abbrev pub drafts_of : ℕ → ℕ → Made Draft
 drafts_of number crafts = each draft crafts (seed number)
 
--- The encounter of this number, with so many aircraft and cycles. All aircraft are drawn first, then the misses, then
--- the fates of messages.
+-- The encounter of this number, with `crafts` aircraft and `cycles` cycles. All aircraft are drawn first, then the
+-- misses, then the fates of messages.
 unfoldable pub generated : ℕ → ℕ → ℕ → Parts
 generated number crafts cycles =
     let drafts = drafts_of number crafts in

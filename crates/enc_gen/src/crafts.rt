@@ -89,7 +89,7 @@ fn draw_draft(draws: &mut Draws, craft: u8) -> Draft
     }
 }
 
-// What is drawn for so many aircraft.
+// What is drawn for `count` aircraft.
 pub(crate) fn draw_drafts(
     alloc: Global,
     draws: &mut Draws,

@@ -21,7 +21,7 @@ fn is_ra_at(crafts: &[CraftSpec], craft: u8) -> bool
     }
 }
 
-// A fate of so many copies. The first may be held back or damaged.
+// A fate of `copies` copies. The first may be held back or damaged.
 fn fate_of(sender: u8, receiver: u8, number: u16, copies: u8, first: CopyPlan) -> Fate
     ensures { result ≡ fate_of sender receiver number copies first }
 {

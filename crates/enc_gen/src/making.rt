@@ -14,7 +14,7 @@ use crate::misses::draw_misses;
 use acas_base::{Encounter, USUAL_ALTITUDE_GAINS, USUAL_RANGE_GAINS, most_crafts};
 use std::alloc::{AllocError, Global};
 
-// The version of the format: version 1 where it has room for so many aircraft, else version 2.
+// The version of the format: version 1 where it has room for all aircraft, else version 2.
 fn version_of(crafts: u8) -> u8
     ensures { result ≡ version_of crafts }
 {

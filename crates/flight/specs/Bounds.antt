@@ -30,7 +30,7 @@ pub record IsCourse (legs : List Leg) : Type 0 where
 abbrev pub begins : List Leg → ℕ → ℕ → ℕ
 begins legs index cycle = option_map_or (λ (leg : Leg). min leg.from cycle) (slice_get legs index) cycle
 
--- The place after so many seconds of a leg.
+-- The place after some seconds of a leg.
 abbrev pub flown : Place → Leg → ℕ → Place
 flown place leg seconds = record {
   x = place.x +ℤ (leg.vx *ℤ pos seconds);

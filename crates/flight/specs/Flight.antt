@@ -27,7 +27,7 @@ leg_in legs cycle = fold later None (filter (λ (leg : Leg). nat_le leg.from cyc
 unfoldable pub rate_in : (Leg → ℤ) → List Leg → ℕ → ℤ
 rate_in rate legs cycle = option_map_or rate (leg_in legs cycle) (pos 0)
 
--- How far a rate carries from cycle 1 over so many cycles: the sum of its values in each of them.
+-- How far a rate carries from cycle 1 over some cycles: the sum of its values in each of them.
 unfoldable pub carried : (Leg → ℤ) → List Leg → ℕ → ℤ
 carried rate legs zero = pos 0
 carried rate legs (suc n) = carried rate legs n +ℤ rate_in rate legs (suc n)

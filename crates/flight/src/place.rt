@@ -48,7 +48,7 @@ fn sum(a: i64, b: i64) -> i64
     a + b
 }
 
-// One coordinate after so many seconds at a rate.
+// One coordinate after some seconds at a rate.
 fn moved(from: i64, rate: i32, seconds: u16) -> i64
     requires from { unsigned_abs from ≤ 2 ^ 24 }
     requires rate { IsWithin 10000 rate }
@@ -65,7 +65,7 @@ fn is_between(low: i64, value: i64, high: i64) -> bool
 }
 
 impl Place {
-    // Where it is after so many seconds of a leg.
+    // The place after some seconds of a leg.
     pub(crate) fn flown(self, leg: &Leg, seconds: u16) -> Place
         requires place { IsReachable self }
         requires rates { AreRates leg.now }

@@ -16,7 +16,7 @@ pub record Reading : Type 0 where
   pub journal : List Entry
   pub read : List Entry
 
--- The first so many entries of a journal.
+-- The first `count` entries of a journal.
 abbrev pub read_of : List Entry → ℕ → List Entry
 read_of journal count = reverse (take count (reverse journal))
 

@@ -40,7 +40,7 @@ fn sum_of_rates(v: i64, goal: i64, delay: u8, step: i64, halves: u16) -> i64
     sum(unmoved(v, halves), amount_toward(v, goal, gained))
 }
 
-// The sum of so many half-seconds' rates without any move.
+// The sum of the rates of `halves` half-seconds without any move.
 fn unmoved(v: i64, halves: u16) -> i64
     requires rate { unsigned_abs v ≤ 2 ^ 20 }
     requires halves { halves ≤ 1200 }

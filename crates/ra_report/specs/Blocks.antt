@@ -34,7 +34,7 @@ cells_of (Commit own cycle cells ∷ earlier) craft = if own == craft then cells
 cells_of (Send own target number word ∷ earlier) craft = cells_of earlier craft
 cells_of (Take own send copy good ∷ earlier) craft = cells_of earlier craft
 
--- The aircraft, among so many, against which a commit advises.
+-- The aircraft against which a commit advises, among the first `count` ones.
 abbrev pub threats : ℕ → Cells → List ℕ
 threats count cells = filter (λ other. has_advisory (cell_at cells other)) (range_with_len 0 count)
 

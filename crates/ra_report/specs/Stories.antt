@@ -32,7 +32,7 @@ with_threat kinds.Nobody other = kinds.One other
 with_threat (kinds.One one) other = kinds.Many
 with_threat kinds.Many other = kinds.Many
 
--- The aircraft is one of the first so many.
+-- The threats are among the first `count` aircraft.
 abbrev pub IsAmong : ℕ → Threats → Type 0
 IsAmong count kinds.Nobody = Unit {0}
 IsAmong count (kinds.One other) = other < count

@@ -138,7 +138,7 @@ impl Threats {
         }
     }
 
-    /// The threats of a commit, among so many aircraft.
+    /// The threats of a commit, among the first `count` aircraft.
     pub fn of(cells: &Cells, count: u8) -> Threats
         requires count { count ≤ CRAFTS }
         requires size { length cells.now.list ≡ CRAFTS }

@@ -1,7 +1,7 @@
 -- Where two lists of lines differ.
 use Rattle.std.specs.Prelude.{◌≡◌, ◌≢◌, ℕ, List, take, slice_get}
 
--- The first so many lines are the same, and the next one differs, or stands in one list alone.
+-- The first `count` lines are the same. The next one differs, or stands in one list alone.
 pub record DifferAt (count : ℕ) (one two : List (List ℕ)) : Type 0 where
   pub front : take count one ≡ take count two
   pub here : slice_get one count ≢ slice_get two count

@@ -34,7 +34,7 @@ pub record AddedNext (air : Air) (old new : List Entry) (before after : Cursor) 
 abbrev pub IsWrongNext : Air → List Entry → List (List ℕ) → Reason → Type 0
 IsWrongNext air journal lines reason = (line : List ℕ) (rest : List (List ℕ)) → lines ≡ line ∷ rest → IsWrongLine air journal line reason
 
--- At most so many lines were taken, and the journal has their entries. It stopped there, or no line is left.
+-- At most `most` lines were taken, and the journal has their entries. It stopped at that number, or no line is left.
 pub record Replayed (air : Air) (before after : Cursor) (most : ℕ) (journal : List Entry) : Type 0 where
   pub replays : Replays air before.left journal after.left
   pub taken_is : after.taken ≡ before.taken + length journal
@@ -48,13 +48,13 @@ pub record StoppedAt (air : Air) (before : Cursor) (most : ℕ) (fault : Fault) 
   pub within : entries < most
   pub line_is : fault.line ≡ before.taken + 1 + entries
 
--- The lines are those of a complete journal of so many entries, and then those that follow them in its recording.
+-- The lines are those of a complete journal of `count` entries, and then those that follow them in its recording.
 pub record ReplayedAll (e : Parts) (lines : List (List ℕ)) (count : ℕ) (journal : List Entry) : Type 0 where
   pub replays : Replays (air_of e) lines journal (closing_lines e journal)
   pub count_is : length journal ≡ count
   pub complete : IsComplete (air_of e) journal
 
--- The lines are those of a legal journal of at most so many entries.
+-- The lines are those of a legal journal of at most `count` entries.
 pub record ReplayedFirst (e : Parts) (lines : List (List ℕ)) (count : ℕ) (journal : List Entry) : Type 0 where
   pub replays : Replays (air_of e) lines journal []
   pub within : length journal ≤ count

@@ -45,7 +45,7 @@ pub data IsWrong (lines : List (List ℕ)) : ℕ → Reason → Type 0 where
   at_opening : {line : ℕ} {reason : Reason} → IsWrongOpening lines line reason → IsWrong lines line reason
   after_opening : {e : Parts} {count line : ℕ} {rest : List (List ℕ)} {reason : Reason} → Opens e count lines rest → IsWrongAfter e count rest line reason → IsWrong lines line reason
 
--- The bytes are a recording of so many entries.
+-- The bytes are a recording of this many entries.
 pub record IsRecording (bytes : List ℕ) (entries : ℕ) : Type 0 where
   pub state : State
   pub recording : IsRecordingOf bytes state

@@ -19,7 +19,7 @@ key_fields (keys.Commit own cycle) = codes "c" ∷ decimal own ∷ decimal cycle
 key_fields (keys.Send own target) = codes "s" ∷ decimal own ∷ decimal target ∷ []
 key_fields (keys.Take own send copy) = codes "t" ∷ decimal own ∷ decimal send ∷ decimal copy ∷ []
 
--- A key of an entry in an encounter of so many aircraft.
+-- A key of an entry in an encounter of `count` aircraft.
 abbrev pub IsKey : ℕ → Key → Type 0
 IsKey count (keys.Commit own cycle) = (own < count) × IsCycle cycle
 IsKey count (keys.Send own target) = (own < count) × (target < count)

@@ -23,7 +23,7 @@ pub data IsWrongLine (air : Air) (journal : List Entry) (line : List ℕ) : Reas
   changed : (entry other : Entry) → IsEntry air.count entry → line ≡ entry_line air.count entry →
       key other ≡ key entry → IsAllowed air journal other → other ≢ entry → IsWrongLine air journal line OtherContent
 
--- The first wrong line has so many entries before it.
+-- The first wrong line has `entries` entries before it.
 pub record StopsAt (air : Air) (lines : List (List ℕ)) (entries : ℕ) (reason : Reason) : Type 0 where
   pub journal : List Entry
   pub line : List ℕ

@@ -106,7 +106,7 @@ fn entry_of(fields: &mut Fields<'_>, count: u8) -> Option<Entry>
     }
 }
 
-/// The entry that a line spells, in an encounter of so many aircraft. It has indices of these aircraft, cycles and
+/// The entry that a line spells, in an encounter of `count` aircraft. It has indices of these aircraft, cycles and
 /// numbers from 1 to 600, positions below 2^32, copies from 0 to 2, as many cells as aircraft, and ages from 1 to 600.
 /// None where no such entry has this line.
 pub(crate) fn read_entry(line: &[u8], count: u8) -> Option<Entry>

@@ -67,7 +67,7 @@ pub(crate) fn key_of(fields: &mut Fields<'_>, count: u8) -> Option<Key>
     }
 }
 
-/// The key of the entry whose line a text begins with, in an encounter of so many aircraft. None only where the text
+/// The key of the entry whose line a text begins with, in an encounter of `count` aircraft. None only where the text
 /// begins with the line of no entry. It reads no byte behind the key.
 #[inline(always)]
 pub(crate) fn read_key(text: &[u8], count: u8) -> Option<Key>

@@ -43,7 +43,7 @@ impl Reason {
 /// The verdict on a recording.
 #[derive(Clone, Copy, Debug, PartialEq, Eq)]
 pub enum Verdict {
-    /// It is the recording of a legal and complete journal with so many entries.
+    /// It is the recording of a legal and complete journal with this many entries.
     Legal(u32),
     /// The first wrong line, from 1, and why it is wrong.
     Wrong(u32, Reason),

@@ -11,7 +11,7 @@ use Rattle.enc_file.specs.Spelling.{line_of}
 abbrev pub outcome : Bool → List ℕ
 outcome good = if good then codes "g" else codes "b"
 
--- The fields of an entry, in an encounter of so many aircraft.
+-- The fields of an entry, in an encounter of `count` aircraft.
 abbrev pub entry_fields : ℕ → Entry → List (List ℕ)
 entry_fields count (Commit own cycle cells) = codes "c" ∷ decimal own ∷ decimal cycle ∷ map cell_text (take count cells.list)
 entry_fields count (Send own target number word) = codes "s" ∷ decimal own ∷ decimal target ∷ decimal number ∷ hex 14 word ∷ []

@@ -31,6 +31,6 @@ report_in e journal cycle = flat_map (report_of e journal cycle) (range_with_len
 unfoldable pub report_lines : Parts → List Entry → List (List ℕ)
 report_lines e journal = flat_map (report_in e journal) (range_with_len 1 e.cycles)
 
--- What each of so many aircraft shows after its commit of a cycle.
+-- What each of `count` aircraft shows after its commit of a cycle.
 abbrev pub AreShown : List Entry → ℕ → ℕ → List Composite → Type 0
 AreShown journal cycle count composites = (own : ℕ) → own < count → slice_index_or composites own clear ≡ shown_in journal cycle own

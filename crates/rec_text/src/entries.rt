@@ -25,7 +25,7 @@ fn outcome_letter(good: bool) -> &'static str
     if good { "g" } else { "b" }
 }
 
-// Adds the cells for so many aircraft, each after a comma.
+// Adds the cells for the first `count` aircraft, each after a comma.
 fn add_cells(line: &mut Line, cells: &Cells, count: u8)
     requires count { count ≤ CRAFTS }
     requires room { length line.old + (CELL_BYTES + 1) * CRAFTS ≤ LINE_BYTES }
@@ -76,7 +76,7 @@ fn add_take(line: &mut Line, own: u8, send: u32, copy: u8, good: bool, count: u8
 }
 
 /// Makes the line of an entry, with its line feed, in place of what a line held. The entry is one that an encounter of
-/// so many aircraft can have. The call is inlined where all entries are written: else a serial run of 16 aircraft takes
+/// `count` aircraft can have. The call is inlined where all entries are written: else a serial run of 16 aircraft takes
 /// 5 per cent more instructions.
 #[inline(always)]
 pub fn set_entry_line(line: &mut Line, entry: &EntryRef<'_>, count: u8)

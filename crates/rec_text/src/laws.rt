@@ -9,7 +9,7 @@ ghost use Rattle.air_journal.specs.Ranges.{IsEntry};
 
 use air_journal::AirState;
 
-/// A law: in an encounter of so many aircraft each entry has one whole line, and a line is the line of at most one
+/// A law: in an encounter of `count` aircraft each entry has one whole line, and a line is the line of at most one
 /// entry.
 pub fn line_law()
     ensures line { (count : ℕ) (e : Entry) → count ≤ CRAFTS → IsEntry count e → IsLine (entry_line count e) }

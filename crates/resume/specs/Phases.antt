@@ -7,19 +7,19 @@ use Rattle.air_rules.specs.Journal.{commits}
 use Rattle.air_rules.specs.Owed.{NobodyOwes, OwesNothing}
 use Rattle.air_rules.specs.Serial.{IsIdle}
 
--- Every active aircraft has made so many commits.
+-- Every active aircraft has made `made` commits.
 abbrev pub AreLevel : Air → List Entry → ℕ → Type 0
 AreLevel air journal made = (own : ℕ) → is_active air own ≡ true → commits journal own ≡ made
 
--- Some active aircraft has made so many commits.
+-- Some active aircraft has made `made` commits.
 pub record HasOne (air : Air) (journal : List Entry) (made : ℕ) : Type 0 where
   pub own : ℕ
   pub active : is_active air own ≡ true
   pub made_is : commits journal own ≡ made
 
--- After so many rounds, within the next one. The aircraft before this one have committed in it. The others haven't, and
--- they owe nothing and have nothing due. Either somebody has committed in this round, or nothing is left of the round
--- before.
+-- After `rounds` rounds, within the next one. The aircraft before this one have committed in it. The others haven't,
+-- and they owe nothing and have nothing due. Either somebody has committed in this round, or nothing is left of the
+-- round before.
 pub record BeforeCommit (air : Air) (journal : List Entry) (own rounds : ℕ) : Type 0 where
   pub committed : (other : ℕ) → is_active air other ≡ true → other < own → commits journal other ≡ rounds + 1
   pub others : (other : ℕ) → is_active air other ≡ true → own ≤ other → commits journal other ≡ rounds

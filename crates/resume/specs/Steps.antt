@@ -11,7 +11,7 @@ use Rattle.air_rules.specs.Owed.{OwesNothing}
 use Rattle.air_rules.specs.Serial.{IsIdle, IsUneven}
 use Rattle.resume.specs.Filling.{FillsNext, IsFirstSend, IsFirstTake}
 
--- This is the aircraft with the fewest commits among the active ones of the first so many aircraft. Of several such
+-- This is the aircraft with the fewest commits among the active ones of the first `count` aircraft. Of several such
 -- aircraft it is the first.
 pub record IsSlowestOf (air : Air) (journal : List Entry) (count own : ℕ) : Type 0 where
   pub active : is_active air own ≡ true
@@ -22,7 +22,7 @@ pub record IsSlowestOf (air : Air) (journal : List Entry) (count own : ℕ) : Ty
 abbrev pub NoneActive : Air → ℕ → Type 0
 NoneActive air count = (other : ℕ) → other < count → is_active air other ≡ true → ⊥
 
--- No active aircraft among the first so many has more commits than this.
+-- No active aircraft among the first `count` ones has more commits than `made`.
 abbrev pub NobodyAhead : Air → List Entry → ℕ → ℕ → Type 0
 NobodyAhead air journal made count = (other : ℕ) → other < count → is_active air other ≡ true → commits journal other ≤ made
 
@@ -32,11 +32,11 @@ pub record IsSomeAhead (air : Air) (journal : List Entry) (made : ℕ) : Type 0 
   pub active : is_active air own ≡ true
   pub more : made < commits journal own
 
--- None of the first so many aircraft owes a message.
+-- None of the first `count` aircraft owes a message.
 abbrev pub NoneOwes : Air → List Entry → ℕ → Type 0
 NoneOwes air journal count = (other : ℕ) → other < count → OwesNothing air journal other
 
--- Nothing is due to the active ones of the first so many aircraft.
+-- Nothing is due to the active ones of the first `count` aircraft.
 abbrev pub NoneIsDue : Air → List Entry → ℕ → Type 0
 NoneIsDue air journal count = (other : ℕ) → other < count → is_active air other ≡ true → NothingDue air journal other
 
@@ -79,7 +79,7 @@ pub record Stepped (air : Air) (old new : List Entry) : Type 0 where
   pub next : FillsNext air old entry
   pub new_is : new ≡ entry ∷ old
 
--- The slowest of the first so many aircraft; none where none of them is active.
+-- The slowest active one of the first `count` aircraft; none where none of them is active.
 abbrev pub SlowestSoFar : Air → List Entry → ℕ → Option ℕ → Type 0
 SlowestSoFar air journal count best = MatchOption best (NoneActive air count) (IsSlowestOf air journal count)
 

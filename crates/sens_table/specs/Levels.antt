@@ -4,7 +4,7 @@ use Rattle.acas_base.specs.declared.level.Level.{Level}
 use Rattle.acas_base.specs.declared.level.Row.{Row}
 use Rattle.acas_base.specs.Ranges.{IsBetween}
 
--- So many feet, in 1/1024 ft.
+-- A number of feet, in 1/1024 ft.
 abbrev pub feet : ℕ → ℤ
 feet n = pos (n * 1024)
 

@@ -59,7 +59,7 @@ fn level(sl: u8, ta: Row, ra: Option<Row>, alim: u16) -> Level
     }
 }
 
-// So many feet, in 1/1024 ft.
+// A number of feet, in 1/1024 ft.
 fn in_units(feet: u16) -> i64
     ensures { result ≡ Levels.feet feet }
 {

@@ -6,6 +6,6 @@ use Rattle.std.specs.List.{range_with_len}
 abbrev pub number_at : ℕ → ℕ → ℕ
 number_at first at = (first + at) % 2 ^ 32
 
--- So many numbers, from the first one on.
+-- `count` numbers, from the first one on.
 abbrev pub numbers : ℕ → ℕ → List ℕ
 numbers first count = map (number_at first) (range_with_len 0 count)

@@ -37,8 +37,9 @@ fn sinking(alloc: Global) -> Result<Encounter, Fail>
     )
 }
 
-// The first one descends from cycle 26 on, and turns to a climb in cycle 28, as the other one does. That one has taken
-// the messages of the descent by then, but only behind its commit of cycle 27: by that commit it had taken none.
+// The first one descends from cycle 26 on, and turns to a climb in cycle 28, when the other one does so, too. The other
+// one has taken the messages of the descent by then, but only after its commit of cycle 27. By that commit it had taken
+// none.
 const WATCHED: &[u8] = b"watch,1\nw,400A01,400B02,U,62,68,n,64\n";
 
 fn is_told(alloc: Global, state: &AirState, want: &[u8]) -> Result<bool, Fail> {

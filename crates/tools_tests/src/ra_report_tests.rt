@@ -3,7 +3,7 @@ use acas_base::Address;
 use ra_report::{RaBlock, decode, encode};
 use std::test::Fail;
 
-// A climb and its reversal against 400A01, of a crossing aircraft, with "do not pass above" in force.
+// A climb and its reversal against 400A01. The reversal crosses, and "do not pass above" is in force.
 fn reversal() -> Result<RaBlock, Fail> {
     Ok(RaBlock {
         corrective: true,
@@ -27,7 +27,7 @@ fn writes_and_reads_words(rt: HostRuntime) -> Result<(), Fail> {
     Ok(())
 }
 
-// The lowest bit is none of a field, and no advisory is against nobody.
+// The lowest bit belongs to no field, and each advisory is against somebody.
 #[test]
 fn refuses_other_words(rt: HostRuntime) -> Result<(), Fail> {
     for word in [

@@ -12,7 +12,7 @@ const NONE: Seps = Seps {
     down: [0; 6],
 };
 
-// From a positive advisory on, up gives ALIM.
+// Up gives ALIM with Positive and with Increase.
 const UP_SERVES: Seps = Seps {
     up: [0, 0, 0, 0, ALIM, ALIM],
     down: [0; 6],

@@ -11,7 +11,7 @@ use std::alloc::Global;
 use std::test::Fail;
 use test_encounters::{aircraft, encounter, leg};
 
-// Three cycles of two aircraft, of which the first one sinks by a foot in a minute.
+// Three cycles of two aircraft. The first one sinks by a foot in a minute.
 fn sinking(alloc: Global) -> Result<Encounter, Fail>
     ensures { IfOk result IsInside }
 {
@@ -31,7 +31,7 @@ fn altitude(state: &AirState, craft: u8, cycle: u16) -> Option<i64> {
     Some(flown(state, craft, cycle))
 }
 
-// Whether the response is written so, and where these writes of 100 bytes fail a front of it.
+// Whether the response is written so. Where these writes of 100 bytes fail, a front of it is written.
 fn is_written(alloc: Global, state: &AirState, fails: &[u64], want: &[u8]) -> Result<bool, Fail> {
     let room = Vec::with_capacity(alloc, 100)?;
     let mut sink = MemSink::new(room, 100, fails.to_vec(alloc)?);
@@ -67,7 +67,7 @@ fn flies_as_planned_where_nothing_is_advised(rt: HostRuntime) -> Result<(), Fail
 
 // ---- with advice
 
-// Two aircraft that fly towards each other, the second one at this altitude. Where it turns, it climbs in the end.
+// Two aircraft that fly towards each other. The second one is at this altitude. Where it turns, it climbs in the end.
 fn meeting(alloc: Global, alt: i32, turns: bool) -> Result<Encounter, Fail>
     ensures { IfOk result IsInside }
 {
@@ -87,7 +87,7 @@ fn meeting(alloc: Global, alt: i32, turns: bool) -> Result<Encounter, Fail>
 // An aircraft, a cycle, and its altitude there.
 type Altitude = (u8, u16, i64);
 
-// At different altitudes the first one descends and the second one climbs from cycle 26 on: after five seconds the rate
+// At different altitudes the first one descends and the second one climbs from cycle 26 on. After five seconds the rate
 // grows by 4 ft/s in each half-second, up to 25 ft/s.
 const APART: [Altitude; 8] = [
     (0, 31, 71_680_000),
@@ -100,10 +100,10 @@ const APART: [Altitude; 8] = [
     (1, 40, 72_687_616),
 ];
 
-// At one altitude the first one descends for good from cycle 28 on, and the second one, which turned three times,
-// climbs from cycle 29 on: the rate grows after two seconds and a half, by 5.5 ft/s in each half-second. In cycle 33
-// the strength weakens, and the rate stays; from cycle 35 on it goes back at once, by 4 ft/s in each half-second, to 0
-// or to the 100 ft/s that were planned.
+// At one altitude the first one descends for good from cycle 28 on. The second one, which turned three times, climbs
+// from cycle 29 on. The rate grows after two seconds and a half, by 5.5 ft/s in each half-second. In cycle 33 the
+// strength weakens, and the rate stays. From cycle 35 on it goes back at once, by 4 ft/s in each half-second, to 0 or
+// to the planned 100 ft/s.
 const TURNED: [Altitude; 10] = [
     (0, 30, 71_680_000),
     (0, 31, 71_674_368),
@@ -117,7 +117,7 @@ const TURNED: [Altitude; 10] = [
     (1, 40, 72_175_616),
 ];
 
-// The place of the first altitude that is another one.
+// The place of the first row with another altitude.
 fn first_elsewhere(state: &AirState, rows: &[Altitude]) -> Option<usize> {
     for place in 0..rows.len() {
         let (craft, cycle, there) = rows[place];

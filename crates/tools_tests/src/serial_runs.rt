@@ -1,4 +1,4 @@
-// What the tests of several tools begin with.
+// What the tests of several tools share.
 ghost use Rattle.flight.specs.Inside.{IsInside};
 
 use acas_base::Encounter;

@@ -24,7 +24,7 @@ fn take_this(state: &mut AirState, own: u8, send: u32, copy: u8) -> Option<TookT
     Some(state.take_this(own, send, copy))
 }
 
-// Makes the call, and tells whether it answers so.
+// Makes the call. Gives whether it has this answer.
 fn answers(state: &mut AirState, step: Step) -> bool {
     match step {
         Step::Commits(own, answer) => commit(state, own) == Some(answer),
@@ -36,7 +36,7 @@ fn answers(state: &mut AirState, step: Step) -> bool {
     }
 }
 
-// Nothing is owed or due at the start, and who has committed waits for the other one.
+// At the start nothing is owed or due. An aircraft that has committed waits for the other one.
 const AT_THE_START: [Step; 5] = [
     Step::Sends(0, Sent::Nothing),
     Step::Takes(0, Took::Nothing),
@@ -80,7 +80,7 @@ const TO_THE_END: [Step; 30] = [
     Step::Commits(0, Commit::Due(7, 0)),
     Step::Takes(0, Took::Done(8, true)),
     Step::Commits(0, Commit::Done(9)),
-    // That all cycles are over comes before what is owed and due.
+    // "All cycles are over" comes before what is owed and due.
     Step::Commits(0, Commit::Over),
     Step::Sends(0, Sent::Done(10)),
     Step::Takes(1, Took::Done(11, true)),
@@ -92,7 +92,7 @@ const TO_THE_END: [Step; 30] = [
     Step::Takes(0, Took::Nothing),
 ];
 
-// The place of the first step that is answered otherwise, or before which the journal is complete with fewer entries.
+// The place of the first step that has another answer, or before which the journal is complete with fewer entries.
 fn first_other(state: &mut AirState, steps: &[Step], entries: u32) -> Option<usize> {
     for place in 0..steps.len() {
         if state.complete() && state.count() < entries {
@@ -124,8 +124,8 @@ fn whole_count(state: &AirState) -> Option<u32> {
     }
 }
 
-// The place of the first step that the empty journal of an encounter answers otherwise, as above, and how many entries
-// it has then where it is complete.
+// The place of the first step that has another answer on the empty journal of an encounter, as above. Also how many
+// entries the journal has then, where it is complete.
 fn first_other_in(
     alloc: Global,
     enc: &Encounter,
@@ -137,7 +137,7 @@ fn first_other_in(
     Ok((other, whole_count(&state)))
 }
 
-// Whether a journal without entries answers the first calls so, and then has the cells of one cycle.
+// Whether a journal without entries gives these answers to the first calls, and then has the cells of one cycle.
 fn answers_first(state: &mut AirState) -> bool {
     crosses_threads(state)
         && is_empty(state)

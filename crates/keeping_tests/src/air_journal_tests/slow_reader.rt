@@ -1,5 +1,5 @@
-// Expected values: those of a slow reader of the same journal, written from docs/RULES.md, which looks for each thing
-// among all entries.
+// Expected values: a slow reader of the same journal gives them. It is written from docs/RULES.md, and looks for each
+// thing among all entries.
 use super::{goes_on, meeting};
 use acas_base::{CRAFTS, Cell, CopyPlan, Entry, Fate, Vrc};
 use air_journal::{AirState, Commit, Waiting};
@@ -42,7 +42,7 @@ fn count_in(state: &AirState, from: u32, end: u32, search: Search) -> u16 {
     count
 }
 
-// The position of the last one.
+// The position of the last such entry.
 fn last_at(state: &AirState, search: Search) -> Option<u32> {
     let mut last = None;
     for at in 0..state.count() {
@@ -75,7 +75,7 @@ fn last_cells(state: &AirState, own: u8) -> [Cell; CRAFTS] {
 
 // ---- messages
 
-// The complement that a word sets, with the bits of a mask flipped; none where it is no message then.
+// The complement that a word sets, with the bits of a mask flipped; none where it is then no message.
 fn read(word: u64, mask: u8) -> Option<Vrc> {
     Some(decode(flip(word, mask))?.vrc)
 }
@@ -93,7 +93,7 @@ fn has_sent(state: &AirState, own: u8, other: u8) -> bool {
     count_in(state, from, state.count(), Search::SendsFrom(own, other)) > 0
 }
 
-// The plan of a copy, where its message has so many.
+// The plan of a copy, where its message has that copy.
 fn plan_of(fate: &Fate, copy: u8) -> Option<CopyPlan> {
     if copy >= fate.copies {
         return None;
@@ -134,7 +134,7 @@ fn waits(state: &AirState, sender: u8, receiver: u8, at: u32, copy: u8) -> Optio
     copy_at(state, sender, receiver, at, copy)
 }
 
-// Whether the copies that the state tells are those that wait, in order of position and copy.
+// Whether the copies that the state gives are those that wait, in order of position and copy.
 fn is_queue(state: &AirState, sender: u8, receiver: u8) -> bool {
     let count = state.enc().crafts().len();
     if usize::from(sender) >= count || usize::from(receiver) >= count {
@@ -173,7 +173,7 @@ fn first_due(state: &AirState, sender: u8, receiver: u8) -> Option<Waiting> {
 
 // ---- complements
 
-// The complement of the last good take of another aircraft's message, and how many commits stand before this take.
+// The complement of the last good take of another aircraft's message, and how many commits stand before that take.
 fn complement(state: &AirState, own: u8, other: u8) -> Option<(Vrc, u16)> {
     let mut last = None;
     for at in 0..state.count() {
@@ -236,7 +236,7 @@ fn hindrance(state: &AirState, own: u8, other: u8) -> Option<Commit> {
 
 // ---- the comparison
 
-// Whether the state tells the same of an aircraft against another one.
+// Whether the state gives the same of an aircraft against another one.
 fn is_told(state: &AirState, own: u8, other: u8) -> bool {
     if !is_active(state.enc(), own) {
         return false;
@@ -262,7 +262,7 @@ fn is_forbidden(state: &AirState, bound: Vrc) -> bool {
     }
 }
 
-// Adds an entry, and tells whether the state then tells the same as the reader, of both aircraft, and the second one
+// Adds an entry. Gives whether the state and the reader then give the same of both aircraft, and the second aircraft
 // committed in no sense that was forbidden to it.
 fn agrees_after_one_more(state: &mut AirState) -> bool {
     let bound = in_force(state, 1, 0);
@@ -279,7 +279,7 @@ fn first_other(state: &mut AirState, entries: u32) -> Option<u32> {
     None
 }
 
-// Whether they agree after each of so many entries, which are all.
+// Whether they agree after each of this many entries, and the journal has no more.
 fn agrees_to_the_end(state: &mut AirState, entries: u32) -> bool {
     first_other(state, entries).is_none() && state.complete() && !goes_on(state)
 }

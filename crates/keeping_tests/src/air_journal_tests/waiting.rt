@@ -1,4 +1,4 @@
-// Expected values: by hand from "Messages" in docs/RULES.md. They are of the copies that wait.
+// Expected values: by hand from "Messages" in docs/RULES.md, for copies that wait.
 use super::{goes_on_for, meeting};
 use acas_base::{CopyPlan, Entry, Vrc};
 use air_journal::{AirState, Waiting};
@@ -6,7 +6,7 @@ use std::alloc::Global;
 use std::test::Fail;
 use test_encounters::{PLAIN, fate};
 
-// Whether after so many entries the last one takes the second copy, and the first one waits, alone.
+// Whether after this many entries the last one takes the second copy, and only the first copy waits.
 fn is_held(state: &mut AirState, entries: u32) -> bool {
     if !goes_on_for(state, entries) {
         return false;
@@ -31,7 +31,7 @@ fn is_held(state: &mut AirState, entries: u32) -> bool {
         && state.waiting(1, 0).is_empty()
 }
 
-// Of the first message the one copy is taken at once, and the other one is held for two commits.
+// The first message has two copies. One is taken at once, and the other one is held for two commits.
 fn holds(alloc: Global) -> Result<bool, Fail> {
     let held = fate(1, 2, CopyPlan { hold: 2, mask: 0 }, PLAIN);
     let mut state = meeting(alloc, None, &[], &[held])?;

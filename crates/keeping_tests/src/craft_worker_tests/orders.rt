@@ -11,9 +11,9 @@ use std::test::Fail;
 // In which order the entries come.
 #[derive(Clone, Copy)]
 enum Schedule {
-    /// By rounds, as in the serial order; but of the due copies the last one is taken first.
+    /// By rounds, as in the serial order. But of the due copies the last one is taken first.
     LastFirst,
-    /// This aircraft does all that it may, and the others go on where it has to wait.
+    /// This aircraft does all that it may. The others go on where it has to wait.
     Ahead(u8),
     /// This aircraft sends where nothing else is left to do.
     Late(u8),
@@ -33,7 +33,7 @@ fn takes(state: &mut AirState, own: u8) -> bool {
     matches!(take(state, own), Some(Took::Done(_, _)))
 }
 
-// The one that was sent last, of the due copies of a queue and another one.
+// The one that was sent later, of the due copies of a queue and another one.
 fn later_due(best: Option<Waiting>, queue: &[Waiting], made: u16) -> Option<Waiting> {
     let mut last = best;
     for waiting in queue {
@@ -91,7 +91,7 @@ fn acts(state: &mut AirState, own: u8, act: Act) -> bool {
     }
 }
 
-// The first aircraft that may do so does it, where one may.
+// The first aircraft that may do this does it.
 fn some_acts(state: &mut AirState, act: Act) -> bool {
     for own in 0..state.enc().crafts().len() as u8 {
         if acts(state, own, act) {
@@ -101,7 +101,7 @@ fn some_acts(state: &mut AirState, act: Act) -> bool {
     false
 }
 
-// The same of sends, but one aircraft comes last.
+// The same with sends. One aircraft comes last.
 fn some_sends(state: &mut AirState, late: u8) -> bool {
     for own in 0..state.enc().crafts().len() as u8 {
         if own != late && sends(state, own) {
@@ -111,7 +111,7 @@ fn some_sends(state: &mut AirState, late: u8) -> bool {
     sends(state, late)
 }
 
-// The last aircraft to which a copy is due takes the last one of these.
+// The last aircraft with a due copy takes the last one of these.
 fn some_takes_last(state: &mut AirState) -> bool {
     let count = state.enc().crafts().len() as u8;
     for passed in 0..count {
@@ -159,7 +159,7 @@ fn goes_on(state: &mut AirState, schedule: Schedule) -> bool {
     }
 }
 
-// The journal of a schedule, to its end or to so many entries.
+// The journal of a schedule, to its end or to `most` entries.
 fn played(alloc: Global, enc: &Encounter, schedule: Schedule, most: u32) -> Result<AirState, Fail> {
     let mut state = empty_journal(alloc, enc)?;
     for _entry in 0..most {
@@ -189,7 +189,7 @@ fn begins(part: &AirState, whole: &AirState, count: u32) -> bool {
     true
 }
 
-// The journal of a schedule that breaks off after so many entries, completed.
+// The journal of a schedule that breaks off after some entries, completed.
 fn completed(
     alloc: Global,
     enc: &Encounter,
@@ -236,7 +236,7 @@ fn is_completed_from_each(
     Ok(true)
 }
 
-// Whether a schedule's journal has so many entries, and is completed from three places of its middle.
+// Whether a schedule's journal has this many entries, and is completed from three places of its middle.
 fn is_whole(
     alloc: Global,
     whole: &AirState,
@@ -254,7 +254,7 @@ fn ends(alloc: Global, enc: &Encounter, schedule: Schedule, entries: u32) -> Res
     is_whole(alloc, &whole, schedule, entries)
 }
 
-// The place of the first schedule that doesn't.
+// The place of the first schedule whose journal isn't whole.
 fn first_wrong(alloc: Global, enc: &Encounter, entries: u32) -> Result<Option<usize>, Fail> {
     for place in 0..SCHEDULES.len() {
         if !ends(alloc, enc, SCHEDULES[place], entries)? {
@@ -289,7 +289,7 @@ fn encounter_of(alloc: Global, which: Flown) -> Result<Encounter, Fail> {
     }
 }
 
-// The first encounter with a schedule that doesn't, and its schedule's place.
+// The first encounter with a schedule whose journal isn't whole, and the place of that schedule.
 fn first_wrong_of(alloc: Global, all: &[(Flown, u32)]) -> Result<Option<(usize, usize)>, Fail> {
     for place in 0..all.len() {
         let (which, entries) = all[place];
@@ -300,9 +300,9 @@ fn first_wrong_of(alloc: Global, all: &[(Flown, u32)]) -> Result<Option<(usize, 
     Ok(None)
 }
 
-// When an advisory comes and goes depends on no message, and after each commit with an advisory, and after the first
-// one without it, one message is sent. So in any order there are equally many sends, and takes too, since here all
-// copies come due.
+// No message decides when an advisory comes and goes. One message is sent after each commit with an advisory, and one
+// after the first commit without it. So in any order there are equally many sends. There are equally many takes, too,
+// since here all copies come due.
 #[test]
 fn ends_in_each_order(rt: HostRuntime) -> Result<(), Fail> {
     assert_eq!(rt; first_wrong_of(rt.alloc(), &ENTRIES)?, None);
@@ -312,8 +312,8 @@ fn ends_in_each_order(rt: HostRuntime) -> Result<(), Fail> {
 type Line = (Schedule, u16, Sense, Sense);
 
 // A schedule, a cycle, and the senses of both aircraft in it. Both advisories start in cycle 26, and go up where no
-// message was taken. Whoever has taken one starts in the other sense, and the aircraft of higher address turns as soon
-// as it has.
+// message was taken. An aircraft that has taken a message starts in the other sense. The aircraft of higher address
+// turns as soon as it has taken one.
 const SENSES: [Line; 8] = [
     (Schedule::LastFirst, 26, Sense::Up, Sense::Up),
     (Schedule::LastFirst, 27, Sense::Up, Sense::Down),
@@ -337,7 +337,7 @@ fn is_so(alloc: Global, enc: &Encounter, line: Line) -> Result<bool, Fail> {
     Ok(has_senses(&state, cycle, low, high))
 }
 
-// The place of the first line of which this doesn't hold.
+// The place of the first line that doesn't hold.
 fn first_otherwise(alloc: Global, enc: &Encounter, lines: &[Line]) -> Result<Option<usize>, Fail> {
     for place in 0..lines.len() {
         if !is_so(alloc, enc, lines[place])? {

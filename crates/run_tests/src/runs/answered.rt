@@ -1,4 +1,4 @@
-// What words answer, to the byte. Expected values: by hand from "Refusals" and "Encounters made from a number" in
+// What words write, to the byte. Expected values: by hand from "Refusals" and "Encounters made from a number" in
 // docs/FORMATS.md.
 use super::{APART, LEVEL, ONE_CYCLE, ONE_CYCLE_RECORDING, TRAFFIC, answers, joined, run};
 use acas_top::Status;
@@ -40,7 +40,7 @@ const REFUSED: [Refusal; 12] = [
     (TRAFFIC, b"", b"refused,7,11\n"),
 ];
 
-// The place of the first text that a word refuses otherwise.
+// The place of the first text that a word refuses with another line.
 fn first_other<R: Threads + Wait + Sync + Alloc<A = Global>>(
     rt: &R,
     word: &str,

@@ -1,4 +1,4 @@
-// Reads and writes that fail, inputs that are too long, and words that are none. Expected values: the causes in
+// Reads and writes that fail, inputs that are too long, and words that are no command. Expected values: the causes in
 // README.md, and the limits in docs/FORMATS.md.
 use super::{
     APART, LEVEL, NoPause, ONE_CYCLE, ONE_CYCLE_RECORDING, Outcome, answers, joined, lines_between,
@@ -22,8 +22,9 @@ fn failing<R: Threads + Wait + Sync + Alloc<A = Global>>(
     run_with(rt, line, input, reads, writes, &NoPause)
 }
 
-// The first reads of a run fail in turn, and then the first writes: nothing was written, or so much of the text as the
-// writes before. What a run in threads writes first is the same, whatever the order is.
+// The first reads of a run fail in turn, and then the first writes. Where a read fails, nothing was written. Where a
+// write fails, what the writes before it wrote was written. What a run in threads writes first is the same in any
+// order.
 fn tells_each_fault<R: Threads + Wait + Sync + Alloc<A = Global>>(
     rt: &R,
     line: &str,
@@ -93,7 +94,7 @@ fn input_of<R: Threads + Wait + Sync + Alloc<A = Global>>(
     }
 }
 
-// The place of the first word that tells a fault otherwise.
+// The place of the first word that answers a fault otherwise.
 fn first_other<R: Threads + Wait + Sync + Alloc<A = Global>>(
     rt: &R,
     words: &[Failing],
@@ -114,7 +115,7 @@ fn tells_faults(rt: HostRuntime) -> Result<(), Fail> {
     Ok(())
 }
 
-// Words that say no command, by their number, by a word, or by a number out of its range.
+// Words that are no command, by their number, by a word, or by a number out of its range.
 const NO_COMMANDS: [&str; 22] = [
     "",
     "serial now",
@@ -140,7 +141,7 @@ const NO_COMMANDS: [&str; 22] = [
     "--versions",
 ];
 
-// The place of the first line that is answered otherwise than by a word on the usage.
+// The place of the first line whose status isn't Usage.
 fn first_command<R: Threads + Wait + Sync + Alloc<A = Global>>(
     rt: &R,
     lines: &[&str],
@@ -154,7 +155,7 @@ fn first_command<R: Threads + Wait + Sync + Alloc<A = Global>>(
     Ok(None)
 }
 
-// What a word is answered with where nobody may wait.
+// The status of the words of a line where nobody may wait.
 fn plain_status<R: Threads + Sync + Alloc<A = Global>>(
     rt: &R,
     word: &str,
@@ -170,7 +171,7 @@ fn plain_status<R: Threads + Sync + Alloc<A = Global>>(
 #[test]
 fn reads_nothing_without_a_command(rt: HostRuntime) -> Result<(), Fail> {
     assert_eq!(rt; first_command(&rt, &NO_COMMANDS)?, None);
-    // Words that run threads are none of those that wait for nobody.
+    // Words that run threads aren't among those that wait for nobody.
     assert_eq!(rt; plain_status(&rt, "play")?, Status::Usage);
     assert_eq!(rt; plain_status(&rt, "sum")?, Status::Usage);
     Ok(())
@@ -196,7 +197,7 @@ fn reads_texts_up_to_the_limit(rt: HostRuntime) -> Result<(), Fail> {
     Ok(())
 }
 
-// Words that read a recording, and what they answer where empty lines follow a whole one of 102 lines, whose report
+// Words that read a recording, and what they write where empty lines follow a whole recording of 102 lines. Its report
 // begins in line 97.
 const PADDED: [(&str, &[u8]); 3] = [
     ("audit", b"wrong,103,6\n"),
@@ -204,7 +205,7 @@ const PADDED: [(&str, &[u8]); 3] = [
     ("resume", b"wrong,97,6\n"),
 ];
 
-// A recording, and as many empty lines behind it as there may be.
+// A recording, and behind it the most empty lines that the input may have.
 fn padded<R: Threads + Wait + Sync + Alloc<A = Global>>(rt: &R) -> Result<Vec<u8>, AllocError> {
     let mut text = recording(rt, APART, b"end\n")?;
     text.resize(67_108_864, b'\n')?;

@@ -1,5 +1,5 @@
-// Recordings with a fault each: every reason at its first and its last possible place, and each two neighbouring steps
-// of the judge. Expected values: by hand from "Verdicts" in docs/FORMATS.md.
+// Recordings with one fault each: every reason at its first and its last possible place, and each two neighbouring
+// steps of the judge. Expected values: by hand from "Verdicts" in docs/FORMATS.md.
 use super::{APART, answers, joined, lines_between, recording, with_line};
 use acas_top::Status;
 use std::alloc::{AllocError, Global};
@@ -207,7 +207,7 @@ fn tells_nothing_of_wrong_recordings(rt: HostRuntime) -> Result<(), Fail> {
     Ok(())
 }
 
-// Two faults: the one of the earlier step is told, whichever line it is in.
+// Two faults. The one of the earlier step is reported, whichever line it is in.
 type Pair = (Fault, u64, &'static [u8]);
 
 const PAIRS: [Pair; 11] = [
@@ -232,7 +232,7 @@ const PAIRS: [Pair; 11] = [
     ((98, b"r,13,400A01,TRAFFIC,-\n", b"wrong,98,6\n"), 102, b""),
 ];
 
-// The place of the first pair of which another step is told.
+// The place of the first pair with another verdict.
 fn first_other_pair<R: Threads + Wait + Sync + Alloc<A = Global>>(
     rt: &R,
     pairs: &[Pair],
@@ -270,8 +270,8 @@ fn tells_the_step_that_fails_first(rt: HostRuntime) -> Result<(), Fail> {
     Ok(())
 }
 
-// The line and the reason that a recording is wrong for, of which so many whole lines stand, and a part of the next or
-// not.
+// The line and the reason with which a cut recording is wrong. `lines` whole lines stand, and perhaps a part of the
+// next one.
 fn fault_of_cut(lines: u64, is_within: bool) -> (u64, u64) {
     if lines >= 96 {
         (lines.saturating_add(1), 6)

@@ -1,4 +1,4 @@
-// What the program says of itself. Expected values: "Help and version" in docs/FORMATS.md.
+// What the program writes about itself. Expected values: "Help and version" in docs/FORMATS.md.
 use super::{NoPause, ONE_CYCLE, Outcome, run_with};
 use acas_top::Status;
 use std::alloc::{AllocError, Global};
@@ -53,7 +53,7 @@ fn first_unnamed(text: &[u8], words: &[&'static str]) -> Option<&'static str> {
     None
 }
 
-// Whether a text has so many lines at most, each ended, and each of so many bytes at most before its end.
+// Whether a text has at most `most` lines, each ended, and each with at most `width` bytes before its end.
 fn is_short(text: &[u8], most: u64, width: usize) -> bool {
     let mut count = 0u64;
     for line in text.split(|byte| *byte == b'\n') {

@@ -1,5 +1,5 @@
-// Encounters played in one thread. Expected values: those of the worked encounters that were given with the rules
-// before there was a program, and by hand from docs/RULES.md.
+// Encounters played in one thread. Expected values: the worked encounters that were given with the rules before there
+// was a program, and by hand from docs/RULES.md.
 use super::{
     APART, BETWEEN, HELD_LONG, LAPSING, LEVEL, LEVEL_2, LOW, TRAFFIC, TRANSPONDER, answers,
     entry_in, lines_between, lines_with, recording,
@@ -138,7 +138,7 @@ fn is_played<R: Threads + Wait + Sync + Alloc<A = Global>>(
     )
 }
 
-// The place of the first row that is played otherwise.
+// The place of the first row with another recording.
 fn first_other<R: Threads + Wait + Sync + Alloc<A = Global>>(
     rt: &R,
     rows: &[Row],
@@ -193,7 +193,7 @@ const TOLD: [Entry; 18] = [
     ),
 ];
 
-// The place of the first entry that a recording hasn't there.
+// The place of the first entry that isn't in the recording at its position.
 fn first_missing<R: Threads + Wait + Sync + Alloc<A = Global>>(
     rt: &R,
     entries: &[Entry],
@@ -256,8 +256,8 @@ fn sixteen_aircraft(alloc: Global) -> Result<Vec<u8>, AllocError> {
     Ok(text)
 }
 
-// Whether their recording has so many commits, is legal, and is resumed from the line behind which its report comes.
-// Nothing is watched, since nobody advises.
+// Whether their recording has this many commits, is legal, and is resumed from the line before its report. Nothing is
+// watched, since nobody advises.
 fn is_read<R: Threads + Wait + Sync + Alloc<A = Global>>(
     rt: &R,
     text: &[u8],

@@ -21,8 +21,8 @@ fn cut(alloc: Global, recording: &[u8], lines: u64, bytes: usize) -> Result<Vec<
     Ok(text)
 }
 
-// What is wrong with a recording whose `journal` is this line, with so many entries, cut behind so many whole lines or
-// within the next one: the line and the reason, or nothing.
+// What is wrong with a cut recording: the line and the reason, or nothing. Its `journal` is this line and says
+// `entries` entries. It is cut behind `lines` whole lines, or within the next one.
 fn wrong_at(journal: u64, entries: u64, lines: u64, within: bool) -> Option<(u64, u8)> {
     let last = journal.saturating_add(entries);
     if lines > last || (lines == last && within) {
@@ -31,14 +31,14 @@ fn wrong_at(journal: u64, entries: u64, lines: u64, within: bool) -> Option<(u64
     if lines >= journal && !within {
         return None;
     }
-    // The unfinished line isn't `end`, so that the line behind it is missing.
+    // The unfinished line isn't `end`, so the line behind it is missing.
     if lines > 0 && lines.saturating_add(1) < journal && within {
         return Some((lines.saturating_add(2), 2));
     }
     Some((lines.saturating_add(1), 2))
 }
 
-// What a recording, cut so, is answered with.
+// What a recording with this cut is answered with.
 fn answer(
     alloc: Global,
     recording: &[u8],
@@ -53,7 +53,7 @@ fn answer(
     }
 }
 
-// Whether a recording that was cut behind so many lines, or within the next one, is answered so.
+// Whether a recording that was cut behind `lines` lines, or within the next one, has this answer.
 fn is_answered<R: Threads + Wait + Sync + Alloc<A = Global>>(
     rt: &R,
     whole: &[u8],
@@ -68,7 +68,7 @@ fn is_answered<R: Threads + Wait + Sync + Alloc<A = Global>>(
     Ok(resumed.sink.bytes() == want.as_slice())
 }
 
-// The first cut that is answered otherwise: behind so many lines, or within the next one.
+// The first cut with another answer: behind some lines, or within the next one.
 fn first_other<R: Threads + Wait + Sync + Alloc<A = Global>>(
     rt: &R,
     whole: &[u8],

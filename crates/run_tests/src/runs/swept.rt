@@ -1,10 +1,10 @@
-// Sweeps over the encounters of many numbers. Expected values: by hand from "Sweeps" in docs/FORMATS.md; the sums of
-// the 2,048 numbers are those that two programs agree on, which were written from the rules independently.
+// Sweeps over the encounters of many numbers. Expected values: by hand from "Sweeps" in docs/FORMATS.md. On the sums of
+// the 2,048 numbers two programs agree, which were written from the rules independently.
 use super::{lines_with, run};
 use acas_top::Status;
 use std::test::Fail;
 
-// The line, how its text begins and ends, and how many numbers it tells of. 0 comes behind the greatest number.
+// The line of words, how its text begins and ends, and how many numbers it has. After the greatest number comes 0.
 const SWEPT: [(&str, &[u8], &[u8], u64); 4] = [
     (
         "sweep 4294967295 2 1 1",

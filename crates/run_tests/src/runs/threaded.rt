@@ -10,7 +10,7 @@ use std::sync::atomic::{AtomicU64, Ordering};
 use std::test::Fail;
 use std::thread::{Threads, yield_now};
 
-// Whether what `play` writes is judged legal, whatever the order is, and has so many commits.
+// Whether `play` writes a legal recording with this many commits, whatever the order is.
 fn is_legal<R: Threads + Wait + Sync + Alloc<A = Global>>(
     rt: &R,
     text: &[u8],
@@ -21,7 +21,7 @@ fn is_legal<R: Threads + Wait + Sync + Alloc<A = Global>>(
     Ok(judged.status == Status::Done && lines_with(played.sink.bytes(), b"c,") == commits)
 }
 
-// What `sum` writes of an encounter with these counts, always.
+// What `sum` always writes of an encounter with these counts.
 fn sums_of<R: Threads + Wait + Sync + Alloc<A = Global>>(
     rt: &R,
     row: &Row,
@@ -32,7 +32,7 @@ fn sums_of<R: Threads + Wait + Sync + Alloc<A = Global>>(
     format!(in rt.alloc(); "play,{commits}\nserial,{commits},{sends},{takes},{lines}\n")
 }
 
-// The place of the first row that is played or summed otherwise.
+// The place of the first row that isn't right.
 fn first_other<R: Threads + Wait + Sync + Alloc<A = Global>>(
     rt: &R,
     rows: &[Row],
@@ -65,7 +65,7 @@ struct Meeting {
     cycles: u64,
     // The cycle that each was last called for.
     called: Vec<AtomicU64>,
-    // Whether one has given up, or was called for another cycle than the last one or the next one.
+    // Whether one has given up, or was called for a cycle that is neither the last one nor the next one.
     failed: AtomicU64,
 }
 
@@ -123,8 +123,8 @@ impl Meeting {
 }
 
 impl Pause for Meeting {
-    // In each of the first cycles it holds an aircraft until all others were called for this cycle; and one of them, in
-    // each cycle another one, until they were called for the next one. So this one commits last.
+    // In each of the first cycles it holds an aircraft until all others were called for this cycle. One of them,
+    // another one in each cycle, it holds until they were called for the next cycle. So this one commits last.
     fn pause(&self, craft: u8, cycle: u16) {
         let own = usize::from(craft);
         let cycle = u64::from(cycle);
@@ -152,7 +152,7 @@ struct Together {
     // The beginning of its text, and the rest.
     open: &'static [u8],
     rest: &'static [u8],
-    // How many aircraft it has, all active, how many cycles, and in how many of these they wait.
+    // How many aircraft it has, all active, how many cycles, and in how many of these cycles they wait.
     crafts: u8,
     cycles: u64,
     waiting: u64,
@@ -167,7 +167,7 @@ struct Together {
 const CROWD: &[u8] =
     b"encounter,2\nrun,3,0\ngains,0,0,0,0\ncraft,000001,RA,0,0,35000\ncraft,000002,RA,0,0,35000\ncraft,000003,RA,0,0,35000\ncraft,000004,RA,0,0,35000\ncraft,000005,RA,0,0,35000\ncraft,000006,RA,0,0,35000\ncraft,000007,RA,0,0,35000\ncraft,000008,RA,0,0,35000\ncraft,000009,RA,0,0,35000\ncraft,00000A,RA,0,0,35000\ncraft,00000B,RA,0,0,35000\ncraft,00000C,RA,0,0,35000\ncraft,00000D,RA,0,0,35000\ncraft,00000E,RA,0,0,35000\ncraft,00000F,RA,0,0,35000\ncraft,000010,RA,0,0,35000\n";
 
-// In the first cycle it is the one of index 1 that commits last, and in the second one the one of index 0, or of 2
+// In the first cycle the aircraft of index 1 commits last. In the second cycle it is the one of index 0, or of index 2
 // where there is one. In the serial run it is always the one of the highest index.
 const TOGETHER: [Together; 3] = [
     Together {
@@ -202,7 +202,7 @@ const TOGETHER: [Together; 3] = [
     },
 ];
 
-// Whether `play` and `sum` end so, where the aircraft wait for each other.
+// Whether `play` and `sum` give this, where the aircraft wait for each other.
 fn is_played<R: Threads + Wait + Sync + Alloc<A = Global>>(
     rt: &R,
     row: &Together,
@@ -243,9 +243,10 @@ fn first_unmet<R: Threads + Wait + Sync + Alloc<A = Global>>(
     Ok(None)
 }
 
-// A run on one thread can't have one aircraft wait for another one, one on fewer threads than aircraft not for all
-// others, and one that writes the serial journal has another order. Nor does the test pass where nobody waits, where
-// one waits behind its commit, or where another cycle is named.
+// This test shows that threads run side by side. A run on one thread can't have one aircraft wait for another one. A
+// run on fewer threads than aircraft can't have one wait for all others. A run that writes the serial journal has
+// another order. The test doesn't pass either where nobody waits, where one waits behind its commit, or where another
+// cycle is named.
 #[test]
 fn meet(rt: HostRuntime) -> Result<(), Fail> {
     assert_eq!(rt; first_unmet(&rt, &TOGETHER)?, None);

@@ -1,4 +1,4 @@
-// What the tools tell of recordings. Expected values: those that were given with the rules of the tools before there
+// What the tools write of recordings. Expected values: those that were given with the rules of the tools before there
 // was a program, and by hand from docs/FORMATS.md.
 use super::{
     APART, BETWEEN, HELD_LONG, LAPSING, LEVEL, Outcome, TRAFFIC, answers, lines_with, recording,
@@ -17,11 +17,11 @@ const APART_LONGER: &[u8] =
 const LEVEL_LONGER: &[u8] =
     b"encounter,1\nrun,33,0\ncraft,400A01,RA,0,0,35000\ncraft,400B02,RA,91200,0,35000\nleg,400A01,1,760,0,0\nleg,400B02,1,-760,0,0\n";
 
-// One aircraft between two others, which climbs.
+// An aircraft between two others. It climbs.
 const CLIMBING_BETWEEN: &[u8] =
     b"encounter,1\nrun,33,0\ngains,1024,1024,1024,1024\ncraft,400A01,RA,45600,0,34700\ncraft,400B02,RA,-45600,0,35300\ncraft,400C03,RA,0,0,34885\nleg,400A01,1,-760,0,0\nleg,400B02,1,760,0,0\nleg,400C03,1,0,0,300\n";
 
-// The lower address misses the replies of the other one from cycle 22 on, and gives none that the other one gets.
+// The lower address misses the replies of the other one from cycle 22 on. The other one gets no replies from it.
 const UNSEEN: &[u8] =
     b"encounter,1\nrun,46,0\ncraft,400A01,RA,0,0,35000\ncraft,400B02,RA,91200,0,35000\nleg,400A01,1,760,0,0\nleg,400B02,1,-760,0,0\nmiss,400A01,400B02,22,60\nmiss,400B02,400A01,1,60\n";
 
@@ -29,7 +29,7 @@ const UNSEEN: &[u8] =
 const LATE_COMMIT_RECORDING: &[u8] =
     b"recording,1\nencounter,1\nrun,2,0\ngains,0,0,0,0\ncraft,400A01,RA,0,0,35000\ncraft,400B02,RA,0,0,35000\nfate,400A01,400B02,1\nend\njournal,7\nc,0,1,-,-\nc,1,1,-,-\nc,0,2,-,U5.1c\ns,0,1,1,30080007400A01\nc,1,2,U5.1c,-\ns,1,0,1,30080007400B02\nt,0,5,0,g\nreport,2\nr,2,400A01,UP-CLIMB,Climb climb\nr,2,400B02,UP-CLIMB,Climb climb\nclose\n";
 
-// What a tool tells of the recording of an encounter.
+// What a tool writes of the recording of an encounter.
 pub fn told<R: Threads + Wait + Sync + Alloc<A = Global>>(
     rt: &R,
     tool: &str,
@@ -40,7 +40,7 @@ pub fn told<R: Threads + Wait + Sync + Alloc<A = Global>>(
     run(rt, tool, played.as_slice())
 }
 
-// What tools tell: the tool, the beginning of an encounter, its rest, and the text.
+// The tool, the beginning of an encounter's text, its rest, and what the tool writes.
 type Told = (&'static str, &'static [u8], &'static [u8], &'static [u8]);
 
 const TELLING: [Told; 12] = [
@@ -57,8 +57,8 @@ const TELLING: [Told; 12] = [
         b"end\n",
         b"response,1\np,400A01,400B02,33,0,85\n",
     ),
-    // Both hold their rates where their strength weakens: by cycle 36 the one has sunk by 84 ft, and the other one,
-    // which goes back to the climb that was planned, has risen by 96 ft.
+    // Both hold their rates where their strength weakens. By cycle 36 the one has sunk by 84 ft. The other one, which
+    // goes back to its planned climb, has risen by 96 ft.
     (
         "response",
         APART_LONGER,
@@ -85,8 +85,8 @@ const TELLING: [Told; 12] = [
         b"miss,400B02,400A01,1,31\nend\n",
         b"blocks,9\nb,26,400A01,30C20005002C08\nb,27,400A01,30C20025002C08\nb,28,400A01,30C20025002C08\nb,29,400A01,30C20025002C08\nb,30,400A01,30C20025002C08\nb,31,400A01,30C20025002C08\nb,32,400A01,30C20025002C08\nb,33,400A01,30C20025002C08\nb,33,400B02,30C20005002804\n",
     ),
-    // Of two threats at once there is no block. Each of the two others has one threat, which forbids it the sense that
-    // it doesn't have, from the next cycle on.
+    // Against two threats at once there is no block. Each of the two others has one threat. From the next cycle on that
+    // threat forbids it the sense that it doesn't have.
     (
         "reports",
         BETWEEN,
@@ -115,7 +115,7 @@ const TELLING: [Told; 12] = [
     ),
 ];
 
-// The place of the first text that is told otherwise.
+// The place of the first row with another text.
 fn first_other<R: Threads + Wait + Sync + Alloc<A = Global>>(
     rt: &R,
     texts: &[Told],
@@ -139,7 +139,7 @@ fn tells_whole_texts(rt: HostRuntime) -> Result<(), Fail> {
     Ok(())
 }
 
-// The advisory is that of cycle 26 alone, and its block is gone in cycle 45.
+// The advisory is there in cycle 26 alone, and its block is gone in cycle 45.
 #[test]
 fn tells_a_block_for_18_commits_more(rt: HostRuntime) -> Result<(), Fail> {
     let done = told(&rt, "reports", UNSEEN, b"end\n")?;

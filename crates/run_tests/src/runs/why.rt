@@ -1,4 +1,4 @@
-// The lines that tell why. Expected values: computed from docs/RULES.md by hand.
+// The lines of reasons. Expected values: computed from docs/RULES.md by hand.
 use super::told::told;
 use super::{APART, BETWEEN, HELD_LONG, LAPSING, LEVEL, LEVEL_2, LOW, TRAFFIC, TRANSPONDER};
 use acas_top::Status;
@@ -7,8 +7,7 @@ use std::sync::Wait;
 use std::test::Fail;
 use std::thread::Threads;
 
-// The columns that the lines below have, in their order. Each is looked for by its name, so that a text may have more
-// of them.
+// The columns of the lines below, in their order. Each is looked up by its name, so a text may have more of them.
 const COLUMNS: &[u8] =
     b"position,cycle,own,other,rank,measured_range_ft,reported_alt_ft,own_alt_ft,agl_ft,level,climbs,range_ft,range_rate_fps,alt_diff_ft,alt_diff_rate_fpm,own_rate_fpm,ta_range_s,ta_alt_s,ra_range_s,ra_alt_s,ta_tau_s,ra_tau_s,traffic,threat,halves,alim_ft,side,up_strength,up_ft,down_strength,down_ft,chosen,fresh,need,need_ft,same_later_ft,other_later_ft,has_alim,complement,sent_at,taken_at,commits_since,before,cell,rule";
 
@@ -40,7 +39,7 @@ fn has_fields(names: &[u8], line: &[u8], want: &[u8]) -> bool {
     wanted.next().is_none()
 }
 
-// Whether one of a text's lines behind that of its names has these fields.
+// Whether some line of a text, after the line of names, has these fields.
 fn has_line(text: &[u8], want: &[u8]) -> bool {
     let mut lines = text.split(|byte| *byte == b'\n');
     let Some(_) = lines.next() else {
@@ -83,7 +82,8 @@ const BESIDE: &[u8] =
     b"encounter,1\nrun,2,0\ngains,1024,1024,1024,1024\ncraft,400A01,RA,0,0,35000\ncraft,400B02,RA,12000,0,35000\n";
 
 const REASONS: [Reason; 28] = [
-    // Measured, tracked and tested alike; the separations of both senses, once for each of the two.
+    // Each measures, tracks and tests the other one alike. The separations of both senses are there, once for each of
+    // the two.
     (
         APART,
         b"end\n",
@@ -233,8 +233,8 @@ const REASONS: [Reason; 28] = [
         b"why,62\n",
         b"24,13,400A01,400B02,free,72960,35300,35000,35000,7,1,72960.0,-1520.0,300.0,0.0,0.0,48,0,,,48,,1,0,,,,,,,,,,,,,,,,,,,-,t,traffic",
     ),
-    // Within DMOD the range test needs no seconds. The altitude test needs those until the same altitude, and none tell
-    // where the altitude difference stays, as none do where the range grows.
+    // Within DMOD the range test needs no seconds. The altitude test needs the seconds until the same altitude. No
+    // seconds are written where the altitude difference stays, or where the range grows.
     (
         ABOVE,
         b"leg,400B02,1,0,0,-6000\nend\n",
@@ -268,7 +268,7 @@ const REASONS: [Reason; 28] = [
     ),
 ];
 
-// The place of the first line that isn't told.
+// The place of the first row whose line is missing.
 fn first_missing<R: Threads + Wait + Sync + Alloc<A = Global>>(
     rt: &R,
     reasons: &[Reason],
