@@ -88,7 +88,7 @@ abbrev pub tops : ℕ → Knowledge → ℕ
 tops n v = total (λ (c : Claim). one n c.seen.count) v.claims
 
 module _ (journal : List Entry) (calls : ℕ) (reach : ℕ → ℕ) where
-  -- The journal that was seen begins this one. Its length is that of this journal after the seen calls.
+  -- The journal that was seen begins this one. It is as long as this one was after the latest call that was seen.
   abbrev pub SeenFits : Seen → Type 0
   SeenFits s = Begins s.front journal × (s.count ≤ calls) × (length s.front ≡ reach s.count)
 
