@@ -59,7 +59,7 @@ fresh journal (own ∷ owns) = claim own 0 journal 0 ∷ fresh journal owns
 abbrev pub at_start : State → Knowledge
 at_start s = knowledge s.encounter Idle (fresh s.journal (active_of s.encounter)) []
 
--- These are the facts of a seat or of a note, and not of a spent one.
+-- The knowledge is that of a seat or of a note, and not of a spent seat.
 abbrev pub Speaks : Knowledge → Type 0
 Speaks v = 1 ≤ length v.claims + length v.notes
 

@@ -20,7 +20,7 @@ impl Play<Option<AirState>, Knowledge> for Look {
     ghost then = { looked };
 }
 
-/// A ghost value that names the journal after a call.
+/// A type that names, for contracts alone, the journal after a call.
 pub(crate) trait After {
     ghost use Rattle.std.specs.Prelude.{List};
     ghost use Rattle.acas_base.specs.declared.entry.Entry.{Entry};

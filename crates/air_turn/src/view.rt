@@ -62,6 +62,8 @@ impl TableRule<Option<AirState>, Knowledge, Snapshot<AirState>> for TurnRule {
     ghost first = { λ key. at_start key.value };
 }
 
+/// The table of a shared journal.
 pub type TurnTable = Table<Option<AirState>, Knowledge, Snapshot<AirState>, TurnRule, Global>;
 
+/// A seat at this table.
 pub type TurnSeat = atomic_table::Seat<Option<AirState>, Knowledge>;

@@ -13,7 +13,7 @@ use Rattle.enc_file.specs.declared.record.Record.TheVariants as said
 use Rattle.enc_file.specs.declared.refusal.Code.{Code}
 use Rattle.enc_file.specs.declared.refusal.Code.TheVariants as code
 
--- A test of aircraft that were named. It is false where there are none such.
+-- The result of a test of the aircraft that a record names. It is false where these aircraft weren't given.
 abbrev pub holds : Option Bool → Bool
 holds None = false
 holds (Some b) = b

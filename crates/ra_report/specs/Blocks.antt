@@ -104,8 +104,8 @@ abbrev pub is_none : List ℕ → Bool
 is_none [] = true
 is_none (one ∷ rest) = false
 
--- The block of the last advising commit among the last `n` ones, where that commit advises against exactly one
--- aircraft.
+-- Looks at some last commits, from the newest one back. The first of them that advises at all decides: its block, where
+-- it advises against exactly one aircraft.
 abbrev pub held_block : Parts → ℕ → List Cells → Option RaBlock
 held_block e zero commits = None
 held_block e (suc left) [] = None
