@@ -1,5 +1,5 @@
-//! Plays encounters between aircraft with TCAS II version 7.1, and judges and completes the recordings of what they did: its
-//! words say what is read from standard input and written to standard output (`acas_top::acas`).
+//! Plays encounters between aircraft with TCAS II version 7.1, and judges and completes the recordings of what they
+//! did: its words say what is read from standard input and written to standard output (`acas_top::acas`).
 #![tactic(auto)]
 
 use acas_io::{StdSink, StdSource};
