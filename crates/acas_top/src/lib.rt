@@ -1,5 +1,5 @@
-//! The program over any source and any sink. It is given the words of a command line, reads bytes from the source, writes
-//! bytes to the sink, and ends with one status.
+//! The program over any source and any sink. It is given the words of a command line, reads bytes from the source,
+//! writes bytes to the sink, and ends with one status.
 #![tactic(auto)]
 
 mod answers;

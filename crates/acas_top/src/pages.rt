@@ -62,7 +62,8 @@ pub(crate) const HELP: [&str; 53] = [
     "has the rules, and examples/ has encounters with a page on each.\n",
 ];
 
-/// What `--version` writes: the program's version, and the formats of encounters and recordings that it reads and writes.
+/// What `--version` writes: the program's version, and the formats of encounters and recordings that it reads and
+/// writes.
 pub(crate) const VERSION: [&str; 3] = ["acas 1.0.0\n", "encounter 1,2\n", "recording 1\n"];
 
 // Puts lines of fixed text, in order.

@@ -17,16 +17,16 @@ use std::thread::Threads;
 
 /// Runs the command that the words say: reads the source, writes the sink, and returns the status. It always returns.
 ///
-/// - `serial` reads an encounter and writes the recording of its serial run. Where the input is no encounter, it writes the
-///   line `refused,RECORD,CODE`.
+/// - `serial` reads an encounter and writes the recording of its serial run. Where the input is no encounter, it writes
+///   the line `refused,RECORD,CODE`.
 /// - `audit` reads a recording and writes `legal,ENTRIES`. Where the recording is wrong, it writes `wrong,LINE,REASON`.
-/// - `resume` reads a beginning of a recording, and writes the whole recording. Where the input is none, it writes the line
-///   of its verdict.
-/// - `reports`, `response`, `watch` and `why` read a recording, and write a text about it. Where the recording is wrong, they
-///   write the line of its verdict.
+/// - `resume` reads a beginning of a recording, and writes the whole recording. Where the input is none, it writes the
+///   line of its verdict.
+/// - `reports`, `response`, `watch` and `why` read a recording, and write a text about it. Where the recording is
+///   wrong, they write the line of its verdict.
 /// - `gen NUMBER CRAFTS CYCLES` reads nothing, and writes the encounter that is made from the number.
-/// - `sweep NUMBER COUNT CRAFTS CYCLES` reads nothing. It plays the encounters that are made from COUNT numbers, in as many
-///   threads as there are processors, and writes the counts of each.
+/// - `sweep NUMBER COUNT CRAFTS CYCLES` reads nothing. It plays the encounters that are made from COUNT numbers, in as
+///   many threads as there are processors, and writes the counts of each.
 /// - `--help`, `-h`, `help` and `--version` read nothing, and write a page about the program.
 ///
 /// All other words give [`Status::Usage`]. All memory is taken before the first byte is written.
@@ -39,10 +39,10 @@ pub fn acas_plain<R: Threads + Sync, S: Source, K: Sink>(
 ) -> Status
     ensures ended { Ended (AreNoPlain (map string_bytes words.now)) (map string_bytes words.now) result S.left S.faults source.old source.new K.written K.faults sink.old sink.new }
 
-    // After `serial` with status Done, the bytes that were read, to their end, say an encounter, and the bytes that were
-    // written are the recording of its serial journal. The journal is legal and complete. No aircraft commits an advisory in
-    // the sense that the message in force from a threat of lower address forbids. Where that message was sent since the
-    // threat took its present sense, the senses are opposite.
+    // After `serial` with status Done, the bytes that were read, to their end, say an encounter, and the bytes that
+    // were written are the recording of its serial journal. The journal is legal and complete. No aircraft commits an
+    // advisory in the sense that the message in force from a threat of lower address forbids. Where that message was
+    // sent since the threat took its present sense, the senses are opposite.
     ensures played { DoneAs (Command.Plain Plain.Serial) Plays (map string_bytes words.now) result (S.left source.old) (S.left source.new) (Grew (K.written sink.old) (K.written sink.new)) }
 {
     let Some(plain) = parse_plain(words) else {

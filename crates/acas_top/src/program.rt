@@ -17,12 +17,12 @@ use std::alloc::Global;
 use std::sync::Wait;
 use std::thread::Threads;
 
-/// Runs the command that the words say, as [`acas_plain`] does, and has two more words. `play` and `sum` read an encounter and
-/// give each active aircraft a thread of its own. `play` writes the recording of that run. `sum` writes two lines: how many
-/// commits that run has, and the counts of the serial run. Both refuse what `serial` refuses.
+/// Runs the command that the words say, as [`acas_plain`] does, and has two more words. `play` and `sum` read an
+/// encounter and give each active aircraft a thread of its own. `play` writes the recording of that run. `sum` writes
+/// two lines: how many commits that run has, and the counts of the serial run. Both refuse what `serial` refuses.
 ///
-/// The threads wait for each other, so this call may never return. Every worker calls `pause` before it tries to commit. All
-/// memory is taken before the first byte is written.
+/// The threads wait for each other, so this call may never return. Every worker calls `pause` before it tries to
+/// commit. All memory is taken before the first byte is written.
 pub fn acas<R: Threads + Wait + Sync, S: Source, K: Sink, P: Pause + Sync>(
     rt: &R,
     alloc: Global,
@@ -36,9 +36,9 @@ pub fn acas<R: Threads + Wait + Sync, S: Source, K: Sink, P: Pause + Sync>(
     // As in `acas_plain`: `serial` writes the recording of the serial journal.
     ensures played { DoneAs (Command.Plain Plain.Serial) Plays (map string_bytes words.now) result (S.left source.old) (S.left source.new) (Grew (K.written sink.old) (K.written sink.new)) }
 
-    // After `play` with status Done, the bytes that were read, to their end, say an encounter, and the bytes that were written
-    // are the recording of some journal of it. All that holds of the serial journal holds of this one, except that it is
-    // serial.
+    // After `play` with status Done, the bytes that were read, to their end, say an encounter, and the bytes that were
+    // written are the recording of some journal of it. All that holds of the serial journal holds of this one, except
+    // that it is serial.
     ensures played_in_threads { DoneAs (Command.Run Threaded.Play) PlaysSome (map string_bytes words.now) result (S.left source.old) (S.left source.new) (Grew (K.written sink.old) (K.written sink.new)) }
 {
     let Some(run) = parse_threaded(words) else {

@@ -10,8 +10,8 @@ use acas_io::{Failed, InError, Sink, Source, read_all};
 use acas_lines::write_text;
 use std::alloc::Global;
 
-/// Reads what the command reads, to its end: nothing, or all bytes of the source up to the limit. An error is the status
-/// with which the command ends.
+/// Reads what the command reads, to its end: nothing, or all bytes of the source up to the limit. An error is the
+/// status with which the command ends.
 pub(crate) fn read_input<S: Source>(
     alloc: Global,
     command: Command,

@@ -69,8 +69,8 @@ fn answer_of(
     }
 }
 
-/// The answer to the word of a run in threads on the bytes that it read. The error says that memory was wanting. All memory is
-/// asked for here.
+/// The answer to the word of a run in threads on the bytes that it read. The error says that memory was wanting. All
+/// memory is asked for here.
 pub(crate) fn answer_in_threads<R: Threads + Wait + Sync, P: Pause + Sync>(
     rt: &R,
     alloc: Global,

@@ -38,8 +38,8 @@ fn wrong_line(number: u32, reason: Reason) -> Line
     line
 }
 
-/// The line of a verdict: how many entries a legal recording has, or which line is the first wrong one, counted from 1, and
-/// why.
+/// The line of a verdict: how many entries a legal recording has, or which line is the first wrong one, counted from 1,
+/// and why.
 pub(crate) fn verdict_line(verdict: Verdict) -> Line
     ensures { result ≡ verdict_line verdict }
 {

@@ -61,8 +61,8 @@ pub enum Plain {
     },
     /// The word of a tool: reads a recording, and writes the tool's text about it.
     Tell(Tool),
-    /// `sweep NUMBER COUNT CRAFTS CYCLES`: reads nothing, plays the encounters that are made from this many numbers
-    /// (1 to 4,096) from a first one on, with this many aircraft (1 to 4) and cycles (1 to 120), and writes the counts of
+    /// `sweep NUMBER COUNT CRAFTS CYCLES`: reads nothing, plays the encounters that are made from this many numbers (1
+    /// to 4,096) from a first one on, with this many aircraft (1 to 4) and cycles (1 to 120), and writes the counts of
     /// each.
     Sweep {
         number: u32,

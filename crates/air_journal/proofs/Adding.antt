@@ -50,8 +50,8 @@ pub record WritesOn (old new : Written) (entry : Entry) : Type 0 where
 
 pub may-send : {e : Parts} {w : Written} {t : Kept} → IsWhole e w t → (i j number : ℕ) (m : ResMsg) → is_active (air_of e) i ≡ true → IsFirstOwedBy (air_of e) t i j m → number ≡ (link_at t i j).sends + 1 → MaySend (air_of e) w.entries i j number (word_of m)
 may-send {e} h i j number m active f n =
-    let hi = below-all e h.valid i active in
-    let few = few-crafts e h.valid in
+    let hi = below-all e h.is_journal.valid i active in
+    let few = few-crafts e h.is_journal.valid in
     let b : j < length e.crafts = f.below in
     record {
       active = active;
@@ -76,19 +76,19 @@ send-fits {e} {w} {t} h i j m active f =
     let number = (link_at t i j).sends + 1 in
     let x = Send i j number (word_of m) in
     let may = may-send h i j number m active f refl in
-    let hi : i < CRAFTS = below-all e h.valid i active in
-    let few = few-crafts e h.valid in
+    let hi : i < CRAFTS = below-all e h.is_journal.valid i active in
+    let few = few-crafts e h.is_journal.valid in
     let b : j < length e.crafts = f.below in
     let hj : j < CRAFTS = omega arith in
-    let a : length K + 1 ≤ most_entries (air_of e) = entry-fits e K x h.valid h.legal may in
-    let most = most-few e h.valid in
+    let a : length K + 1 ≤ most_entries (air_of e) = entry-fits e K x h.is_journal.valid h.is_journal.legal may in
+    let most = most-few e h.is_journal.valid in
     let room = h.room in
-    let legal : IsLegal (air_of e) (x ∷ K) = extended h.legal may in
+    let legal : IsLegal (air_of e) (x ∷ K) = extended h.is_journal.legal may in
     let s : sends (x ∷ K) i j ≤ commits (x ∷ K) i = sends-few (air_of e) (x ∷ K) legal i j in
     let one : sends (x ∷ K) i j ≡ sends K i j + 1 = count-yes (is_send_of i j) x K (and_from _ _ (eq-eqb i i refl) (eq-eqb j j refl)) in
-    let c : commits K i ≤ 600 = few-commits e K h.valid h.legal i in
-    let d : commits K j ≤ 600 = few-commits e K h.valid h.legal j in
-    let q : length (waiting (air_of e) K i j) ≤ 3 * sends K i j = waiting-few (air_of e) (sound-of e h.valid) K i j in
+    let c : commits K i ≤ 600 = few-commits e K h.is_journal.valid h.is_journal.legal i in
+    let d : commits K j ≤ 600 = few-commits e K h.is_journal.valid h.is_journal.legal j in
+    let q : length (waiting (air_of e) K i j) ≤ 3 * sends K i j = waiting-few (air_of e) (sound-of e h.is_journal.valid) K i j in
     let l : (link_at t i j).sends ≡ sends K i j = ap (λ (y : Link). y.sends) (h.kept.link i j hi hj) in
     let g : length (queue_at t i j) ≡ length (waiting (air_of e) K i j) = ap length (h.kept.queue i j hi hj) in
     let n : (made_at t j).commits ≡ commits K j = count-is h j hj in
@@ -97,8 +97,8 @@ send-fits {e} {w} {t} h i j m active f =
 -- A message that is owed is read as it was sent, where it isn't spoilt.
 pub reads-back : {e : Parts} {w : Written} {t : Kept} → IsWhole e w t → (i j : ℕ) (m : ResMsg) → is_active (air_of e) i ≡ true → IsFirstOwedBy (air_of e) t i j m → vrc_of (read_word (word_of m)) ≡ Some m.vrc
 reads-back {e} {w} {t} h i j m active f =
-    let owes = (first-owed h i j m (below-all e h.valid i active) f).owes in
-    ap vrc_of ((sound-of e h.valid).reads i m (owed-own (air_of e) w.entries i j m owes))
+    let owes = (first-owed h i j m (below-all e h.is_journal.valid i active) f).owes in
+    ap vrc_of ((sound-of e h.is_journal.valid).reads i m (owed-own (air_of e) w.entries i j m owes))
 
 pub sent-whole : {e : Parts} {w v : Written} {t u : Kept} → IsWhole e w t → (i j number position : ℕ) (m : ResMsg) (plans : List CopyPlan) → is_active (air_of e) i ≡ true → IsFirstOwedBy (air_of e) t i j m →
     number ≡ (link_at t i j).sends + 1 → position ≡ length w.entries → plans ≡ (air_of e).copies i j number →
@@ -107,11 +107,9 @@ sent-whole {e} {w} {v} {t} {u} h i j number position m plans active f n p q writ
     let fit = send-fits h i j m active f in
     let owes = (first-owed h i j m fit.own f).owes in
     let may = may-send h i j number m active f n in
-    let vrc : m.vrc ≡ complement_read ((air_of e).read (word_of m)) = sym (ap complement_read ((sound-of e h.valid).reads i m (owed-own (air_of e) w.entries i j m owes))) in
+    let vrc : m.vrc ≡ complement_read ((air_of e).read (word_of m)) = sym (ap complement_read ((sound-of e h.is_journal.valid).reads i m (owed-own (air_of e) w.entries i j m owes))) in
     record {
-      valid = h.valid;
-      inside = h.inside;
-      legal = subst (IsLegal (air_of e)) (sym written.entries) (extended h.legal may);
+      is_journal = record { valid = h.is_journal.valid; inside = h.is_journal.inside; legal = subst (IsLegal (air_of e)) (sym written.entries) (extended h.is_journal.legal may) };
       kept = subst (λ (J : List Entry). IsKept (air_of e) J u) (sym written.entries) (kept-send (air_of e) w.entries t u h.kept i j number (word_of m) position m.vrc plans fit.own fit.target vrc p q after);
       room = subst (λ (k : ℕ). most_entries (air_of e) ≤ k) (sym written.room) h.room;
       places = written.places ∙ h.places;
@@ -120,7 +118,7 @@ sent-whole {e} {w} {v} {t} {u} h i j number position m plans active f n p q writ
 -- ---- a take
 
 pub wait : {e : Parts} {w : Written} {t : Kept} → IsWhole e w t → (i : ℕ) (f : Found) → WaitsAt (air_of e) w.entries i f → IsWaiting (air_of e) w.entries f.sender i f.waiting
-wait {e} {w} h i f a = (is-queue (air_of e) (sound-of e h.valid) w.entries h.legal f.sender i).holds f.waiting (in-at (waiting (air_of e) w.entries f.sender i) f.place f.waiting a.here)
+wait {e} {w} h i f a = (is-queue (air_of e) (sound-of e h.is_journal.valid) w.entries h.is_journal.legal f.sender i).holds f.waiting (in-at (waiting (air_of e) w.entries f.sender i) f.place f.waiting a.here)
 
 -- What is kept of a copy is what its taker reads.
 reads-is : (air : Air) (K : List Entry) (j i : ℕ) (w : Waiting) → IsWaiting air K j i w → w.reads ≡ vrc_of (read_copy air (sent_at K w.send) w.copy)
@@ -151,11 +149,11 @@ pub record TakeFits (e : Parts) (w : Written) (t : Kept) (i : ℕ) (f : Found) :
 pub take-fits : {e : Parts} {w : Written} {t : Kept} → IsWhole e w t → (i : ℕ) (f : Found) → is_active (air_of e) i ≡ true → WaitsAt (air_of e) w.entries i f → TakeFits e w t i f
 take-fits {e} {w} {t} h i f active a =
     let K = w.entries in
-    let x : length K + 1 ≤ most_entries (air_of e) = entry-fits e K (Take i f.waiting.send f.waiting.copy (is_some f.waiting.reads)) h.valid h.legal (may-take h i f active a) in
-    let most = most-few e h.valid in
+    let x : length K + 1 ≤ most_entries (air_of e) = entry-fits e K (Take i f.waiting.send f.waiting.copy (is_some f.waiting.reads)) h.is_journal.valid h.is_journal.legal (may-take h i f active a) in
+    let most = most-few e h.is_journal.valid in
     let room = h.room in
-    let hi : i < CRAFTS = below-all e h.valid i active in
-    let few = few-crafts e h.valid in
+    let hi : i < CRAFTS = below-all e h.is_journal.valid i active in
+    let few = few-crafts e h.is_journal.valid in
     let b : f.sender < length e.crafts = a.sender in
     let hj : f.sender < CRAFTS = omega arith in
     let p : f.place < length (waiting (air_of e) K f.sender i) = slice_get_within _ _ _ a.here in
@@ -171,12 +169,10 @@ taken-whole {e} {w} {v} {t} {u} h i f active a written after =
     let r : f.waiting.reads ≡ vrc_of m = reads-is (air_of e) w.entries f.sender i f.waiting it in
     let kept : IsKept (air_of e) (Take i f.waiting.send f.waiting.copy (is_some m) ∷ w.entries) u =
     kept-take (air_of e) w.entries t u h.kept i f.waiting.send f.waiting.copy f.sender f.place m it.sent fit.own fit.sender refl it.from.here it.from.sender
-    (remove-is (waiting (air_of e) w.entries f.sender i) f.place f.waiting (is-queue (air_of e) (sound-of e h.valid) w.entries h.legal f.sender i).ordered a.here)
+    (remove-is (waiting (air_of e) w.entries f.sender i) f.place f.waiting (is-queue (air_of e) (sound-of e h.is_journal.valid) w.entries h.is_journal.legal f.sender i).ordered a.here)
     (subst (AfterTake t u i f.sender f.place) r after) in
     record {
-      valid = h.valid;
-      inside = h.inside;
-      legal = subst (IsLegal (air_of e)) (sym written.entries) (extended h.legal (may-take h i f active a));
+      is_journal = record { valid = h.is_journal.valid; inside = h.is_journal.inside; legal = subst (IsLegal (air_of e)) (sym written.entries) (extended h.is_journal.legal (may-take h i f active a)) };
       kept = subst (λ (J : List Entry). IsKept (air_of e) J u) (sym written.entries)
           (subst (λ (g : Bool). IsKept (air_of e) (Take i f.waiting.send f.waiting.copy g ∷ w.entries) u) (sym (ap is_some r ∙ some-vrc m)) kept);
       room = subst (λ (k : ℕ). most_entries (air_of e) ≤ k) (sym written.room) h.room;
@@ -228,7 +224,7 @@ some-cells air (Take own p c good ∷ K) l i k h few = some-cells air K (earlier
 
 pub may-commit : {e : Parts} {w : Written} {t : Kept} → IsWhole e w t → (i cycle : ℕ) (cells : Cells) → is_active (air_of e) i ≡ true → IsFree (air_of e) w.entries i → cycle ≡ (made_at t i).commits + 1 → AreNext (air_of e) t i cells → MayCommit (air_of e) w.entries i cycle cells
 may-commit {e} h i cycle cells active free c next =
-    let hi = below-all e h.valid i active in
+    let hi = below-all e h.is_journal.valid i active in
     let n = count-is h i hi in
     let left = free.left in
     record {
@@ -252,23 +248,21 @@ pub record CommitFits (e : Parts) (w : Written) (t : Kept) (i : ℕ) : Type 0 wh
 pub commit-fits : {e : Parts} {w : Written} {t : Kept} → IsWhole e w t → (i : ℕ) (cells : Cells) → is_active (air_of e) i ≡ true → IsFree (air_of e) w.entries i → AreNext (air_of e) t i cells → CommitFits e w t i
 commit-fits {e} {w} {t} h i cells active free next =
     let K = w.entries in
-    let hi = below-all e h.valid i active in
+    let hi = below-all e h.is_journal.valid i active in
     let n = count-is h i hi in
     let left : commits K i < e.cycles = free.left in
-    let k : e.cycles ≤ 600 = h.valid.run.length.1 in
-    let x : length K + 1 ≤ most_entries (air_of e) = entry-fits e K (Commit i ((made_at t i).commits + 1) cells) h.valid h.legal (may-commit h i ((made_at t i).commits + 1) cells active free refl next) in
-    let most = most-few e h.valid in
+    let k : e.cycles ≤ 600 = h.is_journal.valid.run.length.1 in
+    let x : length K + 1 ≤ most_entries (air_of e) = entry-fits e K (Commit i ((made_at t i).commits + 1) cells) h.is_journal.valid h.is_journal.legal (may-commit h i ((made_at t i).commits + 1) cells active free refl next) in
+    let most = most-few e h.is_journal.valid in
     let room = h.room in
     let p : w.places ≡ e.cycles * 16 = h.places in
-    record { own = hi; position = omega arith; room = omega arith; commits = omega arith; places = omega arith; new = no-cells (air_of e) K h.legal i ((made_at t i).commits + 1) (inr (omega arith)) }
+    record { own = hi; position = omega arith; room = omega arith; commits = omega arith; places = omega arith; new = no-cells (air_of e) K h.is_journal.legal i ((made_at t i).commits + 1) (inr (omega arith)) }
 
 pub committed-whole : {e : Parts} {w v : Written} {t u : Kept} → IsWhole e w t → (i cycle : ℕ) (cells : Cells) (many : Bool) → is_active (air_of e) i ≡ true → IsFree (air_of e) w.entries i → cycle ≡ (made_at t i).commits + 1 → AreNext (air_of e) t i cells →
     many ≡ has_many cells → WritesOn w v (Commit i cycle cells) → AfterCommit t u i cells many → IsWhole e v u
 committed-whole {e} {w} {v} {t} {u} h i cycle cells many active free c next m written after =
     record {
-      valid = h.valid;
-      inside = h.inside;
-      legal = subst (IsLegal (air_of e)) (sym written.entries) (extended h.legal (may-commit h i cycle cells active free c next));
+      is_journal = record { valid = h.is_journal.valid; inside = h.is_journal.inside; legal = subst (IsLegal (air_of e)) (sym written.entries) (extended h.is_journal.legal (may-commit h i cycle cells active free c next)) };
       kept = subst (λ (J : List Entry). IsKept (air_of e) J u) (sym written.entries) (kept-commit (air_of e) w.entries t u h.kept i cycle cells many m after);
       room = subst (λ (k : ℕ). most_entries (air_of e) ≤ k) (sym written.room) h.room;
       places = written.places ∙ h.places;

@@ -51,15 +51,15 @@ owed-is {e} {w} {t} h i j hi hj =
 pub owes-nothing : {e : Parts} {w : Written} {t : Kept} → IsWhole e w t → (i : ℕ) → i < CRAFTS → NothingOwedBy (air_of e) t i (length e.crafts) → OwesNothing (air_of e) w.entries i
 owes-nothing {e} {w} h i hi none j = elim (some-or-none (owed (air_of e) w.entries i j)) [
   | inl (m, o) ↦
-      let hj : j < length e.crafts = (owed-within (air_of e) (sound-of e h.valid) w.entries i j m o).receiver in
-      let f = few-crafts e h.valid in
+      let hj : j < length e.crafts = (owed-within (air_of e) (sound-of e h.is_journal.valid) w.entries i j m o).receiver in
+      let f = few-crafts e h.is_journal.valid in
       sym (owed-is h i j hi (omega arith)) ∙ none j hj
   | inr n ↦ n
 ]
 
 pub first-owed : {e : Parts} {w : Written} {t : Kept} → IsWhole e w t → (i j : ℕ) (m : ResMsg) → i < CRAFTS → IsFirstOwedBy (air_of e) t i j m → IsFirstOwed (air_of e) w.entries i j m
 first-owed {e} h i j m hi f =
-    let few = few-crafts e h.valid in
+    let few = few-crafts e h.is_journal.valid in
     let b : j < length e.crafts = f.below in
     record {
       owes = sym (owed-is h i j hi (omega arith)) ∙ f.owes;
@@ -69,11 +69,11 @@ first-owed {e} h i j m hi f =
 -- ---- what is due
 
 pub all-ordered : {e : Parts} {w : Written} {t : Kept} → IsWhole e w t → (i b : ℕ) → i < CRAFTS → b < CRAFTS → AreOrdered (queue_at t b i)
-all-ordered {e} {w} h i b hi hb = subst AreOrdered (sym (h.kept.queue b i hb hi)) (is-queue (air_of e) (sound-of e h.valid) w.entries h.legal b i).ordered
+all-ordered {e} {w} h i b hi hb = subst AreOrdered (sym (h.kept.queue b i hb hi)) (is-queue (air_of e) (sound-of e h.is_journal.valid) w.entries h.is_journal.legal b i).ordered
 
 pub found-waits : {e : Parts} {w : Written} {t : Kept} → IsWhole e w t → (i n : ℕ) (f : Found) → i < CRAFTS → n ≡ commits w.entries i → IsLeast t i n (length e.crafts) f → WaitsAt (air_of e) w.entries i f
 found-waits {e} h i n f hi g l =
-    let few = few-crafts e h.valid in
+    let few = few-crafts e h.is_journal.valid in
     let b : f.sender < length e.crafts = l.sender in
     record {
       sender = l.sender;
@@ -83,29 +83,29 @@ found-waits {e} h i n f hi g l =
 
 pub found-first : {e : Parts} {w : Written} {t : Kept} → IsWhole e w t → (i n : ℕ) (f : Found) → i < CRAFTS → n ≡ commits w.entries i → IsLeast t i n (length e.crafts) f → IsFirstDue (air_of e) w.entries i f.waiting.send f.waiting.copy
 found-first {e} {w} {t} h i n f hi g l =
-    let few = few-crafts e h.valid in
+    let few = few-crafts e h.is_journal.valid in
     let b : f.sender < length e.crafts = l.sender in
-    first-due (air_of e) (sound-of e h.valid) w.entries h.legal i f.sender f.place f.waiting
+    first-due (air_of e) (sound-of e h.is_journal.valid) w.entries h.is_journal.legal i f.sender f.place f.waiting
     (subst (λ (m : ℕ). IsFirstDueAt (waiting (air_of e) w.entries f.sender i) m f.place f.waiting) g (subst (λ (ws : List Waiting). IsFirstDueAt ws n f.place f.waiting) (h.kept.queue f.sender i (omega arith) hi) l.place))
     (λ s hs u a d. l.least s hs u (subst (λ (ws : List Waiting). IsIn u ws) (sym (h.kept.queue s i (omega arith) hi)) a) (subst (λ (m : ℕ). u.due ≤ m) (sym g) d))
 
 pub none-due : {e : Parts} {w : Written} {t : Kept} → IsWhole e w t → (i n : ℕ) → i < CRAFTS → n ≡ commits w.entries i → NoneOf t i n (length e.crafts) → NothingDue (air_of e) w.entries i
 none-due {e} {w} h i n hi g none =
-    let few = few-crafts e h.valid in
-    nothing-due (air_of e) (sound-of e h.valid) w.entries h.legal i
+    let few = few-crafts e h.is_journal.valid in
+    nothing-due (air_of e) (sound-of e h.is_journal.valid) w.entries h.is_journal.legal i
     (λ s hs u a. subst (λ (m : ℕ). m < u.due) g (none s hs u (subst (λ (ws : List Waiting). IsIn u ws) (sym (h.kept.queue s i (omega arith) hi)) a)))
 
 pub not-due : {e : Parts} {w : Written} {t : Kept} → IsWhole e w t → (i n p c : ℕ) → i < CRAFTS → n ≡ commits w.entries i → NotDueInAny t i n p c (length e.crafts) → is_due (air_of e) w.entries i p c ≡ false
 not-due {e} {w} h i n p c hi g none = false_from_ne_true _ (λ d.
-    let f = due-waits (air_of e) (sound-of e h.valid) w.entries h.legal i p c d in
-    let few = few-crafts e h.valid in
+    let f = due-waits (air_of e) (sound-of e h.is_journal.valid) w.entries h.is_journal.legal i p c d in
+    let few = few-crafts e h.is_journal.valid in
     let b : f.sender < length e.crafts = f.below in
-    let a : n < f.it.due = none f.sender b f.it (subst (λ (ws : List Waiting). IsIn f.it ws) (sym (h.kept.queue f.sender i (omega arith) hi)) ((is-queue (air_of e) (sound-of e h.valid) w.entries h.legal f.sender i).whole f.it f.waits)) f.send_is f.copy_is in
+    let a : n < f.it.due = none f.sender b f.it (subst (λ (ws : List Waiting). IsIn f.it ws) (sym (h.kept.queue f.sender i (omega arith) hi)) ((is-queue (air_of e) (sound-of e h.is_journal.valid) w.entries h.is_journal.legal f.sender i).whole f.it f.waits)) f.send_is f.copy_is in
     let z : f.it.due ≤ commits w.entries i = f.due in omega arith)
 
 pub this-waits : {e : Parts} {w : Written} {t : Kept} → IsWhole e w t → (i n p c : ℕ) (f : Found) → i < CRAFTS → n ≡ commits w.entries i → IsDueInOne t i n p c (length e.crafts) f → WaitsAt (air_of e) w.entries i f
 this-waits {e} h i n p c f hi g l =
-    let few = few-crafts e h.valid in
+    let few = few-crafts e h.is_journal.valid in
     let b : f.sender < length e.crafts = l.sender in
     record {
       sender = l.sender;
@@ -117,30 +117,30 @@ this-waits {e} h i n p c f hi g l =
 pub narrowed : {e : Parts} {w : Written} {t : Kept} → IsWhole e w t → (i n : ℕ) (f : Found) → i < CRAFTS → IsLeast t i n CRAFTS f → IsLeast t i n (length e.crafts) f
 narrowed {e} {w} {t} h i n f hi l =
     let air = air_of e in
-    let few = few-crafts e h.valid in
+    let few = few-crafts e h.is_journal.valid in
     let here : slice_get (waiting air w.entries f.sender i) f.place ≡ Some f.waiting = subst (λ (ws : List Waiting). slice_get ws f.place ≡ Some f.waiting) (h.kept.queue f.sender i l.sender hi) l.place.here in
-    let it = (is-queue air (sound-of e h.valid) w.entries h.legal f.sender i).holds f.waiting (in-at _ f.place f.waiting here) in
+    let it = (is-queue air (sound-of e h.is_journal.valid) w.entries h.is_journal.legal f.sender i).holds f.waiting (in-at _ f.place f.waiting here) in
     record {
-      sender = (sound-of e h.valid).counted f.sender (active-ra air f.sender (send-shows air w.entries h.legal f.waiting.send f.sender i it.sent it.from).sender_ra);
+      sender = (sound-of e h.is_journal.valid).counted f.sender (active-ra air f.sender (send-shows air w.entries h.is_journal.legal f.waiting.send f.sender i it.sent it.from).sender_ra);
       place = l.place;
       least = λ s hs u a d. l.least s (omega arith) u a d;
     }
 
 pub none-narrowed : {e : Parts} {w : Written} {t : Kept} → IsWhole e w t → (i n : ℕ) → NoneOf t i n CRAFTS → NoneOf t i n (length e.crafts)
-none-narrowed {e} h i n none = λ s hs u a. none s (let few = few-crafts e h.valid in omega arith) u a
+none-narrowed {e} h i n none = λ s hs u a. none s (let few = few-crafts e h.is_journal.valid in omega arith) u a
 
 -- ---- who is behind
 
 pub not-ahead : {e : Parts} {w : Written} {t : Kept} → IsWhole e w t → (i n : ℕ) → n ≡ commits w.entries i → NobodyBehind (air_of e) t n (length e.crafts) → (j : ℕ) → is_active (air_of e) j ≡ true → commits w.entries i ≤ commits w.entries j
 not-ahead {e} h i n g none j a =
-    let hj = below e h.valid j a in
-    let c = count-is h j (below-all e h.valid j a) in
+    let hj = below e h.is_journal.valid j a in
+    let c = count-is h j (below-all e h.is_journal.valid j a) in
     let d = none j hj a in
     omega arith
 
 pub first-behind-is : {e : Parts} {w : Written} {t : Kept} → IsWhole e w t → (i n : ℕ) (b : Behind) → n ≡ commits w.entries i → IsFirstBehindBy (air_of e) t n b → IsFirstBehind (air_of e) w.entries i b.craft × (b.commits ≡ commits w.entries b.craft)
 first-behind-is {e} h i n b g f =
-    let few = few-crafts e h.valid in
+    let few = few-crafts e h.is_journal.valid in
     let hb : b.craft < length e.crafts = f.below in
     let c = count-is h b.craft (omega arith) in
     let d = f.count in
@@ -171,6 +171,6 @@ cells-are {e} {w} h i cells hi a =
 
 pub ages : {e : Parts} {w : Written} {t : Kept} → IsWhole e w t → (i : ℕ) → i < CRAFTS → commits w.entries i < e.cycles → (j : ℕ) (it : Intent) → j < CRAFTS → (link_at t i j).cell ≡ Ra it → it.age < 600
 ages {e} {w} h i hi left j it hj f =
-    let a : it.age ≤ commits w.entries i = age-few (air_of e) w.entries h.legal i j it (sym (ap (λ (l : Link). l.cell) (h.kept.link i j hi hj)) ∙ f) in
-    let b : e.cycles ≤ 600 = h.valid.run.length.1 in
+    let a : it.age ≤ commits w.entries i = age-few (air_of e) w.entries h.is_journal.legal i j it (sym (ap (λ (l : Link). l.cell) (h.kept.link i j hi hj)) ∙ f) in
+    let b : e.cycles ≤ 600 = h.is_journal.valid.run.length.1 in
     omega arith

@@ -17,11 +17,15 @@ pub record State : Type 0 where
   pub encounter : Parts
   pub journal : List Entry
 
--- An encounter inside the box and a legal journal, what is kept beside it, and memory for the whole run.
-pub record IsWhole (e : Parts) (journal : Written) (tables : Kept) : Type 0 where
+-- An encounter inside the box, and a legal journal of it.
+pub record IsJournalOf (e : Parts) (journal : List Entry) : Type 0 where
   pub valid : IsEncounter e
   pub inside : IsInside e
-  pub legal : IsLegal (air_of e) journal.entries
+  pub legal : IsLegal (air_of e) journal
+
+-- A legal journal, what is kept beside it, and memory for the whole run.
+pub record IsWhole (e : Parts) (journal : Written) (tables : Kept) : Type 0 where
+  pub is_journal : IsJournalOf e journal.entries
   pub kept : IsKept (air_of e) journal.entries tables
   pub room : most_entries (air_of e) ≤ journal.room
   pub places : journal.places ≡ e.cycles * CRAFTS

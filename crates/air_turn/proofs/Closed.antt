@@ -9,16 +9,16 @@ use native.Mathlib.Decide.{ℕ_discrete}
 use lib.ListN.{get_elem?}
 use Rattle.acas_base.specs.Encounter.{IsEncounter, Parts}
 use Rattle.acas_base.specs.declared.entry.Entry.{Entry}
-use Rattle.air_journal.specs.States.{State}
+use Rattle.air_journal.specs.States.{IsJournalOf, State}
 use Rattle.atomic_table.specs.Table.{Final, Seen as TableSeen}
 use Rattle.atomic_table.specs.Seated.{TableId}
 use Rattle.air_turn.specs.declared.view.Claim.{Claim}
 use Rattle.air_turn.specs.declared.view.Knowledge.{Knowledge}
 use Rattle.air_turn.specs.declared.view.Stage.{Stage}
 use Rattle.air_turn.specs.declared.view.Stage.TheVariants.{Idle, Waits, Holds}
-use Rattle.air_turn.specs.Rule.{ClaimsFit, HoldsThroughout, IsHolding, IsState, SeenFits, StageFits, active_of, knowledge, made, seen, state_of, tops, weigh}
+use Rattle.air_turn.specs.Rule.{ClaimsFit, HoldsThroughout, IsHolding, SeenFits, StageFits, active_of, knowledge, made, seen, state_of, tops, weigh}
 use Rattle.air_turn.specs.Seats.{Closes, FrontsFit, NoneBeyond, SeatState, SomeAt, calls_made, owns_of}
-use Rattle.air_turn.specs.Told.{Sitting}
+use Rattle.air_turn.specs.Told.{KnownAndHeld}
 use Rattle.air_turn.specs.Totals.{total, one}
 use Rattle.air_turn.specs.Turns.{Gathers, seat_of_claim}
 use Rattle.air_turn.proofs.Actives.{some-active}
@@ -60,8 +60,8 @@ holds-one journal calls reach serving away holder seat claims (Holds k g n) f h 
 as-many : (e : Parts) (ss : List SeatState) → IsPermutation (owns_of ss) (active_of e) → total (λ x. 1) (owns_of ss) ≡ total (λ x. 1) (active_of e)
 as-many e ss same = total-ones (owns_of ss) ∙ (sym (length_permutation (owns_of ss) (active_of e) same) ∙ sym (total-ones (active_of e)))
 
-pub closes : (e : Parts) (id : ℕ) (t : TableId) (m : Sitting) (ss : List SeatState) (ws : List ℕ) (xs : List (Option State)) → Final (TableSeen (HoldsThroughout e) id m.0) ws xs → m ≡ (knowledge m.0.encounter Idle m.0.claims [], []) → map (seat_of_claim t m.0.encounter) m.0.claims ≡ ss → IsPermutation (owns_of ss) (active_of e)
-    → (journal : List Entry) × (get_elem? xs 0 ≡ some (Some (state_of e journal))) × IsState e journal × Closes ss journal
+pub closes : (e : Parts) (id : ℕ) (t : TableId) (m : KnownAndHeld) (ss : List SeatState) (ws : List ℕ) (xs : List (Option State)) → Final (TableSeen (HoldsThroughout e) id m.0) ws xs → m ≡ (knowledge m.0.encounter Idle m.0.claims [], []) → map (seat_of_claim t m.0.encounter) m.0.claims ≡ ss → IsPermutation (owns_of ss) (active_of e)
+    → (journal : List Entry) × (get_elem? xs 0 ≡ some (Some (state_of e journal))) × IsJournalOf e journal × Closes ss journal
 closes e id t m ss ws xs final shape all owns =
     let s = final.0 in
     let r = final.1.0 in
@@ -69,19 +69,19 @@ closes e id t m ss ws xs final shape all owns =
     let v = m.0 in
     let cs = v.claims in
     let fits = (r.each id v at).claims in
-    let idle : v.stage ≡ Idle = ap (λ (x : Sitting). x.0.stage) shape in
+    let idle : v.stage ≡ Idle = ap (λ (x : KnownAndHeld). x.0.stage) shape in
     let crafts : map (λ (c : Claim). c.own) cs ≡ owns_of ss = sym (owns-known t v.encounter cs) ∙ ap owns_of all in
     let mine : weigh (λ _. 1) v ≡ total (λ x. 1) (active_of e) = sym (total-map (λ x. 1) (λ (c : Claim). c.own) cs) ∙ (ap (total (λ x. 1)) crafts ∙ as-many e ss owns) in
     let rest : (j : ℕ) (u : Knowledge) → j ≢ id → get_elem? s.views j ≡ some u → u.claims ≡ [] = λ j u ne there. no-claims u.claims (let a = pair-le (weigh (λ _. 1)) s.views j id u v ne there at in let b = r.owned (λ _. 1) in omega arith) in
     let calls : made v ≡ r.calls = sym (total-only made s.views id v at (λ j u ne there. ap (total (λ (c : Claim). c.made)) (rest j u ne there))) ∙ r.made_all in
     let top : total (tops r.calls) s.views ≡ tops r.calls v = total-only (tops r.calls) s.views id v at (λ j u ne there. ap (total (λ (c : Claim). one r.calls c.seen.count)) (rest j u ne there)) in
     let made_is : calls_made ss ≡ r.calls = ap calls_made (sym all) ∙ (total-map (λ (k : SeatState). k.made) (seat_of_claim t v.encounter) cs ∙ calls) in
-    let home : r.away ≡ false = at-rest r.away refl (λ is. let u = r.gone is in dite (ℕ_discrete r.holder id)
+    let home : r.away ≡ false = at-rest r.away refl (λ is. let u = r.in_hands is in dite (ℕ_discrete r.holder id)
     (λ eq. let same : u.0 ≡ v = some-injective u.0 v (sym u.1 ∙ (ap (get_elem? s.views) eq ∙ at)) in subst IsHolding idle (subst (λ (x : Knowledge). IsHolding x.stage) same u.2))
     (λ ne. let f = (r.each r.holder u.0 u.1).stage in let one_there = holds-one r.journal r.calls r.reach r.serving r.away r.holder r.holder (length u.0.claims) u.0.stage f u.2 in let none = ap length (rest r.holder u.0 ne u.1) in absurd (omega arith))) in
     let latest = r.latest in (
       r.journal,
-      final.4 0 (Some (state_of e r.journal)) (r.home home),
+      final.4 0 (Some (state_of e r.journal)) (r.in_table home),
       r.state,
       subst (λ l. Closes l r.journal) all record {
         fronts = each-fits t v.encounter r.journal r.calls r.reach cs fits;
@@ -97,8 +97,8 @@ closes e id t m ss ws xs final shape all owns =
     at-rest false _ h = refl
 
 -- the state that is taken out at the end
-pub closed-as : (e : Parts) (id : ℕ) (t : TableId) (m : Sitting) (ss : List SeatState) (ws : List ℕ) (xs : List (Option State)) (x : Option State) → Final (TableSeen (HoldsThroughout e) id m.0) ws xs → Gathers t m ss → IsPermutation (owns_of ss) (active_of e) → get_elem? xs 0 ≡ some x
-    → (journal : List Entry) × (x ≡ Some (state_of e journal)) × IsState e journal × Closes ss journal
+pub closed-as : (e : Parts) (id : ℕ) (t : TableId) (m : KnownAndHeld) (ss : List SeatState) (ws : List ℕ) (xs : List (Option State)) (x : Option State) → Final (TableSeen (HoldsThroughout e) id m.0) ws xs → Gathers t m ss → IsPermutation (owns_of ss) (active_of e) → get_elem? xs 0 ≡ some x
+    → (journal : List Entry) × (x ≡ Some (state_of e journal)) × IsJournalOf e journal × Closes ss journal
 closed-as e id t m ss ws xs x final g owns taken =
     let c = closes e id t m ss ws xs final g.idle g.all owns in
     (c.0, some-injective x (Some (state_of e c.0)) (sym taken ∙ c.1), c.2, c.3)
@@ -107,12 +107,12 @@ abbrev some_of : Option State → State → State
 some_of None d = d
 some_of (Some t) d = t
 
-pub closed-state : (e : Parts) (t : State) (x : Option State) (ss : List SeatState) → (journal : List Entry) × (x ≡ Some (state_of e journal)) × IsState e journal × Closes ss journal → x ≡ Some t → (t.encounter ≡ e) × IsState e t.journal × Closes ss t.journal
+pub closed-state : (e : Parts) (t : State) (x : Option State) (ss : List SeatState) → (journal : List Entry) × (x ≡ Some (state_of e journal)) × IsJournalOf e journal × Closes ss journal → x ≡ Some t → (t.encounter ≡ e) × IsJournalOf e t.journal × Closes ss t.journal
 closed-state e t x ss c is =
     let same : t ≡ state_of e c.0 = ap (λ y. some_of y t) (sym is ∙ c.1) in
-    (ap (λ (z : State). z.encounter) same, subst (λ (z : State). IsState e z.journal) (sym same) c.2, subst (λ (z : State). Closes ss z.journal) (sym same) c.3)
+    (ap (λ (z : State). z.encounter) same, subst (λ (z : State). IsJournalOf e z.journal) (sym same) c.2, subst (λ (z : State). Closes ss z.journal) (sym same) c.3)
 
-pub closed-some : (e : Parts) (x : Option State) (ss : List SeatState) → (journal : List Entry) × (x ≡ Some (state_of e journal)) × IsState e journal × Closes ss journal → x ≡ None → ⊥
+pub closed-some : (e : Parts) (x : Option State) (ss : List SeatState) → (journal : List Entry) × (x ≡ Some (state_of e journal)) × IsJournalOf e journal × Closes ss journal → x ≡ None → ⊥
 closed-some e x ss c none = cc (sym none ∙ c.1)
 
 -- There is some seat.

@@ -11,7 +11,7 @@ use Rattle.air_turn.specs.declared.view.Knowledge.{Knowledge}
 use Rattle.air_turn.specs.declared.view.Stage.TheVariants.{Idle}
 use Rattle.air_turn.specs.Rule.{knowledge}
 use Rattle.air_turn.specs.Seats.{IsSeatOf, SeatState, SharedAir}
-use Rattle.air_turn.specs.Told.{Sitting, first, joined, resting}
+use Rattle.air_turn.specs.Told.{KnownAndHeld, first, joined, resting}
 use Rattle.air_turn.specs.Turns.{Gathers, seat_of, seat_of_claim}
 
 abbrev pub shared_air : TableId → Parts → SharedAir
@@ -21,7 +21,7 @@ abbrev pub TurnSeat : Type 0
 TurnSeat = Seat (Option State) Knowledge
 
 -- the place has the claims of all but the rest
-pub record Bundle (t : TableId) (e : Parts) (p : TurnSeat) (rest whole : List SeatState) : Type 0 where
+pub record Joining (t : TableId) (e : Parts) (p : TurnSeat) (rest whole : List SeatState) : Type 0 where
   pub table : p.table_id ≡ t
   pub me : p.me ≡ (knowledge e Idle p.me.0.claims [], [])
   pub some : (c : Claim) × (cs : List Claim) × (p.me.0.claims ≡ c ∷ cs)
@@ -44,11 +44,11 @@ one-seat t e p s table enc seen rests =
     let flown : p.me.0.encounter ≡ e = ap (λ (k : SeatState). k.encounter) seen ∙ enc in
     record { table = named; me = rests ∙ ap (λ z. resting z (first p.me.0.claims)) flown; known_as = (λ i. seat_of_claim (sym named i) (sym flown i) (first p.me.0.claims)) ∙ seen }
 
-pub bundle-first : (t : TableId) (e : Parts) (p : TurnSeat) (s : SeatState) (rest all : List SeatState) → All (IsSeatOf (shared_air t e)) all → all ≡ rest ++ s ∷ [] → seat_of p ≡ s → p.me ≡ resting p.me.0.encounter (first p.me.0.claims) → Bundle t e p rest all
-bundle-first t e p s rest all of is seen rests =
+pub joining-first : (t : TableId) (e : Parts) (p : TurnSeat) (s : SeatState) (rest all : List SeatState) → All (IsSeatOf (shared_air t e)) all → all ≡ rest ++ s ∷ [] → seat_of p ≡ s → p.me ≡ resting p.me.0.encounter (first p.me.0.claims) → Joining t e p rest all
+joining-first t e p s rest all of is seen rests =
     let f = of-last t e all rest s is of in
     let o = one-seat t e p s f.1.table f.1.encounter seen rests in
-    let claims : p.me.0.claims ≡ first p.me.0.claims ∷ [] = ap (λ (m : Sitting). m.0.claims) o.me in
+    let claims : p.me.0.claims ≡ first p.me.0.claims ∷ [] = ap (λ (m : KnownAndHeld). m.0.claims) o.me in
     record {
       table = o.table;
       me = o.me ∙ ap (λ cs. (knowledge e Idle cs [], [])) (sym claims);
@@ -58,16 +58,16 @@ bundle-first t e p s rest all of is seen rests =
     }
 
 -- what a join of one seat more asks
-pub bundle-next : (t : TableId) (e : Parts) (p q : TurnSeat) (s : SeatState) (rest rest' all : List SeatState) → Bundle t e p rest all → rest ≡ rest' ++ s ∷ [] → seat_of q ≡ s → q.me ≡ resting q.me.0.encounter (first q.me.0.claims) → One t e q s × All (IsSeatOf (shared_air t e)) rest'
-bundle-next t e p q s rest rest' all b is seen rests =
+pub joining-next : (t : TableId) (e : Parts) (p q : TurnSeat) (s : SeatState) (rest rest' all : List SeatState) → Joining t e p rest all → rest ≡ rest' ++ s ∷ [] → seat_of q ≡ s → q.me ≡ resting q.me.0.encounter (first q.me.0.claims) → One t e q s × All (IsSeatOf (shared_air t e)) rest'
+joining-next t e p q s rest rest' all b is seen rests =
     let f = of-last t e rest rest' s is b.of in
     (one-seat t e q s f.1.table f.1.encounter seen rests, f.0)
 
-pub bundle-more : (t : TableId) (e : Parts) (p q q' : TurnSeat) (s : SeatState) (rest rest' all : List SeatState) → Bundle t e p rest all → rest ≡ rest' ++ s ∷ [] → One t e q s → All (IsSeatOf (shared_air t e)) rest' → q'.table_id ≡ q.table_id → q'.me ≡ (joined q.me.0 p.me.0, q.me.1) → Bundle t e q' rest' all
-bundle-more t e p q q' s rest rest' all b is o of table to =
+pub joining-more : (t : TableId) (e : Parts) (p q q' : TurnSeat) (s : SeatState) (rest rest' all : List SeatState) → Joining t e p rest all → rest ≡ rest' ++ s ∷ [] → One t e q s → All (IsSeatOf (shared_air t e)) rest' → q'.table_id ≡ q.table_id → q'.me ≡ (joined q.me.0 p.me.0, q.me.1) → Joining t e q' rest' all
+joining-more t e p q q' s rest rest' all b is o of table to =
     let c = first q.me.0.claims in
-    let me : q'.me ≡ (knowledge e Idle (c ∷ p.me.0.claims) [], []) = to ∙ ap (λ (m : Sitting). (joined m.0 p.me.0, m.1)) o.me in
-    let claims : q'.me.0.claims ≡ c ∷ p.me.0.claims = ap (λ (m : Sitting). m.0.claims) me in
+    let me : q'.me ≡ (knowledge e Idle (c ∷ p.me.0.claims) [], []) = to ∙ ap (λ (m : KnownAndHeld). (joined m.0 p.me.0, m.1)) o.me in
+    let claims : q'.me.0.claims ≡ c ∷ p.me.0.claims = ap (λ (m : KnownAndHeld). m.0.claims) me in
     record {
       table = table ∙ o.table;
       me = me ∙ ap (λ cs. (knowledge e Idle cs [], [])) (sym claims);
@@ -77,10 +77,10 @@ bundle-more t e p q q' s rest rest' all b is o of table to =
           ∙ (sym (append_assoc rest' (s ∷ []) (map (seat_of_claim t e) p.me.0.claims)) ∙ (ap (λ l. l ++ map (seat_of_claim t e) p.me.0.claims) (sym is) ∙ b.all)));
     }
 
-pub bundle-end : (t : TableId) (e : Parts) (p : TurnSeat) (rest all : List SeatState) → Bundle t e p rest all → rest ≡ [] → Gathers t p.me all
-bundle-end t e p rest all b none =
-    let enc : p.me.0.encounter ≡ e = ap (λ (m : Sitting). m.0.encounter) b.me in
+pub joining-end : (t : TableId) (e : Parts) (p : TurnSeat) (rest all : List SeatState) → Joining t e p rest all → rest ≡ [] → Gathers t p.me all
+joining-end t e p rest all b none =
+    let enc : p.me.0.encounter ≡ e = ap (λ (m : KnownAndHeld). m.0.encounter) b.me in
     record { idle = b.me ∙ ap (λ z. (knowledge z Idle p.me.0.claims [], [])) (sym enc); all = ap (λ z. map (seat_of_claim t z) p.me.0.claims) enc ∙ (ap (λ l. l ++ map (seat_of_claim t e) p.me.0.claims) (sym none) ∙ b.all) }
 
-pub more-view : (e : Parts) (m : Sitting) (c : Claim) (cs : List Claim) → m ≡ (knowledge e Idle m.0.claims [], []) → m.0.claims ≡ c ∷ cs → m.0 ≡ knowledge e Idle (c ∷ cs) []
-more-view e m c cs is claims = ap (λ (x : Sitting). x.0) is ∙ ap (λ l. knowledge e Idle l []) claims
+pub more-view : (e : Parts) (m : KnownAndHeld) (c : Claim) (cs : List Claim) → m ≡ (knowledge e Idle m.0.claims [], []) → m.0.claims ≡ c ∷ cs → m.0 ≡ knowledge e Idle (c ∷ cs) []
+more-view e m c cs is claims = ap (λ (x : KnownAndHeld). x.0) is ∙ ap (λ l. knowledge e Idle l []) claims

@@ -3,12 +3,12 @@ use Rattle.std.proofs.Common.{◌≡◌, ℕ, false, zero, suc, ◌<◌, List, [
 use mathlib.Core.Option.{some, some-injective, some-ne-none}
 use lib.ListN.{get_elem?}
 use Rattle.acas_base.specs.declared.entry.Entry.{Entry}
-use Rattle.air_journal.specs.States.{State}
+use Rattle.air_journal.specs.States.{IsJournalOf, State}
 use Rattle.air_rules.specs.Journal.{whole}
 use Rattle.atomic_table.specs.Table.{opening}
 use Rattle.air_turn.specs.declared.view.Claim.{Claim}
 use Rattle.air_turn.specs.declared.view.Knowledge.{Knowledge}
-use Rattle.air_turn.specs.Rule.{ClaimsFit, Fits, HoldsThroughout, IsState, active_of, at_start, claim, fresh}
+use Rattle.air_turn.specs.Rule.{ClaimsFit, Fits, HoldsThroughout, active_of, at_start, claim, fresh}
 use Rattle.air_turn.specs.Totals.{total, one}
 use Rattle.air_turn.proofs.Actives.{some-active}
 use Rattle.air_turn.proofs.Passing.{old-none}
@@ -19,7 +19,7 @@ fresh-total : (f : Claim → ℕ) (g : ℕ → ℕ) (journal : List Entry) → (
 fresh-total f g journal h [] = refl
 fresh-total f g journal h (x ∷ xs) = let here = h x in let rest = fresh-total f g journal h xs in omega arith
 
-pub opens : (t : State) → IsState t.encounter t.journal → length t.journal < 18446744073709551616 → HoldsThroughout t.encounter (opening (first-words (length t.journal)) (Some t ∷ []) (at_start t))
+pub opens : (t : State) → IsJournalOf t.encounter t.journal → length t.journal < 18446744073709551616 → HoldsThroughout t.encounter (opening (first-words (length t.journal)) (Some t ∷ []) (at_start t))
 opens t state short =
     let e = t.encounter in
     let journal = t.journal in
@@ -45,8 +45,8 @@ opens t state short =
       rises = λ m n le. le_refl (length journal);
       reached = refl;
       each = at-first;
-      home = λ _. refl;
-      gone = λ not. absurd (true≢false (sym not));
+      in_table = λ _. refl;
+      in_hands = λ not. absurd (true≢false (sym not));
     }
   where
     all-fit : (xs : List ℕ) → ClaimsFit t.journal 0 (λ _. length t.journal) (fresh t.journal xs)
@@ -58,7 +58,7 @@ opens t state short =
         record { encounter = λ _. refl; stage = tt; claims = all-fit (active_of t.encounter); notes = tt; old = old-none t.journal 0 (λ _. length t.journal) (fresh t.journal (active_of t.encounter)) }
     at-first (suc j) v is = absurd (some-ne-none v (sym is))
 
-pub opens-as : (t t' : State) (n : ℕ) (slots : List (Option State)) → IsState t.encounter t.journal → n ≡ length t.journal → n < 18446744073709551616 → t' ≡ t → slots ≡ Some t ∷ [] → HoldsThroughout t'.encounter (opening (first-words n) slots (at_start t'))
+pub opens-as : (t t' : State) (n : ℕ) (slots : List (Option State)) → IsJournalOf t.encounter t.journal → n ≡ length t.journal → n < 18446744073709551616 → t' ≡ t → slots ≡ Some t ∷ [] → HoldsThroughout t'.encounter (opening (first-words n) slots (at_start t'))
 opens-as t t' n slots state len short same is =
     let Q : State × ℕ × List (Option State) → Type 0 = λ x. HoldsThroughout x.0.encounter (opening (first-words x.1) x.2 (at_start x.0)) in
     subst Q (λ i. (sym same i, sym len i, sym is i)) (opens t state (omega arith))

@@ -21,7 +21,7 @@ use Rattle.air_turn.specs.Rule.{ClaimsFit, Fits, HoldsThroughout, IsHolding, Old
 use Rattle.air_turn.specs.Told.{TurnStep, learned, newer, confirmed, spent}
 use Rattle.air_turn.specs.Totals.{total, one}
 use Rattle.air_turn.proofs.Sums.{total-append, total-set}
-use Rattle.air_turn.proofs.Turns.{TurnState, each-set, gone-set}
+use Rattle.air_turn.proofs.Turns.{TurnState, each-set, hands-set}
 
 split-sum : (f : Knowledge → ℕ) (views : List Knowledge) (id : ℕ) (v left right : Knowledge) → get_elem? views id ≡ some v → f left + f right ≡ f v → total f (set views id left ++ right ∷ []) ≡ total f views
 split-sum f views id v left right at same = let a = total-append f (set views id left) (right ∷ []) in let b = total-set f views id v left at in omega arith
@@ -59,21 +59,21 @@ regroup e s r views owned made_all queue out latest each gone = record {
   rises = r.rises;
   reached = r.reached;
   each = each;
-  home = r.home;
-  gone = λ a. gone (r.gone a);
+  in_table = r.in_table;
+  in_hands = λ a. gone (r.in_hands a);
 }
 
 split-each : (P : ℕ → Knowledge → Type 0) (views : List Knowledge) (id : ℕ) (left right : Knowledge) → P id left → ((j : ℕ) → P j right) → ((j : ℕ) (u : Knowledge) → get_elem? views j ≡ some u → P j u)
     → (j : ℕ) (u : Knowledge) → get_elem? (set views id left ++ right ∷ []) j ≡ some u → P j u
 split-each P views id left right mine theirs others j u at = ⊎_elim (each-set P views id left mine (λ i x _. others i x) j u) (λ (t : right ≡ u). subst (P j) t (theirs j)) (at_snoc (set views id left) right u j at)
 
-split-gone : (views : List Knowledge) (holder id : ℕ) (v left right : Knowledge) → get_elem? views id ≡ some v → ¬ IsHolding v.stage → (u : Knowledge) × (get_elem? views holder ≡ some u) × IsHolding u.stage
+split-hands : (views : List Knowledge) (holder id : ℕ) (v left right : Knowledge) → get_elem? views id ≡ some v → ¬ IsHolding v.stage → (u : Knowledge) × (get_elem? views holder ≡ some u) × IsHolding u.stage
     → (u : Knowledge) × (get_elem? (set views id left ++ right ∷ []) holder ≡ some u) × IsHolding u.stage
-split-gone views holder id v left right at free held = let t = gone-set views holder id v left at free held in (t.0, at_longer (set views id left) (right ∷ []) holder t.0 t.1, t.2)
+split-hands views holder id v left right at free held = let t = hands-set views holder id v left at free held in (t.0, at_longer (set views id left) (right ∷ []) holder t.0 t.1, t.2)
 
-join-gone : (views : List Knowledge) (holder id other : ℕ) (v w both spent : Knowledge) → get_elem? views id ≡ some v → get_elem? (set views id both) other ≡ some w → ¬ IsHolding v.stage → ¬ IsHolding w.stage
+join-hands : (views : List Knowledge) (holder id other : ℕ) (v w both spent : Knowledge) → get_elem? views id ≡ some v → get_elem? (set views id both) other ≡ some w → ¬ IsHolding v.stage → ¬ IsHolding w.stage
     → (u : Knowledge) × (get_elem? views holder ≡ some u) × IsHolding u.stage → (u : Knowledge) × (get_elem? (set (set views id both) other spent) holder ≡ some u) × IsHolding u.stage
-join-gone views holder id other v w both spent at there free idle held = gone-set (set views id both) holder other w spent there idle (gone-set views holder id v both at free held)
+join-hands views holder id other v w both spent at there free idle held = hands-set (set views id both) holder other w spent there idle (hands-set views holder id v both at free held)
 
 pub splits : (e : Parts) (id : ℕ) (c : Claim) (cs : List Claim) → Splits (HoldsThroughout e) id (knowledge e Idle (c ∷ cs) []) (knowledge e Idle cs []) (knowledge e Idle (c ∷ []) [])
 splits e id c cs s r at =
@@ -91,7 +91,7 @@ splits e id c cs s r at =
     record { encounter = λ _. refl; stage = tt; claims = mine.claims.1; notes = tt; old = no-old r.journal r.calls r.reach cs }
     (λ j. record { encounter = λ _. refl; stage = tt; claims = (mine.claims.0, tt); notes = tt; old = tt })
     r.each)
-    (split-gone s.views r.holder id v left right at (λ x. x))
+    (split-hands s.views r.holder id v left right at (λ x. x))
   where
     no-old : (journal : List Entry) (calls : ℕ) (reach : ℕ → ℕ) (cs : List Claim) → OldFits journal calls reach cs []
     no-old journal calls reach [] = tt
@@ -125,7 +125,7 @@ joins e id other cs ds s r at apart there =
     (let x = join-sum (tops r.calls) s.views id other v w both spent at there in let y = total-append (λ (c : Claim). one r.calls c.seen.count) cs ds in omega arith)
     (each-set P (set s.views id both) other spent record { encounter = λ some. absurd (omega arith); stage = tt; claims = tt; notes = tt; old = tt }
     (λ j u _. each-set P s.views id both record { encounter = λ _. refl; stage = tt; claims = claims-append r.journal r.calls r.reach cs ds mine.claims theirs.claims; notes = tt; old = old-none r.journal r.calls r.reach (cs ++ ds) } (λ i x _. r.each i x) j u))
-    (join-gone s.views r.holder id other v w both spent at there (λ x. x) (λ x. x))
+    (join-hands s.views r.holder id other v w both spent at there (λ x. x) (λ x. x))
 
 pub notes-down : (e : Parts) (id : ℕ) (c : Claim) → Splits (HoldsThroughout e) id (knowledge e Idle (c ∷ []) []) (knowledge e Idle (c ∷ []) []) (knowledge e Idle [] (c.seen ∷ []))
 notes-down e id c s r at =
@@ -141,7 +141,7 @@ notes-down e id c s r at =
     (split-each (Fits r.journal r.calls r.reach e r.serving r.away r.holder) s.views id v right mine
     (λ j. record { encounter = λ _. refl; stage = tt; claims = tt; notes = (mine.claims.0.0, tt); old = tt })
     r.each)
-    (split-gone s.views r.holder id v v right at (λ x. x))
+    (split-hands s.views r.holder id v v right at (λ x. x))
 
 -- which of two is the newer, and that its count is the greater
 data Newer (a b : Seen) : Seen → Type 0 where
@@ -192,7 +192,7 @@ tells e id other c b s r at apart there =
     (λ j u _. each-set P s.views id both
     record { encounter = λ _. refl; stage = tt; claims = ((zfits, sym (stays-between c.seen.front z.front r.journal c.own longer.0 zfits.0 fits.1) ∙ fits.1), tt); notes = (fits.0, (note, tt)); old = fits.1 }
     (λ i x _. r.each i x) j u))
-    (join-gone s.views r.holder id other v w both spent at there (λ x. x) (λ x. x))
+    (join-hands s.views r.holder id other v w both spent at there (λ x. x) (λ x. x))
 
 pub confirms : (e : Parts) (slots id : ℕ) (c : Claim) (b : Seen) (st : TurnStep)
     → Allows (HoldsThroughout e) slots id (knowledge e Idle (learned c b ∷ []) (c.seen ∷ b ∷ []), []) SERVING (λ n. n) (confirmed st (knowledge e Idle (learned c b ∷ []) (c.seen ∷ b ∷ []), []))
@@ -216,6 +216,6 @@ confirms e slots id c b st s r deep at small =
           (λ t. let x = total-set (λ (x : Knowledge). has t x.stage) s.views id v w at in omega arith)
           (let x = total-set (tops r.calls) s.views id v w at in omega arith)
           (each-set P s.views id w record { encounter = λ _. refl; stage = tt; claims = mine.claims; notes = tt; old = tt } (λ j u _. r.each j u))
-          (gone-set s.views r.holder id v w at (λ x. x))),
+          (hands-set s.views r.holder id v w at (λ x. x))),
       (refl, record { legal = legal-begins (air_of e) (sight-newer r.journal r.calls r.reach c.seen b (newer c.seen b) pick a_fits b_fits).0 r.state.legal; first = longer.0; second = longer.1; own = mine.claims.0.1 ∙ sym mine.old }),
     )

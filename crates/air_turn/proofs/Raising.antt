@@ -6,7 +6,7 @@ use native.Mathlib.Decide.{dec_le}
 use lib.ListN.{get_elem?}
 use Rattle.acas_base.specs.Encounter.{Parts}
 use Rattle.acas_base.specs.declared.entry.Entry.{Entry}
-use Rattle.air_journal.specs.States.{State}
+use Rattle.air_journal.specs.States.{IsJournalOf, State}
 use Rattle.air_rules.specs.Journal.{Begins, entries_of, more, whole}
 use Rattle.air_rules.proofs.Beginnings.{begins-on}
 use Rattle.air_rules.proofs.OwnEntries.{keeps-others}
@@ -18,7 +18,7 @@ use Rattle.air_turn.specs.declared.view.Knowledge.{Knowledge}
 use Rattle.air_turn.specs.declared.view.Seen.{Seen}
 use Rattle.air_turn.specs.declared.view.Stage.{Stage}
 use Rattle.air_turn.specs.declared.view.Stage.TheVariants.{Idle, Waits, Holds}
-use Rattle.air_turn.specs.Rule.{ClaimsFit, Fits, Grows, HoldsThroughout, IsState, NotesFit, OldFits, SeenFits, StageFits, adds, has, knowledge, made, stays, tops, waits, weigh}
+use Rattle.air_turn.specs.Rule.{ClaimsFit, Fits, Grows, HoldsThroughout, NotesFit, OldFits, SeenFits, StageFits, adds, has, knowledge, made, stays, tops, waits, weigh}
 use Rattle.air_turn.specs.Told.{TurnStep, called, holding, raised}
 use Rattle.air_turn.specs.Totals.{total, one}
 use Rattle.air_turn.proofs.Actives.{once-active}
@@ -106,7 +106,7 @@ stage-later journal now calls calls' reach reach' serving holder seat claims (Ho
 more-mod : (w n k : ℕ) → w ≡ n % 18446744073709551616 → (w + k) % 18446744073709551616 ≡ (n + k) % 18446744073709551616
 more-mod w n k e = omega arith
 
-pub raises : (e : Parts) (slots id : ℕ) (c : Claim) (k n : ℕ) (journal now : List Entry) (grew : ℕ) (hand : Option State) (st : TurnStep) → IsState e now → Grows c.own journal now grew
+pub raises : (e : Parts) (slots id : ℕ) (c : Claim) (k n : ℕ) (journal now : List Entry) (grew : ℕ) (hand : Option State) (st : TurnStep) → IsJournalOf e now → Grows c.own journal now grew
     → Allows (HoldsThroughout e) slots id (holding e c k journal n hand) LENGTH (λ x. (x + grew) % 18446744073709551616) (raised now st (holding e c k journal n hand))
 raises e slots id c k n journal now grew hand st state grows s r deep at small =
     let v = knowledge e (Holds k journal n) (c ∷ []) [] in
@@ -161,8 +161,8 @@ raises e slots id c k n journal now grew hand st state grows s r deep at small =
               notes = notes-later c.own r.journal now grew r.calls r.reach g u.notes f.notes;
               old = old-later c.own r.journal now grew r.calls r.reach g u.claims u.notes (not-theirs e s r id j v u c.own at there other (omega arith)) f.old;
             });
-        home = λ not. absurd (off (sym not));
-        gone = λ _. (w, set_here s.views id w (inside-list s.views id v at), tt);
+        in_table = λ not. absurd (off (sym not));
+        in_hands = λ _. (w, set_here s.views id w (inside-list s.views id v at), tt);
       },
       λ k' n' journal' stage'.
           let kk : k ≡ k' = cc (stage') in

@@ -6,22 +6,22 @@ use Rattle.std.specs.List.Sorted.{IsPermutation}
 use Rattle.std.specs.Prelude.{All}
 use Rattle.acas_base.specs.Encounter.{Parts}
 use Rattle.acas_base.specs.declared.entry.Entry.{Entry}
-use Rattle.air_journal.specs.States.{State}
+use Rattle.air_journal.specs.States.{IsJournalOf, State}
 use Rattle.atomic_table.specs.Seated.{TableId}
 use Rattle.atomic_table.specs.declared.shared.Seat.{Seat}
 use Rattle.craft_view.specs.Kept.{IsActive}
 use Rattle.air_turn.specs.declared.view.Claim.{Claim}
 use Rattle.air_turn.specs.declared.view.Knowledge.{Knowledge}
 use Rattle.air_turn.specs.declared.view.Stage.TheVariants.{Idle}
-use Rattle.air_turn.specs.Rule.{IsState, active_of, claim, fresh, knowledge}
+use Rattle.air_turn.specs.Rule.{active_of, claim, fresh, knowledge}
 use Rattle.air_turn.specs.Seats.{AreAllSeats, IsSeat, IsSeatOf, SeatState, SharedAir, first_seats, owns_of}
-use Rattle.air_turn.specs.Told.{Sitting, first, first_alone, resting, without_first}
+use Rattle.air_turn.specs.Told.{KnownAndHeld, first, first_alone, resting, without_first}
 use Rattle.air_turn.specs.Turns.{Rests, seat_of, seat_of_claim}
 
 -- A place with one claim is that of a seat.
 pub rests-as : (p : Seat (Option State) Knowledge) (e : Parts) (c : Claim) → p.me ≡ resting e c → IsSeat (seat_of_claim p.table_id e c) → Rests c.own p
 rests-as p e c is seat =
-    let Q : Sitting → Type 0 = λ y. (y ≡ resting y.0.encounter (first y.0.claims)) × (c.own ≡ (first y.0.claims).own) × IsSeat (seat_of_claim p.table_id y.0.encounter (first y.0.claims)) in
+    let Q : KnownAndHeld → Type 0 = λ y. (y ≡ resting y.0.encounter (first y.0.claims)) × (c.own ≡ (first y.0.claims).own) × IsSeat (seat_of_claim p.table_id y.0.encounter (first y.0.claims)) in
     let all = subst Q (sym is) (refl, refl, seat) in
     record { idle = all.0; own_is = all.1; seat = all.2 }
 
@@ -34,19 +34,19 @@ module _ (t : TableId) (e : Parts) (journal : List Entry) where
   next_claim owns i = claim (get_or owns i 0) 0 journal 0
 
   -- The place that has the claims of all aircraft from this one on.
-  abbrev pub has_from : List ℕ → ℕ → Sitting
+  abbrev pub has_from : List ℕ → ℕ → KnownAndHeld
   has_from owns i = (knowledge e Idle (fresh journal (drop i owns)) [], [])
 
-  pub next-fresh : (m : Sitting) (owns : List ℕ) (i : ℕ) → m ≡ has_from owns i → i < length owns → m ≡ (knowledge e Idle (next_claim owns i ∷ fresh journal (drop (i + 1) owns)) [], [])
+  pub next-fresh : (m : KnownAndHeld) (owns : List ℕ) (i : ℕ) → m ≡ has_from owns i → i < length owns → m ≡ (knowledge e Idle (next_claim owns i ∷ fresh journal (drop (i + 1) owns)) [], [])
   next-fresh m owns i is inside = is ∙ ap (λ ys. (knowledge e Idle (fresh journal ys) [], [])) (drop-cons owns i 0 inside ∙ ap (λ n. get_or owns i 0 ∷ drop n owns) (sym (add-one i)))
 
-  pub left-fresh : (m m' : Sitting) (owns : List ℕ) (i : ℕ) → m ≡ (knowledge e Idle (next_claim owns i ∷ fresh journal (drop (i + 1) owns)) [], []) → m' ≡ (without_first m.0, m.1) → m' ≡ has_from owns (i + 1)
-  left-fresh m m' owns i is to = to ∙ ap (λ (x : Sitting). (without_first x.0, x.1)) is
+  pub left-fresh : (m m' : KnownAndHeld) (owns : List ℕ) (i : ℕ) → m ≡ (knowledge e Idle (next_claim owns i ∷ fresh journal (drop (i + 1) owns)) [], []) → m' ≡ (without_first m.0, m.1) → m' ≡ has_from owns (i + 1)
+  left-fresh m m' owns i is to = to ∙ ap (λ (x : KnownAndHeld). (without_first x.0, x.1)) is
 
-  pub right-fresh : (m m' : Sitting) (owns : List ℕ) (i : ℕ) → m ≡ (knowledge e Idle (next_claim owns i ∷ fresh journal (drop (i + 1) owns)) [], []) → m' ≡ (first_alone m.0, []) → m' ≡ resting e (next_claim owns i)
-  right-fresh m m' owns i is to = to ∙ ap (λ (x : Sitting). (first_alone x.0, [])) is
+  pub right-fresh : (m m' : KnownAndHeld) (owns : List ℕ) (i : ℕ) → m ≡ (knowledge e Idle (next_claim owns i ∷ fresh journal (drop (i + 1) owns)) [], []) → m' ≡ (first_alone m.0, []) → m' ≡ resting e (next_claim owns i)
+  right-fresh m m' owns i is to = to ∙ ap (λ (x : KnownAndHeld). (first_alone x.0, [])) is
 
-  pub first-seat : (own : ℕ) → IsState e journal → IsActive e own → IsSeat (seat_of_claim t e (claim own 0 journal 0))
+  pub first-seat : (own : ℕ) → IsJournalOf e journal → IsActive e own → IsSeat (seat_of_claim t e (claim own 0 journal 0))
   first-seat own state active = record { valid = state.valid; inside = state.inside; active = active; legal = state.legal }
 
   pub seated-more : (seats after : List SeatState) (seat : SeatState) (owns : List ℕ) (i : ℕ) → i < length owns → seats ++ first_seats t e journal (drop i owns) ≡ first_seats t e journal owns

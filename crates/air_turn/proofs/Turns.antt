@@ -16,7 +16,7 @@ use Rattle.air_turn.specs.declared.view.Knowledge.{Knowledge}
 use Rattle.air_turn.specs.declared.view.Stage.{Stage}
 use Rattle.air_turn.specs.declared.view.Stage.TheVariants.{Idle, Waits, Holds}
 use Rattle.air_turn.specs.Rule.{Fits, HoldsThroughout, IsHolding, IsServed, StageFits, has, knowledge, made, serving_word, state_of, tops, waits, weigh}
-use Rattle.air_turn.specs.Told.{Sitting, TurnStep, drew, gave, holding, looked, resting, waiting}
+use Rattle.air_turn.specs.Told.{KnownAndHeld, TurnStep, drew, gave, holding, looked, resting, waiting}
 use Rattle.air_turn.specs.Totals.{total, one}
 use Rattle.air_turn.specs.Turns.{ticket_of}
 use Rattle.air_turn.proofs.Actives.{few-active}
@@ -43,9 +43,9 @@ inside-list (x ∷ xs) zero a e = omega arith
 inside-list (x ∷ xs) (suc i) a e = let rest = inside-list xs i a e in omega arith
 
 -- who holds the state still does, where a knowledge that does not hold it has changed
-pub gone-set : (views : List Knowledge) (holder me : ℕ) (v w : Knowledge) → get_elem? views me ≡ some v → ¬ IsHolding v.stage → (u : Knowledge) × (get_elem? views holder ≡ some u) × IsHolding u.stage
+pub hands-set : (views : List Knowledge) (holder me : ℕ) (v w : Knowledge) → get_elem? views me ≡ some v → ¬ IsHolding v.stage → (u : Knowledge) × (get_elem? views holder ≡ some u) × IsHolding u.stage
     → (u : Knowledge) × (get_elem? (set views me w) holder ≡ some u) × IsHolding u.stage
-gone-set views holder me v w at free (u, there, holds) = dite (ℕ_discrete holder me)
+hands-set views holder me v w at free (u, there, holds) = dite (ℕ_discrete holder me)
     (λ e. absurd (free (subst (λ (x : Knowledge). IsHolding x.stage) (some-injective u v (sym there ∙ (ap (get_elem? views) e ∙ at))) holds)))
     (λ ne. (u, set_else views me holder w ne ∙ there, holds))
 
@@ -84,8 +84,8 @@ draws e slots id c st s r deep at small =
         rises = r.rises;
         reached = r.reached;
         each = each-set (Fits r.journal r.calls r.reach e r.serving r.away r.holder) s.views id w record { encounter = λ _. refl; stage = refl; claims = mine.claims; notes = tt; old = tt } (λ j u _. r.each j u);
-        home = r.home;
-        gone = λ a. gone-set s.views r.holder id v w at (λ x. x) (r.gone a);
+        in_table = r.in_table;
+        in_hands = λ a. hands-set s.views r.holder id v w at (λ x. x) (r.in_hands a);
       },
       (r.drawn, sym r.ticket_word, refl),
     )
@@ -129,20 +129,20 @@ holding-has journal calls reach serving away holder seat claims Idle f h = absur
 holding-has journal calls reach serving away holder seat claims (Waits k) f h = absurd h
 holding-has journal calls reach serving away holder seat claims (Holds k g n) f h = let same = f.3 in omega arith
 
--- while a seat with the ticket that is served waits, the state is at home
-at-home : (e : Parts) (s : TurnState) (r : HoldsThroughout e s) (id : ℕ) (v : Knowledge) → get_elem? s.views id ≡ some v → ¬ IsHolding v.stage → has r.serving v.stage ≡ 1 → r.away ≡ false
-at-home e s r id v at free mine = by-away r.away refl
+-- while a seat with the ticket that is served waits, the state is in the table
+in-table : (e : Parts) (s : TurnState) (r : HoldsThroughout e s) (id : ℕ) (v : Knowledge) → get_elem? s.views id ≡ some v → ¬ IsHolding v.stage → has r.serving v.stage ≡ 1 → r.away ≡ false
+in-table e s r id v at free mine = by-away r.away refl
   where
     by-away : (b : Bool) → r.away ≡ b → r.away ≡ false
     by-away false is = is
     by-away true is =
-        let u = r.gone is in
+        let u = r.in_hands is in
         let theirs = holding-has r.journal r.calls r.reach r.serving r.away r.holder r.holder (length u.0.claims) u.0.stage (r.each r.holder u.0 u.1).stage u.2 in
         dite (ℕ_discrete r.holder id)
         (λ eq. absurd (free (subst (λ (x : Knowledge). IsHolding x.stage) (some-injective u.0 v (sym u.1 ∙ (ap (get_elem? s.views) eq ∙ at))) u.2)))
         (λ ne. let both = pair-le (λ (x : Knowledge). has r.serving x.stage) s.views r.holder id u.0 v ne u.1 at in let o = r.out r.serving in absurd (omega arith))
 
--- spent holds the state while it is at home
+-- spent holds the state while it is in the table
 stage-away : (journal : List Entry) (calls : ℕ) (reach : ℕ → ℕ) (serving : ℕ) (away : Bool) (holder to seat claims : ℕ) (g : Stage) → away ≡ false → StageFits journal calls reach serving away holder seat claims g → StageFits journal calls reach serving true to seat claims g
 stage-away journal calls reach serving away holder to seat claims Idle home f = f
 stage-away journal calls reach serving away holder to seat claims (Waits k) home f = f
@@ -151,7 +151,7 @@ stage-away journal calls reach serving away holder to seat claims (Holds k g n) 
 same-stepped : (s : TurnState) (id i : ℕ) (cs : List (ℕ × Option State)) (v : Knowledge) → get_elem? s.views id ≡ some v → stepped s i (get_or s.words i 0) id cs v keeps ≡ s
 same-stepped s id i cs v at k = record { words = set-get_or s.words i 0 k; homes = s.homes; views = set_again s.views id v at k }
 
-abbrev Goes : Parts → TurnState → ℕ → Sitting → ℕ → ℕ → (ℕ → Sitting → Type 0) → Type 0
+abbrev Goes : Parts → TurnState → ℕ → KnownAndHeld → ℕ → ℕ → (ℕ → KnownAndHeld → Type 0) → Type 0
 Goes e s id me i n told = (w : Knowledge) × (a : Act (Option State)) × Valid s.homes me.1 a × HoldsThroughout e (stepped s i n id me.1 w a) × told (get_or s.words i 0) (w, carried_after me.1 a)
 
 takes-turn : (e : Parts) (id : ℕ) (c : Claim) (k : ℕ) (st : TurnStep) (s : TurnState) (r : HoldsThroughout e s) → get_elem? s.views id ≡ some (knowledge e (Waits k) (c ∷ []) []) → get_or s.words (serving_word k) 0 ≡ k % 18446744073709551616
@@ -166,8 +166,8 @@ takes-turn e id c k st s r at served =
     let few = few-out e s r in
     let i = serving_word k in
     let is : r.serving ≡ k = served-only s.words r.serving k r.served out.0 (omega arith) served in
-    let home = at-home e s r id v at (λ x. x) (subst (λ t. one t k ≡ 1) (sym is) (has-own k)) in
-    let here = r.home home in (
+    let home = in-table e s r id v at (λ x. x) (subst (λ t. one t k ≡ 1) (sym is) (has-own k)) in
+    let here = r.in_table home in (
       w,
       takes 0 x,
       here,
@@ -194,8 +194,8 @@ takes-turn e id c k st s r at served =
         reached = r.reached;
         each = each-set (Fits r.journal r.calls r.reach e r.serving true id) s.views id w record { encounter = λ _. refl; stage = (refl, refl, refl, sym is, refl, refl); claims = mine.claims; notes = tt; old = tt }
             (λ j u other there. let f = r.each j u there in record { encounter = f.encounter; stage = stage-away r.journal r.calls r.reach r.serving r.away r.holder id j (length u.claims) u.stage home f.stage; claims = f.claims; notes = f.notes; old = f.old });
-        home = λ not. absurd (off (sym not));
-        gone = λ _. (w, set_here s.views id w (inside-list s.views id v at), tt);
+        in_table = λ not. absurd (off (sym not));
+        in_hands = λ _. (w, set_here s.views id w (inside-list s.views id v at), tt);
       },
       λ k' same. (
         (λ _. (r.journal, r.calls, (λ i. (knowledge e (Holds (ap ticket_of same i) r.journal r.calls) (c ∷ []) [], (0, x) ∷ [])), record { state = r.state; front = fits.0.0; own = fits.1; count = fits.0.1 })),
@@ -261,8 +261,8 @@ gives-on e slots id c k n journal st s r deep at small =
               notes = f.notes;
               old = f.old;
             });
-        home = λ _. set_here s.homes 0 (some y) (omega arith) ∙ ap (λ l. some (some (Some (state_of e l)))) same;
-        gone = λ not. absurd (off not);
+        in_table = λ _. set_here s.homes 0 (some y) (omega arith) ∙ ap (λ l. some (some (Some (state_of e l)))) same;
+        in_hands = λ not. absurd (off not);
       },
       refl,
     )

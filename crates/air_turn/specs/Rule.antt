@@ -5,16 +5,14 @@ use Rattle.std.specs.Prelude.{◌≡◌, ◌≢◌, ℕ, ◌+◌, ◌%◌, ◌<�
 use Rattle.std.specs.List.{range_with_len}
 use mathlib.Core.Option.{some}
 use lib.ListN.{get_elem?}
-use Rattle.acas_base.specs.Encounter.{IsEncounter, Parts}
+use Rattle.acas_base.specs.Encounter.{Parts}
 use Rattle.acas_base.specs.declared.TheConstants.{CRAFTS}
 use Rattle.acas_base.specs.declared.entry.Entry.{Entry}
 use Rattle.air_journal.specs.Airs.{air_of}
-use Rattle.air_journal.specs.States.{State}
+use Rattle.air_journal.specs.States.{IsJournalOf, State}
 use Rattle.air_rules.specs.Air.{is_active}
 use Rattle.air_rules.specs.Journal.{Begins, entries_of, owner_of}
-use Rattle.air_rules.specs.Rules.{IsLegal}
 use Rattle.atomic_table.specs.Table.{State as TableState}
-use Rattle.flight.specs.Inside.{IsInside}
 use Rattle.air_turn.specs.declared.view.TheConstants.{LENGTH, SERVING, TICKETS, WORDS}
 use Rattle.air_turn.specs.declared.view.Claim.{Claim}
 use Rattle.air_turn.specs.declared.view.Knowledge.{Knowledge}
@@ -25,12 +23,6 @@ use Rattle.air_turn.specs.Totals.{total, one, between}
 
 abbrev pub state_of : Parts → List Entry → State
 state_of e journal = record { encounter = e; journal = journal }
-
--- An encounter inside the box, and a legal journal of it.
-pub record IsState (e : Parts) (journal : List Entry) : Type 0 where
-  pub valid : IsEncounter e
-  pub inside : IsInside e
-  pub legal : IsLegal (air_of e) journal
 
 -- The indices of the active aircraft, in order.
 unfoldable pub active_of : Parts → List ℕ
@@ -156,7 +148,7 @@ pub record HoldsThroughout (e : Parts) (s : TableState (Option State) Knowledge)
   pub ticket_word : slice_index s.words TICKETS ≡ drawn % 18446744073709551616
   pub length_word : slice_index s.words LENGTH ≡ length journal % 18446744073709551616
   pub served : IsServed s.words serving
-  pub state : IsState e journal
+  pub state : IsJournalOf e journal
   -- Each active aircraft has one claim.
   pub owned : (h : ℕ → ℕ) → total (weigh h) s.views ≡ total h (active_of e)
   -- The calls are those that the seats have made.
@@ -169,5 +161,5 @@ pub record HoldsThroughout (e : Parts) (s : TableState (Option State) Knowledge)
   pub rises : (m n : ℕ) → m ≤ n → reach m ≤ reach n
   pub reached : reach calls ≡ length journal
   pub each : (seat : ℕ) (v : Knowledge) → get_elem? s.views seat ≡ some v → Fits journal calls reach e serving away holder seat v
-  pub home : away ≡ false → get_elem? s.homes 0 ≡ some (some (Some (state_of e journal)))
-  pub gone : away ≡ true → (v : Knowledge) × (get_elem? s.views holder ≡ some v) × IsHolding v.stage
+  pub in_table : away ≡ false → get_elem? s.homes 0 ≡ some (some (Some (state_of e journal)))
+  pub in_hands : away ≡ true → (v : Knowledge) × (get_elem? s.views holder ≡ some v) × IsHolding v.stage

@@ -3,7 +3,7 @@ use Rattle.std.specs.Prelude.{◌≡◌, ◌≢◌, ℕ, ◌+◌, ◌%◌, ◌�
 use Rattle.acas_base.specs.Encounter.{Parts, encounter_of}
 use Rattle.acas_base.specs.declared.entry.Entry.{Entry}
 use Rattle.air_journal.specs.Airs.{air_of}
-use Rattle.air_journal.specs.States.{State}
+use Rattle.air_journal.specs.States.{IsJournalOf, State}
 use Rattle.air_rules.specs.Journal.{Begins, entries_of}
 use Rattle.air_rules.specs.Rules.{IsLegal}
 use Rattle.atomic_table.specs.Table.{Me, Step}
@@ -12,28 +12,28 @@ use Rattle.air_turn.specs.declared.view.Knowledge.{Knowledge}
 use Rattle.air_turn.specs.declared.view.Seen.{Seen}
 use Rattle.air_turn.specs.declared.view.Stage.{Stage}
 use Rattle.air_turn.specs.declared.view.Stage.TheVariants.{Idle, Waits, Holds}
-use Rattle.air_turn.specs.Rule.{IsState, claim, knowledge, seen, state_of}
+use Rattle.air_turn.specs.Rule.{claim, knowledge, seen, state_of}
 
 abbrev pub TurnStep : Type 0
 TurnStep = Step (Option State)
 
 -- What a seat knows, and what it holds.
-abbrev pub Sitting : Type 0
-Sitting = Me (Option State) Knowledge
+abbrev pub KnownAndHeld : Type 0
+KnownAndHeld = Me (Option State) Knowledge
 
 -- The seat of one aircraft between two calls; with a ticket; with the turn.
-abbrev pub resting : Parts → Claim → Sitting
+abbrev pub resting : Parts → Claim → KnownAndHeld
 resting e c = (knowledge e Idle (c ∷ []) [], [])
 
-abbrev pub waiting : Parts → Claim → ℕ → Sitting
+abbrev pub waiting : Parts → Claim → ℕ → KnownAndHeld
 waiting e c k = (knowledge e (Waits k) (c ∷ []) [], [])
 
-abbrev pub holding : Parts → Claim → ℕ → List Entry → ℕ → Option State → Sitting
+abbrev pub holding : Parts → Claim → ℕ → List Entry → ℕ → Option State → KnownAndHeld
 holding e c k journal n x = (knowledge e (Holds k journal n) (c ∷ []) [], (0, x) ∷ [])
 
 -- What the seat sees of the journal when its turn has come.
 pub record Sees (e : Parts) (c : Claim) (journal : List Entry) (n : ℕ) : Type 0 where
-  pub state : IsState e journal
+  pub state : IsJournalOf e journal
   pub front : Begins c.seen.front journal
   pub own : entries_of c.seen.front c.own ≡ entries_of journal c.own
   pub count : c.seen.count ≤ n
@@ -50,23 +50,23 @@ first [] = claim 0 0 [] 0
 first (c ∷ cs) = c
 
 -- The seat drew a ticket.
-abbrev pub drew : TurnStep → Sitting → ℕ → Sitting → Type 0
+abbrev pub drew : TurnStep → KnownAndHeld → ℕ → KnownAndHeld → Type 0
 drew st m r m' = (k : ℕ) × (k % 18446744073709551616 ≡ r) × (m' ≡ (staged m.0 (Waits k), m.1))
 
 -- A look at the serving word of the seat's ticket. Where the ticket's number stands there, the seat has the turn and
 -- the state. Else nothing changes.
-abbrev pub looked : TurnStep → Sitting → ℕ → Sitting → Type 0
+abbrev pub looked : TurnStep → KnownAndHeld → ℕ → KnownAndHeld → Type 0
 looked st m r m' = (k : ℕ) → m.0.stage ≡ Waits k
     → (r ≡ k % 18446744073709551616 → (journal : List Entry) × (n : ℕ) × (m' ≡ (staged m.0 (Holds k journal n), (0, Some (state_of m.0.encounter journal)) ∷ m.1)) × Sees m.0.encounter (first m.0.claims) journal n)
     × (r ≢ k % 18446744073709551616 → m' ≡ m)
 
 -- The call was counted. The seat has seen the journal after the call.
-abbrev pub raised : List Entry → TurnStep → Sitting → ℕ → Sitting → Type 0
+abbrev pub raised : List Entry → TurnStep → KnownAndHeld → ℕ → KnownAndHeld → Type 0
 raised now st m r m' = (k n : ℕ) (journal : List Entry) → m.0.stage ≡ Holds k journal n
     → m' ≡ (knowledge m.0.encounter (Holds k now (n + 1)) (called (first m.0.claims) now (n + 1) ∷ []) [], m.1)
 
 -- The seat gave the turn to the next ticket.
-abbrev pub gave : TurnStep → Sitting → ℕ → Sitting → Type 0
+abbrev pub gave : TurnStep → KnownAndHeld → ℕ → KnownAndHeld → Type 0
 gave st m r m' = m' ≡ (staged m.0 Idle, [])
 
 abbrev pub rest_of : List Claim → List Claim
@@ -119,6 +119,6 @@ pub record Knows (e : Parts) (craft : ℕ) (now a b : List Entry) : Type 0 where
   pub own : entries_of now craft ≡ entries_of a craft
 
 -- A look at the table confirmed what the seat now knows.
-abbrev pub confirmed : TurnStep → Sitting → ℕ → Sitting → Type 0
+abbrev pub confirmed : TurnStep → KnownAndHeld → ℕ → KnownAndHeld → Type 0
 confirmed st m r m' = (m' ≡ (knowledge m.0.encounter m.0.stage m.0.claims [], m.1))
     × Knows m.0.encounter (first m.0.claims).own (first m.0.claims).seen.front (first_note m.0.notes).front (first_note (rest_notes m.0.notes)).front

@@ -2,7 +2,7 @@
 use Rattle.std.specs.Prelude.{◌≡◌, ℕ, ◌+◌, ◌%◌, List, [], map, Option, None}
 use Rattle.acas_base.specs.Encounter.{IsEncounter, Parts}
 use Rattle.acas_base.specs.declared.entry.Entry.{Entry}
-use Rattle.air_journal.specs.States.{State}
+use Rattle.air_journal.specs.States.{IsJournalOf, State}
 use Rattle.air_journal.specs.declared.answers.Commit.{Commit}
 use Rattle.air_journal.specs.declared.answers.Commit.TheVariants as commit
 use Rattle.air_journal.specs.declared.answers.Sent.{Sent}
@@ -16,9 +16,9 @@ use Rattle.air_turn.specs.declared.view.Claim.{Claim}
 use Rattle.air_turn.specs.declared.view.Knowledge.{Knowledge}
 use Rattle.air_turn.specs.declared.view.Stage.{Stage}
 use Rattle.air_turn.specs.declared.view.Stage.TheVariants.{Idle, Waits, Holds}
-use Rattle.air_turn.specs.Rule.{Grows, IsState, knowledge}
+use Rattle.air_turn.specs.Rule.{Grows, knowledge}
 use Rattle.air_turn.specs.Seats.{IsSeat, SeatState}
-use Rattle.air_turn.specs.Told.{Sees, Sitting, called, first, holding, resting}
+use Rattle.air_turn.specs.Told.{Sees, KnownAndHeld, called, first, holding, resting}
 
 abbrev pub seat_of_claim : TableId → Parts → Claim → SeatState
 seat_of_claim table e c = record { table = table; own = c.own; encounter = e; front = c.seen.front; made = c.made; count = c.seen.count }
@@ -52,11 +52,11 @@ calls_of (Holds k journal n) = n
 calls_of _ = 0
 
 -- The number of the seat's ticket, as a word of the table has it.
-abbrev pub HasTicket : Sitting → ℕ → Type 0
+abbrev pub HasTicket : KnownAndHeld → ℕ → Type 0
 HasTicket m ticket = ticket ≡ ticket_of m.0.stage % 18446744073709551616
 
 -- The seat has the turn, and has taken the state out of its slot.
-pub record HasTurn (old new : Sitting) (drawn : ℕ) (state : State) : Type 0 where
+pub record HasTurn (old new : KnownAndHeld) (drawn : ℕ) (state : State) : Type 0 where
   pub ticket : ℕ
   pub calls : ℕ
   pub drawn_is : drawn ≡ ticket % 18446744073709551616
@@ -65,18 +65,18 @@ pub record HasTurn (old new : Sitting) (drawn : ℕ) (state : State) : Type 0 wh
   pub sees : Sees old.0.encounter (first old.0.claims) state.journal calls
 
 -- The seat has the turn and the state. The state's journal has grown from the journal of the turn.
-pub record GoneOn (m : Sitting) (state : State) (grew : ℕ) : Type 0 where
+pub record GoneOn (m : KnownAndHeld) (state : State) (grew : ℕ) : Type 0 where
   pub turn : m ≡ holding m.0.encounter (first m.0.claims) (ticket_of m.0.stage) (journal_of m.0.stage) (calls_of m.0.stage) None
   pub encounter : state.encounter ≡ m.0.encounter
-  pub stays_a_state : IsState state.encounter state.journal
+  pub stays_a_state : IsJournalOf state.encounter state.journal
   pub grows : Grows (first m.0.claims).own (journal_of m.0.stage) state.journal grew
 
 -- The claim of the seat after this turn.
-abbrev pub claim_after : Sitting → State → Claim
+abbrev pub claim_after : KnownAndHeld → State → Claim
 claim_after m state = called (first m.0.claims) state.journal (calls_of m.0.stage + 1)
 
 -- The call has ended, and the seat still has the turn.
-pub record Ended (old : Sitting) (state : State) (new : Sitting) : Type 0 where
+pub record Ended (old : KnownAndHeld) (state : State) (new : KnownAndHeld) : Type 0 where
   pub new_is : new ≡ holding old.0.encounter (claim_after old state) (ticket_of old.0.stage) state.journal (calls_of old.0.stage + 1) None
 
 -- How many entries a call has added to the journal.
@@ -93,6 +93,6 @@ take_growth (took.Done position good) = 1
 take_growth took.Nothing = 0
 
 -- The place at the table that took over the claims of all these seats.
-pub record Gathers (table : TableId) (m : Sitting) (seats : List SeatState) : Type 0 where
+pub record Gathers (table : TableId) (m : KnownAndHeld) (seats : List SeatState) : Type 0 where
   pub idle : m ≡ (knowledge m.0.encounter Idle m.0.claims [], [])
   pub all : map (seat_of_claim table m.0.encounter) m.0.claims ≡ seats

@@ -1,7 +1,8 @@
 // The shared journal is opened.
 ghost use Rattle.std.specs.Prelude.{◌≡◌, [], All, IfOk};
 ghost use Rattle.acas_base.specs.Encounter.{IsEncounter};
-ghost use Rattle.air_turn.specs.Rule.{IsState, active_of, at_start};
+ghost use Rattle.air_turn.specs.Rule.{active_of, at_start};
+ghost use Rattle.air_journal.specs.States.{IsJournalOf};
 ghost use Rattle.air_turn.specs.Seats.{AreAllSeats, first_seats};
 ghost use Rattle.craft_view.specs.Kept.{IsActive};
 
@@ -65,7 +66,7 @@ impl Air {
         requires place { place.me ≡ (at_start about.now.value, []) }
         requires owns { owns.now ≡ active_of about.now.value.encounter }
         requires active { All (IsActive about.now.value.encounter) owns.now }
-        requires state { IsState about.now.value.encounter about.now.value.journal }
+        requires state { IsJournalOf about.now.value.encounter about.now.value.journal }
         ensures { IfOk result (λ seats. seats.items ≡ first_seats self.now.table about.now.value.encounter about.now.value.journal owns.now) }
     {
         let mut seats = Vec::with_capacity(alloc, owns.len())?;

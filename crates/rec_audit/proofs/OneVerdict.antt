@@ -44,10 +44,10 @@ lined : (bytes : List ℕ) (state : State) → IsRecordingOf bytes state → Lin
 lined bytes state r =
     let e = state.encounter in
     let J = state.journal in
-    let few : length J ≤ MOST_TOLD = (let f = fits e J r.encounter r.legal in let g = most-few e r.encounter in omega arith) in
+    let few : length J ≤ MOST_TOLD = (let f = fits e J r.is_journal.valid r.is_journal.legal in let g = most-few e r.is_journal.valid in omega arith) in
     record {
-      opens = record { encounter = r.encounter; inside = r.inside; told = few; begins = ap lines_of r.bytes_are ∙ split-joined (recording_lines e J) (recording-whole e J r.encounter r.legal) };
-      all = record { replays = record { legal = r.legal; begins = refl }; count_is = refl; complete = r.complete };
+      opens = record { encounter = r.is_journal.valid; inside = r.is_journal.inside; told = few; begins = ap lines_of r.bytes_are ∙ split-joined (recording_lines e J) (recording-whole e J r.is_journal.valid r.is_journal.legal) };
+      all = record { replays = record { legal = r.is_journal.legal; begins = refl }; count_is = refl; complete = r.complete };
     }
 
 recording-right : (bytes : List ℕ) (state : State) (l : ℕ) (r : Reason) → IsSaid → IsRecordingOf bytes state → IsWrong (lines_of bytes) l r → ⊥
@@ -55,7 +55,7 @@ recording-right bytes state l r said is (at_opening w) = opening-right state.enc
 recording-right bytes state l r said is (after_opening {e = f} {count = N} {rest = t} o w) =
     let it = lined bytes state is in
     let one = opens-once f state.encounter N (length state.journal) (lines_of bytes) t _ said o it.opens in
-    after-right state.encounter (length state.journal) l r _ state.journal (has-lines state.encounter is.encounter) it.all
+    after-right state.encounter (length state.journal) l r _ state.journal (has-lines state.encounter is.is_journal.valid) it.all
     (subst (λ x. IsWrongAfter state.encounter (length state.journal) x l r) one.rest (subst (λ n. IsWrongAfter state.encounter n t l r) one.count (subst (λ (g : Parts). IsWrongAfter g N t l r) one.encounter w)))
 
 wrong-once : (lines : List (List ℕ)) (l m : ℕ) (r s : Reason) → IsSaid → IsWrong lines l r → IsWrong lines m s → (l ≡ m) × (r ≡ s)
@@ -68,7 +68,7 @@ wrong-once lines l m r s said (after_opening {e = e} {count = M} {rest = t} o w)
     (subst (λ x. IsWrongAfter f N x l r) one.rest (subst (λ n. IsWrongAfter f n t l r) one.count (subst (λ (g : Parts). IsWrongAfter g M t l r) one.encounter w))) v
 
 told : (bytes : List ℕ) (state : State) → IsSaid → IsRecordingOf bytes state → IsTold state.encounter state.journal
-told bytes state said r = record { valid = r.encounter; says = said state.encounter r.encounter r.inside; legal = r.legal }
+told bytes state said r = record { valid = r.is_journal.valid; says = said state.encounter r.is_journal.valid r.is_journal.inside; legal = r.is_journal.legal }
 
 state-same : (s t : State) → s.encounter ≡ t.encounter → s.journal ≡ t.journal → s ≡ t
 state-same s t a b = ap₂ (λ (e : Parts) (J : List Entry). let x : State = record { encounter = e; journal = J } in x) a b
@@ -111,20 +111,20 @@ first-whole e N J is few legal =
 
 begun : (bytes : List ℕ) (state : State) → (b : IsBeginningOf bytes state) → Opens state.encounter b.count (lines_of bytes) (entry_lines (length state.encounter.crafts) state.journal)
 begun bytes state b = record {
-  encounter = b.encounter;
-  inside = b.inside;
+  encounter = b.is_journal.valid;
+  inside = b.is_journal.inside;
   told = b.told;
-  begins = ap lines_of b.bytes_are ∙ split-joined (first_lines state.encounter b.count state.journal) (first-whole state.encounter b.count state.journal b.encounter b.told b.legal);
+  begins = ap lines_of b.bytes_are ∙ split-joined (first_lines state.encounter b.count state.journal) (first-whole state.encounter b.count state.journal b.is_journal.valid b.told b.is_journal.legal);
 }
 
 first-all : (bytes : List ℕ) (state : State) → (b : IsBeginningOf bytes state) → ReplayedFirst state.encounter (entry_lines (length state.encounter.crafts) state.journal) b.count state.journal
-first-all bytes state b = record { replays = record { legal = b.legal; begins = sym (append-nil (entry_lines (length state.encounter.crafts) state.journal)) }; within = b.within }
+first-all bytes state b = record { replays = record { legal = b.is_journal.legal; begins = sym (append-nil (entry_lines (length state.encounter.crafts) state.journal)) }; within = b.within }
 
 part-right : (bytes : List ℕ) (state : State) (l : ℕ) (r : Reason) → IsSaid → IsBeginningOf bytes state → IsWrongInPart (lines_of bytes) l r → ⊥
 part-right bytes state l r said b (at_opening_of_part w) = opening-right state.encounter b.count l r (lines_of bytes) _ said (begun bytes state b) w
 part-right bytes state l r said b (after_opening_of_part {e = f} {count = N} {rest = t} o w) =
     let one = opens-once f state.encounter N b.count (lines_of bytes) t _ said o (begun bytes state b) in
-    beginning-right state.encounter b.count l r _ state.journal (has-lines state.encounter b.encounter) (first-all bytes state b)
+    beginning-right state.encounter b.count l r _ state.journal (has-lines state.encounter b.is_journal.valid) (first-all bytes state b)
     (subst (λ x. IsWrongBeginning state.encounter b.count x l r) one.rest (subst (λ n. IsWrongBeginning state.encounter n t l r) one.count (subst (λ (g : Parts). IsWrongBeginning g N t l r) one.encounter w)))
 
 part-wrong-once : (lines : List (List ℕ)) (l m : ℕ) (r s : Reason) → IsSaid → IsWrongInPart lines l r → IsWrongInPart lines m s → (l ≡ m) × (r ≡ s)
@@ -144,7 +144,7 @@ journals-once e f J K r s M N same rest is a b =
 beginning-same : (bytes : List ℕ) (s t : State) → IsSaid → IsBeginningOf bytes s → IsBeginningOf bytes t → s ≡ t
 beginning-same bytes s t said a b =
     let one = opens-once s.encounter t.encounter a.count b.count (lines_of bytes) _ _ said (begun bytes s a) (begun bytes t b) in
-    state-same s t one.encounter (journals-once s.encounter t.encounter s.journal t.journal _ _ a.count b.count one.encounter one.rest b.encounter (first-all bytes s a) (first-all bytes t b))
+    state-same s t one.encounter (journals-once s.encounter t.encounter s.journal t.journal _ _ a.count b.count one.encounter one.rest b.is_journal.valid (first-all bytes s a) (first-all bytes t b))
 
 pub part-once : (bytes : List ℕ) (v w : Loaded) → IsSaid → IsPartLoaded bytes v → IsPartLoaded bytes w → v ≡ w
 part-once bytes (loaded.Legal s) (loaded.Legal t) said a b = ap loaded.Legal (beginning-same bytes s t said a b)

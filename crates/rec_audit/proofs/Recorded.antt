@@ -28,9 +28,7 @@ recorded-lines e count J lines rest is r =
 
 pub recorded : (bytes : List ℕ) (e : Parts) (count : ℕ) (after : Cursor) (state : State) → IsOpened (lines_of bytes) e count after → state.encounter ≡ e → ReplayedAll e after.left count state.journal → IsRecordingOf bytes state
 recorded bytes e count after state o same r = subst (λ f. IsRecordingOf bytes (let s : State = record { encounter = f; journal = state.journal } in s)) (sym same) (record {
-  encounter = o.opens.encounter;
-  inside = o.opens.inside;
-  legal = r.replays.legal;
+  is_journal = record { valid = o.opens.encounter; inside = o.opens.inside; legal = r.replays.legal };
   complete = r.complete;
   bytes_are = sym (joined-split bytes) ∙ ap joined (recorded-lines e count state.journal (lines_of bytes) after.left o.opens.begins r);
 })
@@ -39,9 +37,7 @@ recorded bytes e count after state o same r = subst (λ f. IsRecordingOf bytes (
 
 pub first-recorded : (bytes : List ℕ) (e : Parts) (count : ℕ) (after : Cursor) (state : State) → IsOpened (lines_of bytes) e count after → state.encounter ≡ e → ReplayedFirst e after.left count state.journal → IsBeginningOf bytes state
 first-recorded bytes e count after state o same r = subst (λ f. IsBeginningOf bytes (let s : State = record { encounter = f; journal = state.journal } in s)) (sym same) (record {
-  encounter = o.opens.encounter;
-  inside = o.opens.inside;
-  legal = r.replays.legal;
+  is_journal = record { valid = o.opens.encounter; inside = o.opens.inside; legal = r.replays.legal };
   count = count;
   told = o.opens.told;
   within = r.within;

@@ -1,14 +1,13 @@
 -- How a recording is judged.
 use Rattle.std.specs.Prelude.{◌≡◌, ℕ, ◌+◌, ◌<◌, ◌≤◌, List, [], ◌∷◌, ◌++◌, length}
-use Rattle.acas_base.specs.Encounter.{IsEncounter, Parts}
+use Rattle.acas_base.specs.Encounter.{Parts}
 use Rattle.acas_base.specs.declared.entry.Entry.{Entry}
 use Rattle.acas_lines.specs.Split.{lines_of}
 use Rattle.acas_lines.specs.Lines.{joined}
 use Rattle.air_journal.specs.Airs.{air_of}
-use Rattle.air_journal.specs.States.{State}
-use Rattle.air_rules.specs.Rules.{IsComplete, IsLegal}
+use Rattle.air_journal.specs.States.{IsJournalOf, State}
+use Rattle.air_rules.specs.Rules.{IsComplete}
 use Rattle.enc_file.specs.Canonical.{canonical_lines}
-use Rattle.flight.specs.Inside.{IsInside}
 use Rattle.rec_audit.specs.Differing.{DifferAt}
 use Rattle.rec_audit.specs.Opening.{IsWrongOpening, Opens, first_entry}
 use Rattle.rec_audit.specs.Replays.{Replays, StopsAt}
@@ -26,9 +25,7 @@ use Rattle.rec_text.specs.Recording.{closing_lines, head_line, journal_line, rec
 
 -- The bytes are the recording of an encounter inside the box and a legal and complete journal.
 pub record IsRecordingOf (bytes : List ℕ) (state : State) : Type 0 where
-  pub encounter : IsEncounter state.encounter
-  pub inside : IsInside state.encounter
-  pub legal : IsLegal (air_of state.encounter) state.journal
+  pub is_journal : IsJournalOf state.encounter state.journal
   pub complete : IsComplete (air_of state.encounter) state.journal
   pub bytes_are : bytes ≡ recording state.encounter state.journal
 
@@ -65,9 +62,7 @@ IsLoaded bytes (loaded.Wrong line reason) = IsWrong (lines_of bytes) line reason
 
 -- The bytes begin a recording. They end after the number of entries or after one of the entries.
 pub record IsBeginningOf (bytes : List ℕ) (state : State) : Type 0 where
-  pub encounter : IsEncounter state.encounter
-  pub inside : IsInside state.encounter
-  pub legal : IsLegal (air_of state.encounter) state.journal
+  pub is_journal : IsJournalOf state.encounter state.journal
   pub count : ℕ
   pub told : count ≤ MOST_TOLD
   pub within : length state.journal ≤ count

@@ -19,7 +19,7 @@ active : (c : After-len-position) → is_active (air_of c.self.inside.encounter)
 active c = active-is c.self.inside.encounter c.args.own (subst (λ (s : State). IsActive s.encounter c.args.own) (sym c.self.view_is) c.requires.active)
 
 own : (c : After-len-position) → c.args.own < CRAFTS
-own c = below-all c.self.inside.encounter c.self.invariant.whole.valid c.args.own (active c)
+own c = below-all c.self.inside.encounter c.self.invariant.whole.is_journal.valid c.args.own (active c)
 
 free : (c : After-len-position) → IsFree (air_of c.self.inside.encounter) c.self.inside.journal.entries c.args.own
 free c = subst (λ (s : State). IsFree (air_of s.encounter) s.journal c.args.own) (sym c.self.view_is) c.requires.free
@@ -31,7 +31,7 @@ few : (c : After-len-position) → (made_at c.self.inside.tables c.args.own).com
 few c =
     let n = count c in
     let left : commits c.self.inside.journal.entries c.args.own < c.self.inside.encounter.cycles = (free c).left in
-    let k : c.self.inside.encounter.cycles ≤ 600 = c.self.invariant.whole.valid.run.length.1 in
+    let k : c.self.inside.encounter.cycles ≤ 600 = c.self.invariant.whole.is_journal.valid.run.length.1 in
     omega arith
 
 fit : (c : After-next_cells-cells) → (p : After-len-position) → is_active (air_of c.self.inside.encounter) c.args.own ≡ true → IsFree (air_of c.self.inside.encounter) c.self.inside.journal.entries c.args.own → CommitFits c.self.inside.encounter c.self.inside.journal c.self.inside.tables c.args.own
@@ -49,7 +49,7 @@ pub overflow_add-cycle : goal.overflow_add-cycle
 overflow_add-cycle c = omega (arith, few (goal.at.overflow_add-cycle c).After-len-position, ap (λ m. m.commits) c.made-cycle.ensures)
 
 pub next_cells-cells-requires-clause-own : goal.next_cells-cells-requires-clause-own
-next_cells-cells-requires-clause-own c = below c.self.inside.encounter c.self.invariant.whole.valid c.args.own (active (goal.at.next_cells-cells-requires-clause-own c).After-len-position)
+next_cells-cells-requires-clause-own c = below c.self.inside.encounter c.self.invariant.whole.is_journal.valid c.args.own (active (goal.at.next_cells-cells-requires-clause-own c).After-len-position)
 
 pub next_cells-cells-requires-clause-made : goal.next_cells-cells-requires-clause-made
 next_cells-cells-requires-clause-made c = few (goal.at.next_cells-cells-requires-clause-made c).After-len-position

@@ -18,7 +18,7 @@ active : (c : After-self) → is_active (air_of c.self.inside.encounter) c.args.
 active c = active-is c.self.inside.encounter c.args.own (subst (λ (s : State). IsActive s.encounter c.args.own) (sym c.self.view_is) c.requires)
 
 own : (c : After-self) → c.args.own < CRAFTS
-own c = below-all c.self.inside.encounter c.self.invariant.whole.valid c.args.own (active c)
+own c = below-all c.self.inside.encounter c.self.invariant.whole.is_journal.valid c.args.own (active c)
 
 count : (c : After-made-made) → c.args.own < CRAFTS → c.made-made.result.commits ≡ commits c.self.inside.journal.entries c.args.own
 count c hi = ap (λ m. m.commits) c.made-made.ensures ∙ count-is c.self.invariant.whole c.args.own hi
@@ -32,7 +32,7 @@ returns-then-made-cycles c =
     subst (λ (s : State). commits s.journal c.args.own ≡ s.encounter.cycles) c.self.view_is e
 
 pub first_owed-requires : goal.first_owed-requires
-first_owed-requires c = below c.self.inside.encounter c.self.invariant.whole.valid c.args.own (active (goal.at.first_owed-requires c).After-self)
+first_owed-requires c = below c.self.inside.encounter c.self.invariant.whole.is_journal.valid c.args.own (active (goal.at.first_owed-requires c).After-self)
 
 pub returns-in-Some : goal.returns-in-Some
 returns-in-Some c =
@@ -47,7 +47,7 @@ pub first_due_to-requires-clause-own : goal.first_due_to-requires-clause-own
 first_due_to-requires-clause-own c = own (goal.at.first_due_to-requires-clause-own c).After-self
 
 pub first_due_to-requires-clause-ordered : goal.first_due_to-requires-clause-ordered
-first_due_to-requires-clause-ordered c = λ b hb. all-ordered c.self.invariant.whole c.args.own b (own (goal.at.first_due_to-requires-clause-ordered c).After-self) (omega (arith, few-crafts c.self.inside.encounter c.self.invariant.whole.valid, c.count_of.ensures.value))
+first_due_to-requires-clause-ordered c = λ b hb. all-ordered c.self.invariant.whole c.args.own b (own (goal.at.first_due_to-requires-clause-ordered c).After-self) (omega (arith, few-crafts c.self.inside.encounter c.self.invariant.whole.is_journal.valid, c.count_of.ensures.value))
 
 pub returns-in-Some-first_due_to : goal.returns-in-Some-first_due_to
 returns-in-Some-first_due_to c =

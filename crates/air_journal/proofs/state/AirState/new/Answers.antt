@@ -19,9 +19,11 @@ invariant_of-result c =
     record {
       usual = subst (λ (p : Parts). AreUsual p c.in_ok-usual.usual) (sym same) c.in_ok-usual.ensures;
       whole = record {
-        valid = subst IsEncounter (sym same) c.cycles.ensures.valid;
-        inside = subst IsInside (sym same) c.requires;
-        legal = subst (IsLegal (air_of e)) (sym c.in_ok-journal.ensures.entries) empty;
+        is_journal = record {
+          valid = subst IsEncounter (sym same) c.cycles.ensures.valid;
+          inside = subst IsInside (sym same) c.requires;
+          legal = subst (IsLegal (air_of e)) (sym c.in_ok-journal.ensures.entries) empty;
+        };
         kept = subst (λ (J : List Entry). IsKept (air_of e) J c.in_ok-tables.tables) (sym c.in_ok-journal.ensures.entries) (blank-kept (air_of e) c.in_ok-tables.tables c.in_ok-tables.ensures);
         room = omega (arith, c.pages_for.ensures.enough, c.in_ok-journal.ensures.room);
         places = omega (arith, c.in_ok-journal.ensures.places, c.from.ensures, c.cycles.ensures.value);

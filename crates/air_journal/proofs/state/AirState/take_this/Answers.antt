@@ -17,7 +17,7 @@ active : (c : After-made-made) → is_active (air_of c.self.inside.encounter) c.
 active c = active-is c.self.inside.encounter c.args.own (subst (λ (s : State). IsActive s.encounter c.args.own) (sym c.self.view_is) c.requires)
 
 own : (c : After-made-made) → c.args.own < CRAFTS
-own c = below-all c.self.inside.encounter c.self.invariant.whole.valid c.args.own (active c)
+own c = below-all c.self.inside.encounter c.self.invariant.whole.is_journal.valid c.args.own (active c)
 
 count : (c : After-made-made) → c.made-made.result.commits ≡ commits c.self.inside.journal.entries c.args.own
 count c = ap (λ m. m.commits) c.made-made.ensures ∙ count-is c.self.invariant.whole c.args.own (own c)

@@ -1,6 +1,7 @@
 use Rattle.std.proofs.Common.{rules, subst, None, sym, List}
 use Rattle.acas_base.specs.declared.entry.Entry.{Entry}
-use Rattle.air_turn.specs.Rule.{Grows, IsState}
+use Rattle.air_turn.specs.Rule.{Grows}
+use Rattle.air_journal.specs.States.{IsJournalOf}
 use Rattle.air_turn.specs.Told.{first, raised}
 use Rattle.air_turn.specs.Turns.{calls_of, journal_of, ticket_of}
 use Rattle.air_turn.proofs.Along.{none_said, raises-along}
@@ -15,7 +16,7 @@ fetch_add-requires g c =
       search rules,
       search rules,
       raises-along _ _ _ m m.0.encounter (first m.0.claims) (ticket_of m.0.stage) (calls_of m.0.stage) (journal_of m.0.stage) g.N.After.journal c.args.grew None gone.turn
-          (subst (λ l. IsState m.0.encounter l) is (subst (λ z. IsState z c.args.state.now.journal) gone.encounter gone.stays_a_state)) (subst (λ l. Grows (first m.0.claims).own (journal_of m.0.stage) l c.args.grew) is gone.grows),
+          (subst (λ l. IsJournalOf m.0.encounter l) is (subst (λ z. IsJournalOf z c.args.state.now.journal) gone.encounter gone.stays_a_state)) (subst (λ l. Grows (first m.0.claims).own (journal_of m.0.stage) l c.args.grew) is gone.grows),
     )
 
 pub returns-clause-ended : goal.returns-clause-ended
