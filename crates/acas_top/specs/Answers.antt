@@ -51,9 +51,10 @@ pub record Refuses (bytes text : List ℕ) : Type 0 where
   pub is : reading_of bytes ≡ Err refusal
   pub text_is : text ≡ refused_line refusal.at (code_number refusal.code)
 
--- The journal, whose newest entry stands first, is legal and complete. No aircraft that gives way commits an advisory in the
--- sense that the message in force forbids (`safe`). Where that message was sent since the threat took its present sense, the
--- senses are opposite (`settled`). Which aircraft changes its sense, and why, follows the addresses (`priority`).
+-- The journal, whose newest entry stands first, is legal and complete. No aircraft that gives way commits an advisory
+-- in the sense that the message in force forbids (`safe`). Where that message was sent since the threat took its
+-- present sense, the senses are opposite (`settled`). Which aircraft changes its sense, and why, follows the addresses
+-- (`priority`).
 pub record IsRun (e : Parts) (journal : List Entry) : Type 0 where
   pub legal : IsLegalJournal (air_of e) journal
   pub complete : IsComplete (air_of e) journal

@@ -41,15 +41,16 @@ pub record Answered (words : List (List ℕ)) (status : Status) (old new : Optio
   pub answers : Answers command bytes status text
   pub put : IsPut text
 
--- Why nothing could be read: one read failed and was counted, there were more bytes than the limit, or memory was wanting.
+-- Why nothing could be read: one read failed and was counted, there were more bytes than the limit, or memory was
+-- wanting.
 abbrev pub IsUnread : Status → Option ℕ → Option (List ℕ) → ℕ → ℕ → Type 0
 IsUnread ReadFault limit left faults now = now ≡ one_more faults
 IsUnread TooLong limit left faults now = IsTooLong limit left × (now ≡ faults)
 IsUnread OutOfMemory limit left faults now = now ≡ faults
 IsUnread status limit left faults now = ⊥
 
--- Either the whole text of an answer was written, the status is that of the answer, and no fault was counted. Or a write
--- failed and was counted, and a front of the text was written.
+-- Either the whole text of an answer was written, the status is that of the answer, and no fault was counted. Or a
+-- write failed and was counted, and a front of the text was written.
 abbrev pub WasPut : Status → Status → List ℕ → Option (List ℕ) → Option (List ℕ) → ℕ → ℕ → Type 0
 WasPut WriteFault own text old new faults now = GrewByPrefix old new text × Rose faults now
 WasPut status own text old new faults now = (status ≡ own) × IsAnswer status × Grew old new text × (now ≡ faults)
@@ -59,9 +60,9 @@ abbrev pub status_after : {T E : Type 0} → Status → Result T E → Status
 status_after own (Ok unit) = own
 status_after own (Err error) = WriteFault
 
--- How a call ended. It was given these words, a source and a sink. `left` and `reads` tell the bytes that a source has left
--- and how many reads failed; `written` and `writes` tell what a sink was given and how many writes failed. `IsNone` says that
--- the words are no command of the call.
+-- How a call ended. It was given these words, a source and a sink. `left` and `reads` tell the bytes that a source has
+-- left and how many reads failed; `written` and `writes` tell what a sink was given and how many writes failed.
+-- `IsNone` says that the words are no command of the call.
 pub record Ended {S K : Type 0} (IsNone : Type 0) (words : List (List ℕ)) (status : Status) (left : S → Option (List ℕ)) (reads : S → ℕ) (source source_new : S) (written : K → Option (List ℕ)) (writes : K → ℕ) (sink sink_new : K) : Type 0 where
   pub usage : (status ≡ Usage) ↔ IsNone
   pub untouched : status ≡ Usage → (source_new ≡ source) × (sink_new ≡ sink)
@@ -78,7 +79,8 @@ pub record Ended {S K : Type 0} (IsNone : Type 0) (words : List (List ℕ)) (sta
   pub no_write_fault : (status ≡ WriteFault → ⊥) → writes sink_new ≡ writes sink
   -- A command that reads nothing leaves the source as it was, whatever the status is.
   pub unread : (command : Command) → Say words command → limit_of command ≡ None → source_new ≡ source
-  -- Where the source has no more bytes than the limit and no fault is counted, a command is answered, unless memory is wanting.
+  -- Where the source has no more bytes than the limit and no fault is counted, a command is answered, unless memory is
+  -- wanting.
   pub complete : (IsNone → ⊥) → IsWithin words (left source) → (Rose (reads source) (reads source_new) → ⊥) → (Rose (writes sink) (writes sink_new) → ⊥) → IsAnswer status ⊎ (status ≡ OutOfMemory)
 
 -- Bytes were read, to their end, a text was written, and both stand in this relation.

@@ -7,8 +7,8 @@ use Rattle.acas_top.specs.declared.pages.TheConstants.{HELP, VERSION}
 use Rattle.acas_top.specs.declared.words.Page.{Page}
 use Rattle.acas_top.specs.declared.words.Page.TheVariants.{Help, Version}
 
--- The lines of a page, which are those of its constant. For the proof: only `put_page` opens this definition, since the page
--- is long.
+-- The lines of a page, which are those of its constant. For the proof: only `put_page` opens this definition, since the
+-- page is long.
 unfoldable pub page_lines : Page → List (List ℕ)
 page_lines Help = map (λ line. line.now) HELP
 page_lines Version = map (λ line. line.now) VERSION
