@@ -12,7 +12,7 @@ use Rattle.acas_base.specs.declared.advisory.Sense.TheVariants.{Down, Up}
 use Rattle.acas_base.specs.declared.advisory.Strength.{Strength}
 use Rattle.acas_base.specs.declared.advisory.Strength.TheVariants.{Limit2000, Limit1000, Limit500, Level, Positive, Increase}
 use Rattle.acas_base.specs.declared.view.View.{View}
-use Rattle.strength_pick.specs.Limits.{LimitsAskForOwnRate, is_stricter_limit}
+use Rattle.acas_base.specs.Limits.{LimitsAskForOwnRate, is_stricter_limit}
 
 -- ---- the first of the strengths that passes a test
 

@@ -5,7 +5,7 @@ ghost use Rattle.acas_base.specs.declared.advisory.Intent.{Intent};
 ghost use Rattle.acas_base.specs.declared.advisory.Sense.{Sense};
 ghost use Rattle.acas_base.specs.declared.view.View.{View};
 ghost use Rattle.strength_pick.specs.Extremes.{IsLeast, IsNext, IsStrongestAllowed};
-ghost use Rattle.strength_pick.specs.Limits.{LimitsAskForOwnRate, is_stricter_limit};
+ghost use Rattle.acas_base.specs.Limits.{LimitsAskForOwnRate, is_stricter_limit};
 
 use acas_base::Strength;
 
