@@ -12,7 +12,7 @@ use Rattle.acas_top.specs.Statuses.{status_number}
 use Rattle.acas_top.specs.Words.{AreNoCommand, AreNoPlain, AreNoRun, IsCommand, Say, limit_of}
 use Rattle.acas_top.specs.Given.{answer_status, answer_text}
 use Rattle.acas_top.specs.declared.answers.Answer.{Answer}
-use Rattle.acas_top.specs.declared.answers.Answer.TheVariants.{Judged, Made, Recorded, Refused, Shown, Summed, Swept, Told}
+use Rattle.acas_top.specs.declared.answers.Answer.TheVariants.{Decoded, Judged, Made, Recorded, Refused, Shown, Summed, Swept, Told}
 use Rattle.acas_top.specs.declared.status.Status.{Status}
 use Rattle.acas_top.specs.declared.status.Status.TheVariants as statuses
 use Rattle.rec_audit.specs.declared.verdict.Verdict.TheVariants.{Legal, Wrong}
@@ -21,10 +21,10 @@ use Rattle.acas_top.specs.declared.words.TheConstants.{ENCOUNTER_BYTES, RECORDIN
 use Rattle.acas_top.specs.declared.words.Command.{Command}
 use Rattle.acas_top.specs.declared.words.Command.TheVariants as commands
 use Rattle.acas_top.specs.declared.words.Page.TheVariants.{Help, Version}
-use Rattle.acas_top.specs.declared.words.Plain.TheVariants.{Audit, Gen, Resume, Serial, Show, Sweep, Tell}
+use Rattle.acas_top.specs.declared.words.Plain.TheVariants.{Audit, Decode, Gen, Resume, Serial, Show, Sweep, Tell}
 use Rattle.acas_top.specs.declared.words.Threaded.{Threaded}
 use Rattle.acas_top.specs.declared.words.Threaded.TheVariants.{Play, Sum}
-use Rattle.acas_top.specs.declared.words.Tool.TheVariants.{Reports, Response, Watch, Why}
+use Rattle.acas_top.specs.declared.words.Tool.TheVariants.{Messages, Places, Reports, Response, Watch, Why}
 
 pub within-long : (limit : Option ℕ) (left : Option (List ℕ)) → IsTooLong limit left → ForSome limit (λ n. IsSomeAnd left (λ bytes. length bytes ≤ n)) → ⊥
 within-long None left long within = long
@@ -44,6 +44,7 @@ abbrev limit-by : List (List ℕ) → Option ℕ
 limit-by words =
     if begins-with (codes "gen") words then None
     else if begins-with (codes "sweep") words then None
+    else if begins-with (codes "decode") words then None
     else if begins-with (codes "--help") words then None
     else if begins-with (codes "-h") words then None
     else if begins-with (codes "help") words then None
@@ -57,12 +58,15 @@ limit-said : (words : List (List ℕ)) (command : Command) → Say words command
 limit-said words (commands.Plain Serial) said = sym (ap limit-by said)
 limit-said words (commands.Plain Audit) said = sym (ap limit-by said)
 limit-said words (commands.Plain (Gen number crafts cycles)) said = sym (ap limit-by said)
+limit-said words (commands.Plain (Tell Messages)) said = sym (ap limit-by said)
+limit-said words (commands.Plain (Tell Places)) said = sym (ap limit-by said)
 limit-said words (commands.Plain (Tell Reports)) said = sym (ap limit-by said)
 limit-said words (commands.Plain (Tell Response)) said = sym (ap limit-by said)
 limit-said words (commands.Plain (Tell Watch)) said = sym (ap limit-by said)
 limit-said words (commands.Plain (Tell Why)) said = sym (ap limit-by said)
 limit-said words (commands.Plain (Sweep number count crafts cycles)) said = sym (ap limit-by said)
 limit-said words (commands.Plain Resume) said = sym (ap limit-by said)
+limit-said words (commands.Plain (Decode word)) said = sym (ap limit-by said)
 limit-said words (commands.Plain (Show Help)) (inl said) = sym (ap limit-by said)
 limit-said words (commands.Plain (Show Help)) (inr (inl said)) = sym (ap limit-by said)
 limit-said words (commands.Plain (Show Help)) (inr (inr said)) = sym (ap limit-by said)
@@ -77,6 +81,8 @@ one-limit words one other said also = limit-said words one said ∙ sym (limit-s
 -- The words of the serial run say no other command.
 only-serial : (words : List (List ℕ)) (bytes text : List ℕ) (command : Command) → Say words command → Say words (commands.Plain Serial) → Answers command bytes Done text → Plays bytes text
 only-serial words bytes text (commands.Plain Serial) said also plays = plays
+only-serial words bytes text (commands.Plain (Tell Messages)) said also plays = absurd (clash (codes "serial") words _ _ said also refl refl)
+only-serial words bytes text (commands.Plain (Tell Places)) said also plays = absurd (clash (codes "serial") words _ _ said also refl refl)
 only-serial words bytes text (commands.Plain (Tell Reports)) said also plays = absurd (clash (codes "serial") words _ _ said also refl refl)
 only-serial words bytes text (commands.Plain (Tell Response)) said also plays = absurd (clash (codes "serial") words _ _ said also refl refl)
 only-serial words bytes text (commands.Plain (Tell Watch)) said also plays = absurd (clash (codes "serial") words _ _ said also refl refl)
@@ -273,6 +279,7 @@ is-answer (Made encounter) = tt
 is-answer (Told tool state) = tt
 is-answer (Swept swept) = tt
 is-answer (Summed commits counts) = tt
+is-answer (Decoded word) = tt
 is-answer (Shown page) = tt
 is-answer (Judged (Legal entries)) = tt
 is-answer (Judged (Wrong line reason)) = tt

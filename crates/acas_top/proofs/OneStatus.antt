@@ -11,7 +11,7 @@ use Rattle.acas_top.specs.declared.status.Status.TheVariants.{Done, Refused, Wro
 use Rattle.acas_top.specs.declared.words.Command.{Command}
 use Rattle.acas_top.specs.declared.words.Command.TheVariants as commands
 use Rattle.acas_top.specs.declared.words.Plain.{Plain}
-use Rattle.acas_top.specs.declared.words.Plain.TheVariants.{Audit, Gen, Resume, Serial, Show, Sweep, Tell}
+use Rattle.acas_top.specs.declared.words.Plain.TheVariants.{Audit, Decode, Gen, Resume, Serial, Show, Sweep, Tell}
 use Rattle.acas_top.specs.declared.words.Threaded.{Threaded}
 use Rattle.acas_top.specs.declared.words.Threaded.TheVariants.{Play, Sum}
 use Rattle.acas_top.specs.Telling.{Tells}
@@ -121,6 +121,9 @@ one-plain law part (Sweep number count crafts cycles) bytes text other status al
 one-plain law part Resume bytes text other Done also is other_is = resumed-only part bytes text other also is other_is
 one-plain law part Resume bytes text other Wrong also is other_is = wrong-part-only part bytes text other also is other_is
 one-plain law part Resume bytes text other status also is other_is = absurd is
+one-plain law part (Decode word) bytes text other Done Done is other_is = refl
+one-plain law part (Decode word) bytes text other Done also is other_is = absurd other_is
+one-plain law part (Decode word) bytes text other status also is other_is = absurd is
 one-plain law part (Show page) bytes text other Done Done is other_is = refl
 one-plain law part (Show page) bytes text other Done also is other_is = absurd other_is
 one-plain law part (Show page) bytes text other status also is other_is = absurd is

@@ -12,7 +12,7 @@ use Rattle.acas_top.specs.declared.status.Status.TheVariants.{Done, Refused, Wro
 use Rattle.acas_top.specs.declared.words.Command.{Command}
 use Rattle.acas_top.specs.declared.words.Command.TheVariants as commands
 use Rattle.acas_top.specs.declared.words.Plain.{Plain}
-use Rattle.acas_top.specs.declared.words.Plain.TheVariants.{Audit, Gen, Resume, Serial, Show, Sweep, Tell}
+use Rattle.acas_top.specs.declared.words.Plain.TheVariants.{Audit, Decode, Gen, Resume, Serial, Show, Sweep, Tell}
 use Rattle.acas_top.specs.declared.words.Threaded.{Threaded}
 use Rattle.acas_top.specs.declared.words.Threaded.TheVariants.{Play, Sum}
 use Rattle.acas_top.specs.Sweeping.{Sweeps}
@@ -40,6 +40,7 @@ use Rattle.rec_audit.specs.declared.verdict.Verdict.TheVariants as verdicts
 use Rattle.rec_text.specs.Recording.{recording}
 use Rattle.resume.specs.Filling.{IsFilled}
 use Rattle.sweep.specs.declared.counts.Counts.{Counts}
+use Rattle.word_text.specs.Lines.{word_text}
 
 -- The line of a refusal: the number of the record, and the number of the code.
 abbrev pub refused_line : ℕ → ℕ → List ℕ
@@ -160,6 +161,8 @@ AnswersPlain (Sweep number count crafts cycles) bytes status text = ⊥
 AnswersPlain Resume bytes Done text = Resumes bytes text
 AnswersPlain Resume bytes Wrong text = IsWrongPart bytes text
 AnswersPlain Resume bytes status text = ⊥
+AnswersPlain (Decode word) bytes Done text = text ≡ word_text word
+AnswersPlain (Decode word) bytes status text = ⊥
 AnswersPlain (Show page) bytes Done text = text ≡ joined (page_lines page)
 AnswersPlain (Show page) bytes status text = ⊥
 

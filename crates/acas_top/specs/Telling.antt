@@ -4,8 +4,10 @@ use Rattle.acas_base.specs.Encounter.{Parts}
 use Rattle.acas_base.specs.declared.entry.Entry.{Entry}
 use Rattle.acas_lines.specs.Lines.{joined}
 use Rattle.acas_top.specs.declared.words.Tool.{Tool}
-use Rattle.acas_top.specs.declared.words.Tool.TheVariants.{Reports, Response, Watch, Why}
+use Rattle.acas_top.specs.declared.words.Tool.TheVariants.{Messages, Places, Reports, Response, Watch, Why}
 use Rattle.air_journal.specs.States.{State}
+use Rattle.journal_tables.specs.Messages.{message_lines}
+use Rattle.journal_tables.specs.Places.{place_lines}
 use Rattle.pair_watch.specs.Watching.{watch_lines}
 use Rattle.ra_report.specs.Blocks.{report_lines}
 use Rattle.reasons.specs.Reasons.{reasons_lines}
@@ -14,6 +16,8 @@ use Rattle.response.specs.Response.{response_lines}
 
 -- The lines that a tool tells of an encounter and its journal, and their text.
 abbrev pub tool_lines : Tool → Parts → List Entry → List (List ℕ)
+tool_lines Messages e journal = message_lines e journal
+tool_lines Places e journal = place_lines e journal
 tool_lines Reports e journal = report_lines e journal
 tool_lines Response e journal = response_lines e journal
 tool_lines Watch e journal = watch_lines e journal

@@ -3,17 +3,18 @@ use Rattle.std.specs.Prelude.{◌≡◌, ℕ, ◌<◌, ◌≤◌, ◌^◌, ◌�
 use Rattle.std.specs.Fmt.{decimal}
 use Rattle.acas_base.specs.Ranges.{IsCycle}
 use Rattle.acas_base.specs.declared.TheConstants.{CRAFTS}
+use Rattle.acas_text.specs.Hex.{hex}
 use Rattle.acas_top.specs.declared.words.TheConstants.{ENCOUNTER_BYTES, RECORDING_BYTES}
 use Rattle.acas_top.specs.declared.words.Command.{Command}
 use Rattle.acas_top.specs.declared.words.Command.TheVariants as commands
 use Rattle.acas_top.specs.declared.words.Page.{Page}
 use Rattle.acas_top.specs.declared.words.Page.TheVariants.{Help, Version}
 use Rattle.acas_top.specs.declared.words.Plain.{Plain}
-use Rattle.acas_top.specs.declared.words.Plain.TheVariants.{Audit, Gen, Resume, Serial, Show, Sweep, Tell}
+use Rattle.acas_top.specs.declared.words.Plain.TheVariants.{Audit, Decode, Gen, Resume, Serial, Show, Sweep, Tell}
 use Rattle.acas_top.specs.declared.words.Threaded.{Threaded}
 use Rattle.acas_top.specs.declared.words.Threaded.TheVariants.{Play, Sum}
 use Rattle.acas_top.specs.declared.words.Tool.{Tool}
-use Rattle.acas_top.specs.declared.words.Tool.TheVariants.{Reports, Response, Watch, Why}
+use Rattle.acas_top.specs.declared.words.Tool.TheVariants.{Messages, Places, Reports, Response, Watch, Why}
 
 -- The numbers of a plain command are in their ranges.
 abbrev pub IsInRange : Plain → Type 0
@@ -23,6 +24,7 @@ IsInRange (Gen number crafts cycles) = (number < 2 ^ 32) × (1 ≤ crafts) × (c
 IsInRange (Tell tool) = Unit {0}
 IsInRange (Sweep number count crafts cycles) = (number < 2 ^ 32) × (1 ≤ count) × (count ≤ 4096) × (1 ≤ crafts) × (crafts ≤ 4) × (1 ≤ cycles) × (cycles ≤ 120)
 IsInRange Resume = Unit {0}
+IsInRange (Decode word) = word < 2 ^ 56
 IsInRange (Show page) = Unit {0}
 
 -- The numbers of a command are in their ranges.
@@ -32,6 +34,8 @@ IsCommand (commands.Run run) = Unit {0}
 
 -- The word of a tool.
 abbrev pub tool_word : Tool → List ℕ
+tool_word Messages = codes "messages"
+tool_word Places = codes "places"
 tool_word Reports = codes "reports"
 tool_word Response = codes "response"
 tool_word Watch = codes "watch"
@@ -55,6 +59,7 @@ SayPlain words (Gen number crafts cycles) = words ≡ codes "gen" ∷ decimal nu
 SayPlain words (Tell tool) = words ≡ tool_word tool ∷ []
 SayPlain words (Sweep number count crafts cycles) = words ≡ codes "sweep" ∷ decimal number ∷ decimal count ∷ decimal crafts ∷ decimal cycles ∷ []
 SayPlain words Resume = words ≡ codes "resume" ∷ []
+SayPlain words (Decode word) = words ≡ codes "decode" ∷ hex 14 word ∷ []
 SayPlain words (Show page) = SayPage words page
 
 -- The words say a command.
@@ -82,6 +87,7 @@ plain_limit (Gen number crafts cycles) = None
 plain_limit (Tell tool) = Some RECORDING_BYTES
 plain_limit (Sweep number count crafts cycles) = None
 plain_limit Resume = Some RECORDING_BYTES
+plain_limit (Decode word) = None
 plain_limit (Show page) = None
 
 -- The most bytes that a command reads, or none where it reads nothing.

@@ -23,6 +23,7 @@ use rec_text::Recording;
 use std::alloc::{AllocError, Global};
 use std::thread::Threads;
 use sweep::Counts;
+use word_text::WordText;
 
 /// The answer to a command. It has a status and a text.
 #[derive(Drop)]
@@ -37,6 +38,8 @@ pub(crate) enum Answer {
     Swept(Swept),
     /// How many commits a run in threads has, and the counts of the serial run.
     Summed(u32, Counts),
+    /// What a word says.
+    Decoded(u64),
     /// A page about the program.
     Shown(Page),
     /// The line of the verdict on a recording.
@@ -56,6 +59,7 @@ impl Answer {
             | Answer::Told(_, _)
             | Answer::Swept(_)
             | Answer::Summed(_, _)
+            | Answer::Decoded(_)
             | Answer::Shown(_) => Status::Done,
             Answer::Judged(Verdict::Legal(_)) => Status::Done,
             Answer::Judged(Verdict::Wrong(_, _)) => Status::Wrong,
@@ -76,6 +80,7 @@ impl Text for Answer {
             Answer::Told(tool, state) => put_told(*tool, state, sink),
             Answer::Swept(swept) => swept.put(sink),
             Answer::Summed(commits, counts) => put_summed(*commits, counts, sink),
+            Answer::Decoded(word) => WordText(*word).put(sink),
             Answer::Shown(page) => put_page(*page, sink),
             Answer::Judged(verdict) => sink.line(&verdict_line(*verdict)),
             Answer::Refused(at, code) => sink.line(&refusal_line(*at, *code)),
@@ -181,6 +186,7 @@ pub(crate) fn answer_to<R: Threads + Sync>(
             cycles,
         } => answer_sweep(rt, alloc, number, count, crafts, cycles),
         Plain::Resume => answer_resume(alloc, bytes),
+        Plain::Decode { word } => Ok(Answer::Decoded(word)),
         Plain::Show(page) => Ok(Answer::Shown(page)),
     }
 }

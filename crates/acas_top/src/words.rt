@@ -17,6 +17,10 @@ pub const RECORDING_BYTES: usize = 67_108_864;
 /// What reads a recording, and writes a text about it.
 #[derive(Clone, Copy, Debug, PartialEq, Eq)]
 pub enum Tool {
+    /// `messages`: each resolution message, and what became of its copies, as a table.
+    Messages,
+    /// `places`: where each aircraft was in each cycle, and what its crew was advised, as a table.
+    Places,
     /// `reports`: the RA report blocks that the aircraft would have downlinked.
     Reports,
     /// `response`: how near the aircraft would have come, had each flown with the modelled response to its advisories.
@@ -72,6 +76,8 @@ pub enum Plain {
     },
     /// `resume`: reads a beginning of a recording, and writes the recording of its run, completed.
     Resume,
+    /// `decode WORD`: reads nothing, and writes what a word of fourteen digits 0-9A-F says.
+    Decode { word: u64 },
     /// The words that ask for a page: reads nothing, and writes the page.
     Show(Page),
 }
@@ -105,7 +111,7 @@ impl Plain {
         match self {
             Plain::Serial => Some(ENCOUNTER_BYTES),
             Plain::Audit | Plain::Tell(_) | Plain::Resume => Some(RECORDING_BYTES),
-            Plain::Gen { .. } | Plain::Sweep { .. } | Plain::Show(_) => None,
+            Plain::Gen { .. } | Plain::Sweep { .. } | Plain::Decode { .. } | Plain::Show(_) => None,
         }
     }
 }
@@ -115,6 +121,12 @@ fn tool_of(word: &str) -> Option<Tool>
     ensures some { IfSome result (λ tool. word.now ≡ tool_word tool) }
     ensures none { IfNone result ((tool : Tool) → word.now ≢ tool_word tool) }
 {
+    if word == "messages" {
+        return Some(Tool::Messages);
+    }
+    if word == "places" {
+        return Some(Tool::Places);
+    }
     if word == "reports" {
         return Some(Tool::Reports);
     }
@@ -188,6 +200,19 @@ fn of_one(word: &str) -> Option<Plain>
     }
 }
 
+// The plain command of a word and the digits of another one.
+fn of_two(word: &str, digits: &str) -> Option<Plain>
+    ensures some { IfSome result (λ plain. Say (word.now ∷ digits.now ∷ []) (Command.Plain plain)) }
+    ensures valid { IfSome result IsInRange }
+    ensures none { IfNone result (AreNoPlain (word.now ∷ digits.now ∷ [])) }
+{
+    if word != "decode" {
+        return None;
+    }
+    let word = word_text::parse(digits.as_bytes())?;
+    Some(Plain::Decode { word })
+}
+
 // The plain command of a word and three numbers.
 fn of_four(word: &str, number: &str, crafts: &str, cycles: &str) -> Option<Plain>
     ensures some { IfSome result (λ plain. Say (word.now ∷ number.now ∷ crafts.now ∷ cycles.now ∷ []) (Command.Plain plain)) }
@@ -236,6 +261,7 @@ pub(crate) fn parse_plain(words: &[String]) -> Option<Plain>
 {
     match words {
         [word] => of_one(word.as_str()),
+        [word, digits] => of_two(word.as_str(), digits.as_str()),
         [word, number, crafts, cycles] => of_four(
             word.as_str(),
             number.as_str(),
