@@ -7,5 +7,6 @@ pub mod Senses
 pub mod Complements
 pub mod Strengths
 pub mod Choice
+pub mod Limits
 pub mod Next
 pub mod Messages

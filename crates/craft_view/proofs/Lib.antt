@@ -5,3 +5,4 @@ pub mod Keeping
 pub mod Alike
 pub mod Looking
 pub mod Past
+pub mod Limits
