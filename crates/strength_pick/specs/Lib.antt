@@ -1,3 +1,4 @@
+pub mod Alim
 pub mod Extremes
 pub use Rattle.acas_base.specs.Strengths
 pub use Rattle.acas_base.specs.Choice
