@@ -78,12 +78,12 @@ pub separation-in-delay : (m : Motion) (approach : Approach) (response : Respons
 separation-in-delay m approach response sense strength is early = separation-kept m approach response sense strength is (after-in-delay m.own approach.halves response sense strength early)
 
 -- What meets a floor meets a lower one.
-meets-lower : (sense : Sense) (strength : Strength) (rate : ℤ) → floor_of strength ≤ℤ pos 0 → asked_rate sense Level rate ≡ rate → asked_rate sense strength rate ≡ rate
+pub meets-lower : (sense : Sense) (lower strength : Strength) (rate : ℤ) → floor_of lower ≤ℤ floor_of strength → asked_rate sense strength rate ≡ rate → asked_rate sense lower rate ≡ rate
 unfolding asked_rate
-meets-lower Up strength rate low meets = omega (arith, ints, clamps, low, meets)
-meets-lower Down strength rate low meets = omega (arith, ints, clamps, low, meets)
+meets-lower Up lower strength rate low meets = omega (arith, ints, clamps, low, meets)
+meets-lower Down lower strength rate low meets = omega (arith, ints, clamps, low, meets)
 
 pub separation-met : (m : Motion) (approach : Approach) (response : Response) (sense : Sense) (strength : Strength) → IsApproach m approach → pos 1 ≤ℤ response.step
     → floor_of strength ≤ℤ pos 0 → asked_rate sense Level m.own.rate ≡ m.own.rate → apart sense approach.own approach.target ≡ separation m approach.halves response sense strength
 separation-met m approach response sense strength is forward low meets =
-    separation-kept m approach response sense strength is (after-at-goal m.own approach.halves response sense strength forward (meets-lower sense strength m.own.rate low meets))
+    separation-kept m approach response sense strength is (after-at-goal m.own approach.halves response sense strength forward (meets-lower sense strength Level m.own.rate low meets))

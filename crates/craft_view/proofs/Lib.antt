@@ -4,3 +4,5 @@ pub mod Resolving
 pub mod Keeping
 pub mod Alike
 pub mod Looking
+pub mod Past
+pub mod Limits

@@ -1,6 +1,7 @@
 -- What every view keeps, for those who decide by it.
 use Rattle.std.specs.Prelude.{◌≡◌, ◌↔◌, ℕ, ◌≤◌, true, None, Some, ◌-ℤ◌, length, option_map, slice_get, is_some, IsTrue}
 use Rattle.acas_base.specs.Encounter.{Parts}
+use Rattle.acas_base.specs.Limits.{LimitsAskForOwnRate}
 use Rattle.acas_base.specs.declared.craft.CraftSpec.{CraftSpec}
 use Rattle.acas_base.specs.declared.craft.Kind.TheVariants.{Ra}
 use Rattle.acas_base.specs.declared.level.Level.{Level}
@@ -34,6 +35,10 @@ ResolvesAsOwn e own target cycle = IsTrue (is_some (other_craft e own target)) �
 -- In the own place, and past the last aircraft, nothing is seen.
 abbrev pub SeesNothing : Parts → ℕ → ℕ → ℕ → Type 0
 SeesNothing e own target cycle = other_craft e own target ≡ None → view_of e own target cycle ≡ no_view
+
+-- A limit that own rate meets separates as the weakest one does.
+abbrev pub MeetsLimits : Parts → ℕ → ℕ → ℕ → Type 0
+MeetsLimits e own target cycle = LimitsAskForOwnRate (view_of e own target cycle)
 
 -- An aircraft has the same sight up to a cycle in two encounters.
 abbrev pub SeesAlike : Parts → Parts → ℕ → ℕ → Type 0

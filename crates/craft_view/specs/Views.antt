@@ -1,6 +1,6 @@
 -- The view of another aircraft, from what may be known alone (FAA, Introduction to TCAS II v7.1; the details are this
 -- project's profile).
-use Rattle.std.specs.Prelude.{ℕ, if◌then◌else◌, Bool, true, false, pos, ◌-ℤ◌, int_le, is_some, map}
+use Rattle.std.specs.Prelude.{◌≡◌, ℕ, ◌<◌, ◌≤◌, if◌then◌else◌, Bool, true, false, pos, ◌-ℤ◌, int_le, is_some, List, map, slice_index_or}
 use Rattle.std.specs.List.{range_with_len}
 use Rattle.std.specs.Option.{option_map_or}
 use Rattle.acas_base.specs.Encounter.{Parts}
@@ -40,6 +40,10 @@ plain_view tested traffic resolves = record {
 -- The view of what isn't there.
 abbrev pub no_view : View
 no_view = plain_view false false false
+
+-- From an index on, the views say nothing.
+abbrev pub SayNothingFrom : ℕ → List View → Type 0
+SayNothingFrom first views = (index : ℕ) (d : View) → first ≤ index → index < CRAFTS → slice_index_or views index d ≡ no_view
 
 -- A view that is tested and resolves, with the thresholds of a resolution advisory.
 abbrev pub resolving_view : OwnAircraft → Motion → Row → View

@@ -6,7 +6,7 @@ ghost use Rattle.craft_view.specs.Kept.{Belongs, Kept, IsActive, altitude_kept, 
 ghost use Rattle.craft_view.specs.KnownTracks.{IsMotion, motion_of};
 ghost use Rattle.craft_view.specs.Own.{own_of, AreRows};
 ghost use Rattle.craft_view.specs.Sight.{sight_of};
-ghost use Rattle.craft_view.specs.Views.{picture_of, view_of};
+ghost use Rattle.craft_view.specs.Views.{SayNothingFrom, picture_of, view_of};
 ghost use Rattle.flight.specs.Inside.{IsInside};
 
 use crate::motion::{Motion, motion_of};
@@ -102,11 +102,13 @@ impl Craft {
         picture
     }
 
-    /// What [`Craft::look_among`] does. Each view is put where an earlier one was, so that none is cleared or moved.
+    /// What [`Craft::look_among`] does. Each view is put where an earlier one was, so that none is moved. Past the last
+    /// aircraft the views have to say nothing already, as those of each picture of the same encounter do.
     pub fn look_into(&mut self, places: &Places, picture: &mut Picture)
         requires belongs { Belongs places.now.encounter self.old }
         requires left { self.old.cycle < places.now.encounter.cycles }
         requires next { places.now.cycle ≡ self.old.cycle + 1 }
+        requires rest { SayNothingFrom (length places.now.encounter.crafts) picture.old.views }
         ensures picture { picture.new ≡ picture_of places.now.encounter self.old.own (self.old.cycle + 1) }
         ensures own { self.new.own ≡ self.old.own }
         ensures cycle { self.new.cycle ≡ self.old.cycle + 1 }
@@ -142,6 +144,7 @@ impl Craft {
         requires belongs { Belongs places.now.encounter self.now }
         requires begun { 1 ≤ self.now.cycle }
         requires present { places.now.cycle ≡ self.now.cycle }
+        requires rest { SayNothingFrom (length places.now.encounter.crafts) picture.old.views }
         ensures { picture.new ≡ picture_of places.now.encounter self.now.own self.now.cycle }
     {
         let own = own_of(places, self.own);
@@ -150,14 +153,17 @@ impl Craft {
         self.put_views(places.encounter(), &own, &mut picture.views);
     }
 
-    // Puts the view of each aircraft in the present cycle at its place.
+    // Puts the view of each aircraft in the present cycle at its place. Past the last one the views say nothing already.
     fn put_views(&self, encounter: &Encounter, own: &OwnAircraft, views: &mut [View; CRAFTS])
         requires belongs { Belongs encounter.now self.now }
         requires own { own.now ≡ own_of (sight_of encounter.now self.now.own self.now.cycle) }
         requires rows { AreRows own.now }
+        requires rest { SayNothingFrom (length encounter.now.crafts) views.old }
         ensures { views.new ≡ map (λ target. view_of encounter.now self.now.own target self.now.cycle) (range_with_len 0 CRAFTS) }
     {
-        for target in 0..CRAFTS {
+        // No encounter has more than 16 aircraft.
+        encounter.valid_law();
+        for target in 0..encounter.crafts().len() {
             self.put_view(encounter, own, target as u8, &mut views[target]);
         }
     }

@@ -1,15 +1,16 @@
 // What every view keeps, and what it follows from.
 ghost use Rattle.std.specs.Prelude.{ℕ};
 ghost use Rattle.acas_base.specs.Encounter.{Parts};
-ghost use Rattle.craft_view.specs.Facts.{IsAlike, ResolvesAsOwn, SeesAlike, SeesNothing, Threatens};
+ghost use Rattle.craft_view.specs.Facts.{IsAlike, MeetsLimits, ResolvesAsOwn, SeesAlike, SeesNothing, Threatens};
 
-/// A law: a threat is only seen where the pair is tested and the view resolves; the view of another
-/// aircraft resolves exactly where own aircraft gives resolution advisories and its sensitivity level
-/// is above 2; and in the own place and past the last aircraft nothing is seen.
+/// A law: a threat is seen only where the pair is tested and the view resolves. The view of another aircraft resolves
+/// exactly where own aircraft gives resolution advisories and its sensitivity level is above 2. In the own place and past
+/// the last aircraft nothing is seen. All limits on the vertical rate that own rate meets give the same separation.
 pub fn view_law()
     ensures threat { (e : Parts) (own target cycle : ℕ) → Threatens e own target cycle }
     ensures resolves { (e : Parts) (own target cycle : ℕ) → ResolvesAsOwn e own target cycle }
     ensures nothing { (e : Parts) (own target cycle : ℕ) → SeesNothing e own target cycle }
+    ensures limits { (e : Parts) (own target cycle : ℕ) → MeetsLimits e own target cycle }
 {}
 
 /// A law: an aircraft that has equal sights of two encounters up to a cycle has equal views in all cycles up

@@ -20,14 +20,17 @@ pub(crate) fn is_other(encounter: &Encounter, own: u8, target: u8) -> bool
     usize::from(target) < encounter.crafts().len()
 }
 
-// The tracks of all places one second later.
+// The tracks of all aircraft one second later.
 pub(crate) fn step_tracks(tracks: &mut [Tracks; CRAFTS], places: &Places, own: u8)
     requires own { own < length places.now.encounter.crafts }
     requires inside { IsInside places.now.encounter }
     requires run { places.now.cycle ≤ places.now.encounter.cycles }
     ensures { (index : ℕ) → index < CRAFTS → slice_index_or tracks.new index no_tracks ≡ tracks_then places.now.encounter own places.now.cycle index (slice_index_or tracks.old index no_tracks) }
 {
-    for target in 0..CRAFTS {
+    let encounter = places.encounter();
+    // No encounter has more than 16 aircraft.
+    encounter.valid_law();
+    for target in 0..encounter.crafts().len() {
         step_place(&mut tracks[target], places, own, target as u8);
     }
 }

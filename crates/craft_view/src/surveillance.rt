@@ -2,6 +2,7 @@
 ghost use Rattle.std.specs.Prelude.{◌≡◌, ◌<◌, ◌≤◌, None, IsSome, slice_index_or};
 ghost use Rattle.acas_base.specs.declared.TheConstants.{CRAFTS};
 ghost use Rattle.craft_view.specs.Looking.{AreReady, IsReady, LookedOn, MayLook};
+ghost use Rattle.craft_view.specs.Views.{SayNothingFrom};
 ghost use Rattle.flight.specs.Inside.{IsInside};
 
 use crate::craft::Craft;
@@ -16,6 +17,9 @@ use std::array::from_fn;
 pub struct Surveillance {
     pub crafts: [Option<Craft>; CRAFTS],
     pub picture: Picture,
+    // How many of its views, from the first one on, looks have put.
+    seen: usize,
+    ghost rest: { SayNothingFrom seen picture.views },
 }
 
 impl Surveillance {
@@ -25,9 +29,17 @@ impl Surveillance {
         requires { IsInside encounter.now }
         ensures { AreReady encounter.now (λ _. 0) result.crafts }
     {
+        Surveillance::of(from_fn(|own| { craft_at(encounter, own) }))
+    }
+
+    /// Aircraft, each at its index, after the looks that they have made.
+    pub fn of(crafts: [Option<Craft>; CRAFTS]) -> Surveillance
+        ensures { result.crafts ≡ crafts }
+    {
         Surveillance {
-            crafts: from_fn(|own| { craft_at(encounter, own) }),
+            crafts,
             picture: no_picture(),
+            seen: 0,
         }
     }
 
@@ -39,10 +51,23 @@ impl Surveillance {
         requires ready { MayLook places.now own (slice_index_or self.old.crafts own None) }
         ensures { LookedOn places.now own self.old.crafts self.new.crafts self.new.picture }
     {
+        let count = places.encounter().crafts().len();
+        clear_past(&mut self.picture, self.seen, count);
+        self.seen = count;
         match &mut self.crafts[usize::from(own)] {
             Some(craft) => craft.look_into(places, &mut self.picture),
             None => unreachable!(),
         }
+    }
+}
+
+// Clears a picture with views of more aircraft than there are. It has none where all looks are in one encounter.
+fn clear_past(picture: &mut Picture, seen: usize, count: usize)
+    requires { SayNothingFrom seen picture.old.views }
+    ensures { SayNothingFrom count picture.new.views }
+{
+    if count < seen {
+        *picture = no_picture();
     }
 }
 

@@ -5,7 +5,7 @@ ghost use Rattle.craft_view.specs.Looking.{AreReady, IsReady};
 
 use acas_base::Encounter;
 use air_journal::AirState;
-use craft_view::{Craft, Surveillance, is_active, no_picture};
+use craft_view::{Craft, Surveillance, is_active};
 use std::array::from_fn;
 
 // The aircraft at an index, where it is active, after as many looks as it has commits.
@@ -36,8 +36,5 @@ pub(crate) fn surveillance_of(state: &AirState, enc: &Encounter) -> Surveillance
     for own in 0..enc.crafts().len() as u8 {
         crafts[usize::from(own)] = craft_at(state, enc, own);
     }
-    Surveillance {
-        crafts,
-        picture: no_picture(),
-    }
+    Surveillance::of(crafts)
 }

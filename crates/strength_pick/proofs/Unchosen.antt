@@ -1,18 +1,18 @@
 -- No choice is a limit that is stricter than the weakest one.
-use Rattle.std.proofs.Common.{◌≡◌, refl, Bool, true, false, cond, ◌&&◌, Option, Some, None, arith, rules, subst}
+use Rattle.std.proofs.Common.{◌≡◌, refl, Bool, true, false, cond, ◌&&◌, Some, None, arith, rules, subst}
 use Rattle.std.specs.Prelude.{ℤ, neg_ℤ, int_le, find, unwrap_or, ◌≤ℤ◌}
 use Rattle.std.specs.Bool.{Decides}
 use Rattle.std.proofs.lemmas.Int.{ints}
 use Rattle.std.proofs.lemmas.Bool.{and_from, and_parts, cond_both}
 use Rattle.acas_base.specs.Strengths.{floor_of, is_allowed, is_at_most, meets_floor, weakest_first}
 use Rattle.acas_base.specs.Choice.{gives_alim, is_fresh_after, least_of_both, least_strength, reaches_both, strength_after, strongest, weakens}
+use Rattle.acas_base.specs.Limits.{LimitsAskForOwnRate, is_stricter_limit}
 use Rattle.acas_base.specs.declared.advisory.Intent.{Intent}
 use Rattle.acas_base.specs.declared.advisory.Sense.{Sense}
 use Rattle.acas_base.specs.declared.advisory.Sense.TheVariants.{Down, Up}
 use Rattle.acas_base.specs.declared.advisory.Strength.{Strength}
 use Rattle.acas_base.specs.declared.advisory.Strength.TheVariants.{Limit2000, Limit1000, Limit500, Level, Positive, Increase}
 use Rattle.acas_base.specs.declared.view.View.{View}
-use Rattle.acas_base.specs.Limits.{LimitsAskForOwnRate, is_stricter_limit}
 
 -- ---- the first of the strengths that passes a test
 

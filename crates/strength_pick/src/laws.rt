@@ -1,11 +1,11 @@
 // What the choices of a strength are.
 ghost use Rattle.std.specs.Prelude.{◌≡◌, Bool, IsTrue, false, not};
 ghost use Rattle.acas_base.specs.Choice.{least_strength, strength_after, strongest, weakens};
+ghost use Rattle.acas_base.specs.Limits.{LimitsAskForOwnRate, is_stricter_limit};
 ghost use Rattle.acas_base.specs.declared.advisory.Intent.{Intent};
 ghost use Rattle.acas_base.specs.declared.advisory.Sense.{Sense};
 ghost use Rattle.acas_base.specs.declared.view.View.{View};
 ghost use Rattle.strength_pick.specs.Extremes.{IsLeast, IsNext, IsStrongestAllowed};
-ghost use Rattle.acas_base.specs.Limits.{LimitsAskForOwnRate, is_stricter_limit};
 
 use acas_base::Strength;
 

@@ -1,3 +1,4 @@
+use Rattle.craft_view.proofs.Limits.{meets-limits}
 use Rattle.craft_view.proofs.Resolving.{resolves-as-own, see-nothing, threatens}
 use Rattle.craft_view.proofs.laws.view_law.Goals as goal
 
@@ -9,3 +10,6 @@ returns-clause-resolves c = resolves-as-own
 
 pub returns-clause-nothing : goal.returns-clause-nothing
 returns-clause-nothing c = see-nothing
+
+pub returns-clause-limits : goal.returns-clause-limits
+returns-clause-limits c = meets-limits

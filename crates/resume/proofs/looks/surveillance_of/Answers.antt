@@ -5,7 +5,7 @@ use Rattle.air_rules.specs.Journal.{commits}
 use Rattle.craft_view.specs.Kept.{Kept}
 use Rattle.craft_view.proofs.Looking.{ready-none}
 use Rattle.resume.proofs.looks.surveillance_of.Goals as goal
-use Rattle.craft_view.specs.Looking.{IsReady}
+use Rattle.craft_view.specs.Looking.{AreReady, IsReady}
 
 pub loop-own-init : goal.loop-own-init
 loop-own-init c = record {
@@ -34,12 +34,13 @@ loop-own-preserved c =
     }
 
 pub returns : goal.returns
-returns c = λ own h.
+returns c =
     let i = c.loop-own.invariant in
     let e = c.args.enc.now in
     let size : length c.crafts.result.now ≡ length e.crafts = ap length c.crafts.ensures.value in
+    subst (AreReady e (commits c.args.state.now.journal)) (sym c.of.ensures) (λ own h.
     elim (cases_lt own c.loop-own.own) [
       | inl lt ↦ i.done own lt
       | inr ge ↦ subst (IsReady e own (commits c.args.state.now.journal own)) (sym (i.rest own ge h))
           (ready-none e own (commits c.args.state.now.journal own) (λ a. let b = below e c.crafts.ensures.valid own (active-is e own a) in omega arith))
-    ]
+    ])
