@@ -6,10 +6,10 @@ use crate::words::Page;
 use acas_lines::{LineSink, fixed_line};
 
 /// The page that `--help` writes.
-pub(crate) const HELP: [&str; 53] = [
+pub(crate) const HELP: [&str; 58] = [
     "acas plays encounters between aircraft with TCAS II version 7.1.\n",
     "\n",
-    "usage: acas WORD [NUMBERS] < INPUT > OUTPUT\n",
+    "usage: acas WORD [ARGUMENTS] < INPUT > OUTPUT\n",
     "\n",
     "These words read an encounter from standard input:\n",
     "  serial     Writes the recording of the serial run. The same encounter always\n",
@@ -22,7 +22,10 @@ pub(crate) const HELP: [&str; 53] = [
     "These words read a recording from standard input:\n",
     "  audit      Writes legal,ENTRIES where the recording is right. Else it writes\n",
     "             which line is the first wrong one, and why.\n",
-    "  reports    Writes the RA reports that the aircraft would have downlinked.\n",
+    "  places     Writes where each aircraft was in each cycle, and what its crew was\n",
+    "             advised, as a table (CSV).\n",
+    "  messages   Writes each message, and what became of it, as a table (CSV).\n",
+    "  reports    Writes the RA report blocks that aircraft would have downlinked.\n",
     "  response   Writes how far apart in altitude the aircraft would have been at\n",
     "             closest approach, had each flown with the modelled response.\n",
     "  watch      Writes when two aircraft had advisories in one sense, and why.\n",
@@ -37,6 +40,9 @@ pub(crate) const HELP: [&str; 53] = [
     "             Plays the encounters of COUNT numbers (1 to 4096) from NUMBER on,\n",
     "             with CRAFTS aircraft (1 to 4) and CYCLES cycles (1 to 120).\n",
     "             Writes the counts of each serial run, and their sums.\n",
+    "  decode WORD\n",
+    "             Writes what a word of 14 digits 0-9A-F says: a message, or an RA\n",
+    "             report block.\n",
     "  --help     Writes this page. So do -h and help.\n",
     "  --version  Writes the versions of the program and of its formats.\n",
     "\n",
@@ -45,9 +51,8 @@ pub(crate) const HELP: [&str; 53] = [
     "  2  The words are no command. Nothing was read or written.\n",
     "  3  serial, play, sum: the input is no encounter. One line,\n",
     "     refused,RECORD,CODE: the first faulty record, and the code of its fault.\n",
-    "  4  audit, reports, response, watch, why: the input is no recording of a legal\n",
-    "     and complete run. resume: it is no beginning of a recording. One line,\n",
-    "     wrong,LINE,REASON or wrong,2,1,CODE.\n",
+    "  4  The input is no recording of a legal and complete run; for resume, no\n",
+    "     beginning of one. One line, wrong,LINE,REASON or wrong,2,1,CODE.\n",
     "  5  A read failed. Nothing.\n",
     "  6  A write failed. The beginning of the output.\n",
     "  7  The input is too long: over 16777216 bytes of an encounter, or over\n",
@@ -64,7 +69,7 @@ pub(crate) const HELP: [&str; 53] = [
 
 /// What `--version` writes: the program's version, and the formats of encounters and recordings that it reads and
 /// writes.
-pub(crate) const VERSION: [&str; 3] = ["acas 1.0.0\n", "encounter 1,2\n", "recording 1\n"];
+pub(crate) const VERSION: [&str; 3] = ["acas 1.1.0\n", "encounter 1,2\n", "recording 1\n"];
 
 // Puts lines of fixed text, in order.
 fn put_lines<S: LineSink>(lines: &[&str], sink: &mut S)
