@@ -4,7 +4,7 @@
 #[cfg(test)]
 mod pair_watch_tests;
 #[cfg(test)]
-mod ra_report_tests;
+mod ra_block_tests;
 #[cfg(test)]
 mod reasons_tests;
 #[cfg(test)]
