@@ -13,3 +13,5 @@ mod response_tests;
 mod serial_runs;
 #[cfg(test)]
 mod sweep_tests;
+#[cfg(test)]
+mod word_text_tests;

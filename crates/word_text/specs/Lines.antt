@@ -52,15 +52,18 @@ abbrev pub lines_or_none : {T : Type 0} → (T → List (List ℕ)) → Option T
 lines_or_none lines None = codes "none\n" ∷ []
 lines_or_none lines (Some it) = lines it
 
+abbrev pub lines_as_block : ℕ → List (List ℕ)
+lines_as_block word = lines_or_none block_lines (read_block word)
+
+abbrev pub lines_as_message : ℕ → List (List ℕ)
+lines_as_message word = lines_or_none (message_lines word) (read_word word)
+
 -- Bit 41 is 1 in every word of a block, and 0 in every word of a message.
 abbrev pub is_block : ℕ → Bool
 is_block word = field 41 41 word == 1
 
 abbrev pub word_lines : ℕ → List (List ℕ)
-word_lines word =
-    if is_block word
-    then codes "word,block\n" ∷ lines_or_none block_lines (read_block word)
-    else codes "word,message\n" ∷ lines_or_none (message_lines word) (read_word word)
+word_lines word = if is_block word then codes "word,block\n" ∷ lines_as_block word else codes "word,message\n" ∷ lines_as_message word
 
 abbrev pub word_text : ℕ → List ℕ
 word_text word = joined (word_lines word)

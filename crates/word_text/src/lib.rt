@@ -5,7 +5,9 @@
 #![tactic(auto)]
 
 mod digits;
+mod laws;
 mod lines;
 
 pub use digits::parse;
+pub use laws::told_law;
 pub use lines::{WordText, write};

@@ -2,9 +2,8 @@
 ghost use Rattle.std.specs.Prelude.{◌≡◌, ◌≤◌, codes, length};
 ghost use Rattle.acas_io.specs.Stream.{Puts};
 ghost use Rattle.acas_text.specs.Hex.{hex};
-ghost use Rattle.ra_block.specs.Words.{read_block};
-ghost use Rattle.res_message.specs.Words.{field, read_word};
-ghost use Rattle.word_text.specs.Lines.{block_lines, complement_text, field_line, is_block, lines_or_none, mark_line, message_lines, word_text};
+ghost use Rattle.res_message.specs.Words.{field};
+ghost use Rattle.word_text.specs.Lines.{block_lines, complement_text, field_line, is_block, lines_as_block, lines_as_message, mark_line, message_lines, word_text};
 
 use acas_base::{Address, ResMsg, Vrc};
 use acas_io::{Failed, Sink};
@@ -111,7 +110,7 @@ fn put_lines<S: LineSink>(lines: &[Line], sink: &mut S)
 
 // Puts what a word says as a block.
 fn put_as_block<S: LineSink>(word: u64, sink: &mut S)
-    ensures { S.took sink.old sink.new (lines_or_none block_lines (read_block word)) }
+    ensures { S.took sink.old sink.new (lines_as_block word) }
 {
     match ra_block::decode(word) {
         Some(block) => put_lines(&block_lines(&block), sink),
@@ -121,7 +120,7 @@ fn put_as_block<S: LineSink>(word: u64, sink: &mut S)
 
 // Puts what a word says as a message.
 fn put_as_message<S: LineSink>(word: u64, sink: &mut S)
-    ensures { S.took sink.old sink.new (lines_or_none (message_lines word) (read_word word)) }
+    ensures { S.took sink.old sink.new (lines_as_message word) }
 {
     match res_message::decode(word) {
         Some(message) => put_lines(&message_lines(word, &message), sink),
