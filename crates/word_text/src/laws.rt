@@ -11,4 +11,7 @@ pub fn told_law()
     ensures block { (b : RaBlock) (word : ℕ) → IsWordOfBlock b word → word_lines word ≡ codes "word,block\n" ∷ block_lines b }
     ensures message { (m : ResMsg) (word : ℕ) → IsWordOfMessage m word → word_lines word ≡ codes "word,message\n" ∷ message_lines word m }
     ensures none { (word : ℕ) → ¬ IsBlockWord word → ¬ IsCodeWord word → (word_lines word ≡ codes "word,block\n" ∷ codes "none\n" ∷ []) ⊎ (word_lines word ≡ codes "word,message\n" ∷ codes "none\n" ∷ []) }
+
+    // No two words of blocks or messages are told alike.
+    ensures same { (v w : ℕ) → IsBlockWord v ⊎ IsCodeWord v → word_lines v ≡ word_lines w → v ≡ w }
 {}

@@ -1,3 +1,4 @@
+use Rattle.word_text.proofs.Distinct.{same-word}
 use Rattle.word_text.proofs.Telling.{block-told, message-told, none-told}
 use Rattle.word_text.proofs.laws.told_law.Goals as goal
 
@@ -9,3 +10,6 @@ returns-clause-message c = message-told
 
 pub returns-clause-none : goal.returns-clause-none
 returns-clause-none c = none-told
+
+pub returns-clause-same : goal.returns-clause-same
+returns-clause-same c = same-word

@@ -1,4 +1,4 @@
-use Rattle.std.proofs.Common.{◌∷◌, ℕ, List, Bool, cond, codes, ap, sym, ◌∙◌, subst}
+use Rattle.std.proofs.Common.{◌∷◌, ℕ, List, ap, sym, ◌∙◌, subst}
 use Rattle.word_text.specs.Lines.{lines_as_block, lines_as_message}
 use Rattle.word_text.proofs.Telling.{lines_if}
 use Rattle.word_text.proofs.lines.WordTextText.put.Goals as goal
