@@ -16,7 +16,7 @@ use Rattle.air_journal.specs.Airs.{address_of}
 use Rattle.air_rules.specs.Journal.{cell_at}
 use Rattle.ra_report.specs.Blocks.{advice, block_for, course, course_from, ended, fresh_block, has_had, held_block, is_increase, is_none, is_positive, only_one, threats}
 use Rattle.ra_report.specs.Stories.{AreAfter, IsAmong, IsStory, as_threats, fresh, had, held_after, held_of, no_senses, older, senses_after, senses_of, told}
-use Rattle.ra_report.specs.declared.block.RaBlock.{RaBlock}
+use Rattle.ra_block.specs.declared.block.RaBlock.{RaBlock}
 use Rattle.ra_report.specs.declared.story.Held.{Held}
 use Rattle.ra_report.specs.declared.story.Senses.{Senses}
 use Rattle.ra_report.specs.declared.story.Story.{Story}

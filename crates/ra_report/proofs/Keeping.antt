@@ -17,7 +17,7 @@ use Rattle.air_rules.specs.Journal.{Begins, more, whole}
 use Rattle.journal_reader.specs.Reading.{Reading, next_entry}
 use Rattle.ra_report.specs.Blocks.{block_in, block_of, cells_of, is_limited, is_not_above, is_not_below, limited}
 use Rattle.ra_report.specs.Stories.{AreBlocks, AreStories, IsStory, block_by, no_senses, no_story, told}
-use Rattle.ra_report.specs.declared.block.RaBlock.{RaBlock}
+use Rattle.ra_block.specs.declared.block.RaBlock.{RaBlock}
 use Rattle.ra_report.specs.declared.story.Held.{Held}
 use Rattle.ra_report.specs.declared.story.Story.{Story}
 use Rattle.ra_report.proofs.Course.{advice-is}

@@ -1,4 +1,3 @@
-pub mod Fields
 pub mod Ranges
 pub mod Course
 pub mod Keeping

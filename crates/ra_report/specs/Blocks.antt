@@ -23,8 +23,8 @@ use Rattle.air_journal.specs.Airs.{address_of, air_of}
 use Rattle.air_rules.specs.Air.{is_ra}
 use Rattle.air_rules.specs.Journal.{cell_at}
 use Rattle.air_rules.specs.Takes.{complement_from}
-use Rattle.ra_report.specs.Words.{word_of}
-use Rattle.ra_report.specs.declared.block.RaBlock.{RaBlock}
+use Rattle.ra_block.specs.Words.{word_of}
+use Rattle.ra_block.specs.declared.block.RaBlock.{RaBlock}
 
 -- ---- what follows from an aircraft's own commits: the cells of each of them, the last one first
 

@@ -14,7 +14,7 @@ use Rattle.air_journal.specs.Cells.{place_of}
 use Rattle.air_rules.specs.Air.{is_ra}
 use Rattle.air_rules.specs.Journal.{cell_at}
 use Rattle.ra_report.specs.Blocks.{block_for, block_in, cells_of, ended, fresh_block, has_had, hold, is_limited, is_none, is_not_above, is_not_below, limited, threats}
-use Rattle.ra_report.specs.declared.block.RaBlock.{RaBlock}
+use Rattle.ra_block.specs.declared.block.RaBlock.{RaBlock}
 use Rattle.ra_report.specs.declared.story.Held.{Held}
 use Rattle.ra_report.specs.declared.story.Senses.{Senses}
 use Rattle.ra_report.specs.declared.story.Story.{Story}

@@ -3,7 +3,7 @@ ghost use Rattle.std.specs.Prelude.{◌≡◌, ◌<◌, ◌≤◌, length};
 ghost use Rattle.acas_base.specs.declared.TheConstants.{CRAFTS};
 ghost use Rattle.ra_report.specs.Blocks.{is_limited, is_not_above, is_not_below, limited};
 
-use crate::block::RaBlock;
+use ra_block::RaBlock;
 use acas_base::Sense;
 use journal_reader::Reader;
 

@@ -4,7 +4,7 @@ ghost use Rattle.acas_base.specs.Ranges.{IsCycle};
 ghost use Rattle.acas_io.specs.Stream.{Puts};
 ghost use Rattle.ra_report.specs.Blocks.{block_line, block_lines, lines_in, report_text};
 
-use crate::block::{RaBlock, encode};
+use ra_block::{RaBlock, encode};
 use crate::table::Table;
 use acas_base::Address;
 use acas_io::{Failed, Sink};

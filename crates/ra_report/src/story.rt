@@ -5,7 +5,7 @@ ghost use Rattle.acas_base.specs.declared.advisory.Cells.{Cells};
 ghost use Rattle.ra_report.specs.Blocks.{block_for, ended, is_increase, is_positive, threats};
 ghost use Rattle.ra_report.specs.Stories.{AreAfter, IsAmong, IsStory, as_threats, had, held_after, no_senses, older, senses_after, told};
 
-use crate::block::RaBlock;
+use ra_block::RaBlock;
 use acas_base::{Address, CRAFTS, Cell, Cells, Encounter, Sense, Strength};
 
 /// The aircraft against which a commit advises.

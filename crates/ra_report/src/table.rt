@@ -10,7 +10,7 @@ ghost use Rattle.air_rules.specs.Air.{is_ra};
 ghost use Rattle.ra_report.specs.Blocks.{block_in};
 ghost use Rattle.ra_report.specs.Stories.{AreBlocks, AreStories, block_by, no_story};
 
-use crate::block::RaBlock;
+use ra_block::RaBlock;
 use crate::limits::with_limits;
 use crate::story::{Senses, Story};
 use acas_base::{CRAFTS, Cells, Encounter};

@@ -4,7 +4,7 @@
 #[cfg(test)]
 mod pair_watch_tests;
 #[cfg(test)]
-mod ra_report_tests;
+mod ra_block_tests;
 #[cfg(test)]
 mod reasons_tests;
 #[cfg(test)]
@@ -13,3 +13,5 @@ mod response_tests;
 mod serial_runs;
 #[cfg(test)]
 mod sweep_tests;
+#[cfg(test)]
+mod word_text_tests;

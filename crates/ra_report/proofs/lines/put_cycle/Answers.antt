@@ -7,7 +7,7 @@ use Rattle.acas_base.specs.declared.craft.CraftSpec.{CraftSpec}
 use Rattle.air_journal.specs.Airs.{address_of}
 use Rattle.air_journal.specs.States.{State}
 use Rattle.ra_report.specs.Blocks.{block_line, lines_of}
-use Rattle.ra_report.specs.declared.block.RaBlock.{RaBlock}
+use Rattle.ra_block.specs.declared.block.RaBlock.{RaBlock}
 use Rattle.acas_lines.proofs.Ranges.{flat-more}
 use Rattle.air_journal.proofs.Addresses.{address-is}
 use Rattle.ra_report.proofs.lines.put_cycle.Goals as goal

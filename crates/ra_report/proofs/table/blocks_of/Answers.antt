@@ -10,7 +10,7 @@ use Rattle.air_rules.proofs.Beginnings.{begins-length}
 use Rattle.air_rules.specs.Journal.{Begins}
 use Rattle.journal_reader.proofs.Prefixes.{holds-next}
 use Rattle.ra_report.specs.Stories.{AreBlocks, AreStories}
-use Rattle.ra_report.specs.declared.block.RaBlock.{RaBlock}
+use Rattle.ra_block.specs.declared.block.RaBlock.{RaBlock}
 use Rattle.ra_report.specs.declared.story.Story.{Story}
 use Rattle.ra_report.proofs.Keeping.{no-blocks, no-stories, nothing-begins, reads-on}
 use Rattle.ra_report.proofs.table.blocks_of.Goals as goal

@@ -1,6 +1,6 @@
 // Expected values: by hand from the tables of "RA report blocks" in docs/FORMATS.md.
 use acas_base::Address;
-use ra_report::{RaBlock, decode, encode};
+use ra_block::{RaBlock, decode, encode};
 use std::test::Fail;
 
 // A climb and its reversal against 400A01. The reversal crosses, and "do not pass above" is in force.

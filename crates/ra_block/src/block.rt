@@ -1,8 +1,8 @@
 // Blocks and their words. The layout is this project's own.
 ghost use Rattle.std.specs.Prelude.{◌≡◌, ◌↔◌, ◌<◌, ◌+◌, ◌*◌, ◌^◌, None, Some};
 ghost use Rattle.acas_base.specs.Ranges.{IsAddress};
-ghost use Rattle.ra_report.specs.Words.{Word, IsBlockWord, bit_at, read_block, word_of};
-ghost use Rattle.ra_report.specs.declared.block.RaBlock.{RaBlock};
+ghost use Rattle.ra_block.specs.Words.{Word, IsBlockWord, bit_at, read_block, word_of};
+ghost use Rattle.ra_block.specs.declared.block.RaBlock.{RaBlock};
 ghost use Rattle.res_message.specs.Words.{bit_of};
 
 use acas_base::Address;

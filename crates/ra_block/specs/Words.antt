@@ -2,7 +2,7 @@
 -- Its model is the register BDS 3,0.
 use Rattle.std.specs.Prelude.{◌≡◌, ℕ, ◌+◌, ◌*◌, ◌/◌, ◌%◌, ◌^◌, ◌<◌, ◌==◌, ◌&&◌, nat_le, Bool, if◌then◌else◌, Option, Some, None}
 use Rattle.acas_base.specs.Ranges.{IsAddress}
-use Rattle.ra_report.specs.declared.block.RaBlock.{RaBlock}
+use Rattle.ra_block.specs.declared.block.RaBlock.{RaBlock}
 use Rattle.res_message.specs.Words.{bit_of, field}
 
 -- The word of a block, bit by bit.

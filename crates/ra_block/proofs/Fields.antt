@@ -2,8 +2,8 @@
 use Rattle.std.proofs.Common.{◌≡◌, ◌↔◌, ℕ, ◌<◌, Bool, true, false, cond, Option, Some, None, arith, refl, sym, ap, ◌∙◌, subst, ◌&&◌, nat_le}
 use Rattle.std.specs.Prelude.{◌==◌}
 use Rattle.acas_base.specs.Ranges.{IsAddress}
-use Rattle.ra_report.specs.Words.{IsBlockWord, Word, block_at, read_block, word_of}
-use Rattle.ra_report.specs.declared.block.RaBlock.{RaBlock}
+use Rattle.ra_block.specs.Words.{IsBlockWord, Word, block_at, read_block, word_of}
+use Rattle.ra_block.specs.declared.block.RaBlock.{RaBlock}
 use Rattle.res_message.proofs.Fields.{bit-small}
 use Rattle.res_message.specs.Words.{bit_of}
 
