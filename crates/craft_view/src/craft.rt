@@ -153,7 +153,8 @@ impl Craft {
         self.put_views(places.encounter(), &own, &mut picture.views);
     }
 
-    // Puts the view of each aircraft in the present cycle at its place. Past the last one the views say nothing already.
+    // Puts the view of each aircraft in the present cycle at its place. Past the last one the views say nothing
+    // already.
     fn put_views(&self, encounter: &Encounter, own: &OwnAircraft, views: &mut [View; CRAFTS])
         requires belongs { Belongs encounter.now self.now }
         requires own { own.now ≡ own_of (sight_of encounter.now self.now.own self.now.cycle) }

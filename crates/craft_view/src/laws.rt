@@ -4,8 +4,9 @@ ghost use Rattle.acas_base.specs.Encounter.{Parts};
 ghost use Rattle.craft_view.specs.Facts.{IsAlike, MeetsLimits, ResolvesAsOwn, SeesAlike, SeesNothing, Threatens};
 
 /// A law: a threat is seen only where the pair is tested and the view resolves. The view of another aircraft resolves
-/// exactly where own aircraft gives resolution advisories and its sensitivity level is above 2. In the own place and past
-/// the last aircraft nothing is seen. All limits on the vertical rate that own rate meets give the same separation.
+/// exactly where own aircraft gives resolution advisories and its sensitivity level is above 2. In the own place and
+/// past the last aircraft nothing is seen. All limits on the vertical rate that own rate meets give the same
+/// separation.
 pub fn view_law()
     ensures threat { (e : Parts) (own target cycle : ℕ) → Threatens e own target cycle }
     ensures resolves { (e : Parts) (own target cycle : ℕ) → ResolvesAsOwn e own target cycle }

@@ -71,8 +71,9 @@ pub(crate) fn approach_of(motion: &Motion, row: &Row) -> Approach
 
 // The separations of all strengths.
 //
-// With its response, its sense and its strength known where it is compiled, a separation takes half the instructions. Without
-// this and the attribute of `in_sense`, serial runs of 16 and of 8 aircraft of kind RA take 12.6 and 6.6 per cent more.
+// With its response, its sense and its strength known where it is compiled, a separation takes half the instructions.
+// Without this and the attribute of `in_sense`, serial runs of 16 and of 8 aircraft of kind RA take 12.6 and 6.6 per
+// cent more.
 #[inline(always)]
 #[tactic(auto, unfolding(crate::specs::Separations::separations))]
 pub(crate) fn separations(motion: &Motion, approach: &Approach, response: Response) -> Seps
