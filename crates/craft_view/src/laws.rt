@@ -14,8 +14,8 @@ pub fn view_law()
     ensures limits { (e : Parts) (own target cycle : ℕ) → MeetsLimits e own target cycle }
 {}
 
-/// A law: an aircraft that has equal sights of two encounters up to a cycle has equal views in all cycles up
-/// to it, and equal ranks, and both encounters have as many aircraft.
+/// A law about two encounters of which an aircraft has equal sights up to a cycle. It has equal views of both in all
+/// cycles up to that one, and equal ranks, and both have the same number of aircraft.
 pub fn sight_law()
     ensures { (e f : Parts) (own cycle : ℕ) → SeesAlike e f own cycle → IsAlike e f own cycle }
 {}
