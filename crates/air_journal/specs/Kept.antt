@@ -1,5 +1,5 @@
 -- What is kept beside a journal. Each kept thing is a function of the journal.
-use Rattle.std.specs.Prelude.{◌≡◌, ◌≢◌, ℕ, ◌+◌, ◌*◌, ◌<◌, ◌&&◌, ◌==◌, Bool, true, false, if◌then◌else◌, List, [], ◌∷◌, ◌++◌, length, Option, Some, None, option_map, slice_index_or}
+use Rattle.std.specs.Prelude.{◌≡◌, ◌≢◌, ℕ, ◌+◌, ◌*◌, ◌<◌, ◌≤◌, ◌&&◌, ◌==◌, Bool, true, false, if◌then◌else◌, List, [], ◌∷◌, ◌++◌, length, Option, Some, None, option_map, slice_index_or}
 use Rattle.std.specs.List.{remove}
 use Rattle.acas_base.specs.declared.TheConstants.{CRAFTS}
 use Rattle.acas_base.specs.declared.advisory.Cell.{Cell}
@@ -149,6 +149,11 @@ pub record AfterCommit (old new : Kept) (own : ℕ) (cells : Cells) (many : Bool
   pub made : (a : ℕ) → a < CRAFTS → made_at new a ≡ (if own == a then (let m : Made = record { commits = (made_at old a).commits + 1; many = many } in m) else made_at old a)
   pub link : (a b : ℕ) → a < CRAFTS → b < CRAFTS → link_at new a b ≡ (if own == a then committed_link (link_at old a b) (cell_at cells b) else link_at old a b)
   pub queue : (a b : ℕ) → a < CRAFTS → b < CRAFTS → queue_at new a b ≡ queue_at old a b
+
+-- Past the first so many aircraft the row of an aircraft stays as it is by a commit of these cells.
+abbrev pub IsSamePast : List Link → ℕ → Cells → ℕ → Type 0
+IsSamePast links own cells count = (other : ℕ) → count ≤ other → other < CRAFTS
+    → committed_link (slice_index_or links (own * CRAFTS + other) no_link) (cell_at cells other) ≡ slice_index_or links (own * CRAFTS + other) no_link
 
 -- The row of an aircraft has these cells, and nothing was sent since.
 pub record RowIs (old new : List Link) (own : ℕ) (cells : Cells) : Type 0 where

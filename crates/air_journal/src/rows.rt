@@ -2,7 +2,7 @@
 ghost use Rattle.std.specs.Prelude.{◌≡◌, ℕ, ◌+◌, ◌<◌, ◌≤◌, List, [], ◌++◌, length, replicate, IfOk, Some};
 ghost use Rattle.acas_base.specs.Fates.{copies_of};
 ghost use Rattle.acas_base.specs.declared.TheConstants.{CRAFTS};
-ghost use Rattle.air_journal.specs.Kept.{AfterCommit, AfterSend, AfterTake, IsBlank, RowIs, copies_from, link_at, made_at, no_link, nothing_made, queue_at, read_as, vrc_of, waiting_copy};
+ghost use Rattle.air_journal.specs.Kept.{AfterCommit, AfterSend, AfterTake, IsBlank, IsSamePast, RowIs, copies_from, link_at, made_at, no_link, nothing_made, queue_at, read_as, vrc_of, waiting_copy};
 ghost use Rattle.air_journal.specs.declared.queue.TheConstants.{QUEUE_ROOM};
 ghost use Rattle.res_message.specs.Words.{flip_word, read_word};
 
@@ -214,27 +214,31 @@ impl Rows {
         self.queues[pair_of(sender, own)].remove(place);
     }
 
-    /// A commit with these cells.
-    pub(crate) fn commit(&mut self, own: u8, cells: &Cells, many: bool)
+    /// A commit with these cells, in an encounter of so many aircraft.
+    pub(crate) fn commit(&mut self, own: u8, cells: &Cells, many: bool, count: u8)
         requires own { own < CRAFTS }
         requires commits { (made_at self.old own).commits < 600 }
         requires size { length cells.now.list ≡ CRAFTS }
+        requires count { count ≤ CRAFTS }
+        requires past { IsSamePast self.old.links own cells.now count }
         ensures { AfterCommit self.old self.new own cells.now many }
     {
         let commits = self.made[usize::from(own)].commits + 1;
         self.made[usize::from(own)] = Made { commits, many };
-        put_cells(&mut self.links, own, cells);
+        put_cells(&mut self.links, own, cells, count);
     }
 }
 
-// Puts new cells into an aircraft's row; nothing was sent since.
-fn put_cells(links: &mut Vec<Link>, own: u8, cells: &Cells)
+// Puts new cells into an aircraft's row; nothing was sent since. Past the last aircraft the row stays as it was.
+fn put_cells(links: &mut Vec<Link>, own: u8, cells: &Cells, count: u8)
     requires own { own < CRAFTS }
     requires pairs { length links.old.items ≡ 256 }
     requires size { length cells.now.list ≡ CRAFTS }
+    requires count { count ≤ CRAFTS }
+    requires past { IsSamePast links.old.items own cells.now count }
     ensures { RowIs links.old.items links.new.items own cells.now }
 {
-    for other in 0..CRAFTS as u8 {
+    for other in 0..count {
         let pair = pair_of(own, other);
         let link = &mut links[pair];
         link.cell = cells.list[usize::from(other)];

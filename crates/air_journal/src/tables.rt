@@ -2,7 +2,7 @@
 ghost use Rattle.std.specs.Prelude.{◌≡◌, ℕ, ◌+◌, ◌<◌, ◌≤◌, [], length, replicate, IfOk, IsTrue, MatchBool, Some};
 ghost use Rattle.acas_base.specs.Fates.{copies_of};
 ghost use Rattle.acas_base.specs.declared.TheConstants.{CRAFTS};
-ghost use Rattle.air_journal.specs.Kept.{AfterCommit, AfterSend, AfterTake, IsBlank, copies_from, link_at, made_at, queue_at, read_as, vrc_of};
+ghost use Rattle.air_journal.specs.Kept.{AfterCommit, AfterSend, AfterTake, IsBlank, IsSamePast, copies_from, link_at, made_at, queue_at, read_as, vrc_of};
 ghost use Rattle.air_journal.specs.Orders.{IsQuiet, IsTold, StartsOtherwise, StartsWith};
 ghost use Rattle.air_journal.specs.Queues.{AreOrdered};
 ghost use Rattle.air_journal.specs.declared.queue.TheConstants.{QUEUE_ROOM};
@@ -154,13 +154,15 @@ impl Tables {
         self.rows.take(own, sender, place, reads);
     }
 
-    /// A commit with these cells.
-    pub(crate) fn commit(&mut self, own: u8, cells: &Cells, many: bool)
+    /// A commit with these cells, in an encounter of so many aircraft.
+    pub(crate) fn commit(&mut self, own: u8, cells: &Cells, many: bool, count: u8)
         requires own { own < CRAFTS }
         requires commits { (made_at self.old own).commits < 600 }
         requires size { length cells.now.list ≡ CRAFTS }
+        requires count { count ≤ CRAFTS }
+        requires past { IsSamePast self.old.links own cells.now count }
         ensures { AfterCommit self.old self.new own cells.now many }
     {
-        self.rows.commit(own, cells, many);
+        self.rows.commit(own, cells, many, count);
     }
 }
