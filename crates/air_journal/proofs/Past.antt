@@ -56,4 +56,4 @@ same-past {e} {w} {t} h i cells hi next = λ j past few.
     let K = w.entries in
     let is : link_at t i j ≡ link_of air K i j = h.kept.link i j hi few in
     same-link (link_at t i j) (cell_at cells j) (next.each j few ∙ next-past air t i j past)
-    (ap (λ (l : Link). l.cell) is ∙ cell-past air K h.legal i j past) (ap (λ (l : Link). l.sent) is ∙ unsent-past air (sound-of e h.valid) K h.legal i j past)
+    (ap (λ (l : Link). l.cell) is ∙ cell-past air K h.is_journal.legal i j past) (ap (λ (l : Link). l.sent) is ∙ unsent-past air (sound-of e h.is_journal.valid) K h.is_journal.legal i j past)

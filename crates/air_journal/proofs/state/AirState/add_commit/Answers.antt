@@ -41,7 +41,7 @@ fit c p a f = commit-fits c.self.invariant.whole c.args.own c.next_cells-cells.r
 pub overflow_cast-position : goal.overflow_cast-position
 overflow_cast-position c =
     let h = c.self.invariant.whole in
-    omega (arith, fits c.self.inside.encounter c.self.inside.journal.entries h.valid h.legal, most-few c.self.inside.encounter h.valid, c.len-position.ensures)
+    omega (arith, fits c.self.inside.encounter c.self.inside.journal.entries h.is_journal.valid h.is_journal.legal, most-few c.self.inside.encounter h.is_journal.valid, c.len-position.ensures)
 
 pub made-cycle-requires : goal.made-cycle-requires
 made-cycle-requires c = own (goal.at.made-cycle-requires c).After-len-position
