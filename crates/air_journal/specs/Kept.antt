@@ -64,7 +64,7 @@ vrc_of message = option_map (λ (m : ResMsg). m.vrc) message
 abbrev pub read_as : (ℕ → ℕ → ℕ) → (ℕ → Option ResMsg) → ℕ → CopyPlan → Option Vrc
 read_as flip read word plan = vrc_of (read (flip word plan.mask))
 
--- A copy of the message sent at a position, to a receiver that has made so many commits, and what is read of it.
+-- A copy of the message sent at a position, to a receiver that has made `made` commits, and what is read of it.
 abbrev pub waiting_copy : (CopyPlan → Option Vrc) → ℕ → ℕ → ℕ → CopyPlan → Waiting
 waiting_copy reads send made copy plan = record { send = send; copy = copy; due = made + plan.hold; reads = reads plan }
 
@@ -184,7 +184,7 @@ pub record AfterCommit (old new : Kept) (own : ℕ) (cells : Cells) (many : Bool
   pub queue : (a b : ℕ) → a < CRAFTS → b < CRAFTS → queue_at new a b ≡ queue_at old a b
   pub room : (a b : ℕ) → a < CRAFTS → b < CRAFTS → room_at new a b ≡ room_at old a b
 
--- Past the first so many aircraft the row of an aircraft stays as it is by a commit of these cells.
+-- Past the first `count` aircraft the row of an aircraft stays as it is by a commit of these cells.
 abbrev pub IsSamePast : List Link → ℕ → Cells → ℕ → Type 0
 IsSamePast links own cells count = (other : ℕ) → count ≤ other → other < CRAFTS
     → committed_link (slice_index_or links (own * CRAFTS + other) no_link) (cell_at cells other) ≡ slice_index_or links (own * CRAFTS + other) no_link

@@ -37,7 +37,7 @@ pub record IsQueue (air : Air) (journal : List Entry) (sender receiver : ℕ) (q
   pub holds : (waiting : Waiting) → IsIn waiting queue → IsWaiting air journal sender receiver waiting
   pub whole : (waiting : Waiting) → IsWaiting air journal sender receiver waiting → IsIn waiting queue
 
--- None of them is due after so many commits.
+-- None of them is due after `made` commits.
 abbrev pub NoneDue : List Waiting → ℕ → Type 0
 NoneDue queue made = (waiting : Waiting) → IsIn waiting queue → made < waiting.due
 

@@ -27,7 +27,7 @@ pub(crate) struct Found {
     pub waiting: Waiting,
 }
 
-// The first due copy of a queue, to a receiver that has made so many commits.
+// The first due copy of a queue, to a receiver that has made `made` commits.
 fn first_due(queue: &[Waiting], made: u16) -> Option<Due>
     ensures { MatchOption result (NoneDue queue.now made) (λ due. IsFirstDueAt queue.now made due.place due.waiting) }
 {
@@ -64,7 +64,7 @@ fn earlier(best: Option<Found>, sender: u8, next: Option<Due>) -> Option<Found>
     }
 }
 
-/// The first copy that is due to an aircraft that has made so many commits, from the first so many senders.
+/// The first copy that is due to an aircraft that has made `made` commits, from the first `count` senders.
 pub(crate) fn first_due_to(tables: &Tables, own: u8, made: u16, count: u8) -> Option<Found>
     requires own { own < CRAFTS }
     requires count { count ≤ CRAFTS }
@@ -82,7 +82,7 @@ pub(crate) fn first_due_to(tables: &Tables, own: u8, made: u16, count: u8) -> Op
     best
 }
 
-/// The first copy that is due to an aircraft that has made so many commits. Mostly it is a copy of the first message
+/// The first copy that is due to an aircraft that has made `made` commits. Mostly it is a copy of the first message
 /// to it, and no search is needed.
 pub(crate) fn next_due(tables: &mut Tables, own: u8, made: u16) -> Option<Found>
     requires own { own < CRAFTS }

@@ -15,7 +15,7 @@ use crate::tables::Tables;
 use acas_base::{CRAFTS, Cell, Cells, Encounter, Picture, View, Vrc};
 use coord_core::next_cell;
 
-// The complement in force after so many commits.
+// The complement in force after `made` commits.
 fn kept_in_force(complement: Option<Complement>, made: u16) -> Vrc
     ensures { result ≡ kept_in_force complement made }
 {

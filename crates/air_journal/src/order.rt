@@ -39,7 +39,7 @@ impl Model for Order {
 }
 
 impl Order {
-    /// That of no message, with room for so many.
+    /// The order of no message, with room for `room` messages.
     pub(crate) fn new(alloc: Global, room: usize) -> Result<Self, AllocError>
         ensures { IfOk result (λ order. order ≡ Some []) }
     {

@@ -6,8 +6,8 @@ use crate::kept::Waiting;
 use std::alloc::{AllocError, Global};
 use std::marker::Model;
 
-/// The copies that wait, in order of position and copy. Mostly the first one is taken first: then it is counted, so that
-/// the others needn't move. All its memory is taken at the start, by the room that is asked for.
+/// The copies that wait, in order of position and copy. Mostly the first one is taken first: then it is counted, so
+/// that the others needn't move. All its memory is taken at the start, by the room that is asked for.
 #[derive(Drop)]
 pub(crate) struct Queue {
     copies: Vec<Waiting>,
@@ -26,7 +26,7 @@ impl Model for Queue {
     ghost invariant = { λ q. q.taken ≤ length q.copies.items };
 }
 
-// Gives back the room of the first so many copies.
+// Gives back the room of the first `count` copies.
 fn drop_front(copies: &mut Vec<Waiting>, count: usize)
     requires { count ≤ length copies.old.items }
     ensures items { copies.new.items ≡ drop count copies.old.items }
@@ -38,7 +38,7 @@ fn drop_front(copies: &mut Vec<Waiting>, count: usize)
 }
 
 impl Queue {
-    /// An empty queue with room for so many copies.
+    /// An empty queue with room for `room` copies.
     pub(crate) fn new(alloc: Global, room: usize) -> Result<Self, AllocError>
         ensures copies { IfOk result (λ queue. queue.copies ≡ []) }
         ensures room { IfOk result (λ queue. room ≤ queue.room) }

@@ -165,7 +165,7 @@ impl Tables {
         self.rows.take(own, sender, place, reads);
     }
 
-    /// A commit with these cells, in an encounter of so many aircraft.
+    /// A commit with these cells, in an encounter of `count` aircraft.
     pub(crate) fn commit(&mut self, own: u8, cells: &Cells, many: bool, count: u8)
         requires own { own < CRAFTS }
         requires commits { (made_at self.old own).commits < 600 }

@@ -9,8 +9,8 @@ use acas_base::{CRAFTS, Encounter, Fate, PAIRS, pair_of};
 use std::alloc::{AllocError, Global};
 use std::marker::Model;
 
-/// The fate that all messages of an ordered pair have, for each pair that sends messages and of which the encounter names
-/// no single message; so a send needn't search the encounter's lists.
+/// The fate that all messages of an ordered pair have, for each pair that sends messages and of which the encounter
+/// names no single message; so a send needn't search the encounter's lists.
 #[derive(Drop)]
 pub(crate) struct UsualFates {
     fates: Vec<Option<Fate>>,

@@ -8,10 +8,11 @@ use acas_io::{Failed, Sink};
 use acas_lines::{LineSink, Text, count_line, write_text};
 use air_journal::AirState;
 
-/// The modelled response of a state: how many pairs of aircraft there are of which one has a resolution advisory against
-/// the other in some commit, and a line for each, by lower and by higher index: `p,ADDRESS,ADDRESS,CYCLE,PLANNED,FLOWN`.
-/// CYCLE is the first cycle in which their slant range is least, as planned; PLANNED and FLOWN are how far apart their
-/// altitudes are in it, as planned and by [`crate::flown`], in ft and rounded down (this project's profile).
+/// The modelled response of a state: how many pairs of aircraft there are of which one has a resolution advisory
+/// against the other in some commit, and a line for each, by lower and by higher index:
+/// `p,ADDRESS,ADDRESS,CYCLE,PLANNED,FLOWN`. CYCLE is the first cycle in which their slant range is least, as planned;
+/// PLANNED and FLOWN are how far apart their altitudes are in it, as planned and by [`crate::flown`], in ft and rounded
+/// down (this project's profile).
 #[derive(Drop)]
 pub struct Response<'a>(pub &'a AirState);
 
