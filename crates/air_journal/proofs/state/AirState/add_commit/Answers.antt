@@ -118,4 +118,4 @@ returns-clause-commits c =
     })
 
 pub returns-clause-legal : goal.returns-clause-legal
-returns-clause-legal c = let p = (goal.at.returns-clause-legal c).After-len-position in (whole c (active p) (free p)).legal
+returns-clause-legal c = let p = (goal.at.returns-clause-legal c).After-len-position in (whole c (active p) (free p)).is_journal.legal

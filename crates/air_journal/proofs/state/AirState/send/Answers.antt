@@ -90,4 +90,4 @@ returns-in-Some-clause-sends c =
     })
 
 pub returns-in-Some-clause-legal : goal.returns-in-Some-clause-legal
-returns-in-Some-clause-legal c = (whole c (active (goal.at.returns-in-Some-clause-legal c).In-Some)).legal
+returns-in-Some-clause-legal c = (whole c (active (goal.at.returns-in-Some-clause-legal c).In-Some)).is_journal.legal
