@@ -170,7 +170,7 @@ fn down_word(strength: Strength) -> &'static str
 }
 
 /// The word of a composite in the report.
-pub(crate) fn word(composite: &Composite) -> &'static str
+pub fn word(composite: &Composite) -> &'static str
     ensures text { result.now ≡ word_of composite.now }
     ensures short { length result.now ≤ 13 }
 {

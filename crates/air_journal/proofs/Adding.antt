@@ -1,7 +1,7 @@
 -- The state after one entry more.
-use Rattle.std.proofs.Common.{◌≡◌, ◌≢◌, ◌⊎◌, ℕ, ◌+◌, ◌*◌, ◌<◌, ◌≤◌, Bool, true, ◌&&◌, eqb, List, [], ◌∷◌, length, Option, Some, None, is_some, sym, refl, ap, ◌∙◌, subst, arith, inl, inr, eq-eqb, ne_eqb, le-leb}
+use Rattle.std.proofs.Common.{◌≡◌, ◌≢◌, ◌⊎◌, ℕ, ◌+◌, ◌*◌, ◌<◌, ◌≤◌, Bool, true, not, ◌&&◌, eqb, List, [], ◌∷◌, length, Option, Some, None, is_some, sym, refl, ap, ◌∙◌, subst, arith, inl, inr, eq-eqb, ne_eqb, le-leb}
 use Rattle.std.specs.Prelude.{option_and_then}
-use Rattle.std.proofs.lemmas.Bool.{and_from, and_left, and_right, cond-false, cond-true, cases_eq}
+use Rattle.std.proofs.lemmas.Bool.{and_from, and_parts, and_left, and_right, cond-false, cond-true, cases_eq}
 use Rattle.std.proofs.lemmas.Option.{slice_get_within}
 use Rattle.acas_base.specs.Encounter.{Parts}
 use Rattle.acas_base.specs.Messages.{has_many}
@@ -21,21 +21,22 @@ use Rattle.air_journal.specs.Airs.{air_of}
 use Rattle.air_journal.specs.Calls.{IsFree}
 use Rattle.air_journal.specs.Cells.{commit_cells}
 use Rattle.air_journal.specs.Found.{AreNext, IsFirstOwedBy, WaitsAt}
-use Rattle.air_journal.specs.Kept.{AfterCommit, AfterSend, AfterTake, IsKept, Kept, copies_from, link_at, made_at, queue_at, read_as, vrc_of, waiting}
+use Rattle.air_journal.specs.Kept.{AfterCommit, AfterSend, AfterTake, IsKept, Kept, copies_from, link_at, made_at, queue_at, read_as, room_at, room_of, vrc_of, waiting}
 use Rattle.air_journal.specs.Queues.{IsWaiting}
 use Rattle.air_journal.specs.States.{IsWhole}
 use Rattle.air_journal.specs.Written.{Written}
 use Rattle.air_journal.specs.declared.due.Found.{Found}
 use Rattle.air_journal.specs.declared.kept.Link.{Link}
 use Rattle.air_journal.specs.declared.kept.Waiting.{Waiting}
-use Rattle.air_journal.specs.declared.queue.TheConstants.{QUEUE_ROOM}
 use Rattle.air_rules.proofs.FewSends.{sends-few}
 use Rattle.air_rules.proofs.Legal.{allowed, earlier}
 use Rattle.air_rules.proofs.Pace.{count-no, count-yes}
-use Rattle.air_rules.proofs.Running.{owed-own}
-use Rattle.air_rules.specs.Air.{Air, is_active}
-use Rattle.air_rules.specs.Journal.{Sent, commits, is_commit_of, is_send_of, sends, sent_at}
+use Rattle.air_rules.proofs.Running.{owed-message, owed-own}
+use Rattle.air_rules.proofs.Waiting.{commits-within}
+use Rattle.air_rules.specs.Air.{Air, is_active, is_ra}
+use Rattle.air_rules.specs.Journal.{Sent, commits, has_sent, is_commit_of, is_send_of, sends, sent_at}
 use Rattle.air_rules.specs.Length.{most_entries}
+use Rattle.air_rules.specs.Owed.{owed}
 use Rattle.air_rules.specs.Rules.{IsLegal, MayCommit, MaySend, MayTake, extended}
 use Rattle.air_rules.specs.Takes.{complement_read, read_copy}
 use Rattle.res_message.specs.Words.{flip_word, read_word, word_of}
@@ -68,7 +69,15 @@ pub record SendFits (e : Parts) (w : Written) (t : Kept) (i j : ℕ) : Type 0 wh
   pub room : length w.entries < w.room
   pub sends : (link_at t i j).sends < 600
   pub commits : (made_at t j).commits ≤ 600
-  pub copies : length (queue_at t i j) + 3 ≤ QUEUE_ROOM
+  pub copies : length (queue_at t i j) + 3 ≤ room_at t i j
+
+-- The queue of a pair in which a message is owed has room for all its messages.
+room-is : (air : Air) (K : List Entry) (i j : ℕ) (m : ResMsg) → owed air K i j ≡ Some m → room_of air i j ≡ 3 * air.cycles
+room-is air K i j m e =
+    let a = and_parts (is_ra air i) _ (owed-message air K i j m e).0 in
+    let b = and_parts (is_ra air j) _ a.1 in
+    let c = and_parts (not (eqb i j)) (not (has_sent K i j)) b.1 in
+    cond-true (is_ra air i && (is_ra air j && not (eqb i j))) (3 * air.cycles) 0 (and_from _ _ a.0 (and_from _ _ b.0 c.0))
 
 pub send-fits : {e : Parts} {w : Written} {t : Kept} → IsWhole e w t → (i j : ℕ) (m : ResMsg) → is_active (air_of e) i ≡ true → IsFirstOwedBy (air_of e) t i j m → SendFits e w t i j
 send-fits {e} {w} {t} h i j m active f =
@@ -88,6 +97,8 @@ send-fits {e} {w} {t} h i j m active f =
     let one : sends (x ∷ K) i j ≡ sends K i j + 1 = count-yes (is_send_of i j) x K (and_from _ _ (eq-eqb i i refl) (eq-eqb j j refl)) in
     let c : commits K i ≤ 600 = few-commits e K h.is_journal.valid h.is_journal.legal i in
     let d : commits K j ≤ 600 = few-commits e K h.is_journal.valid h.is_journal.legal j in
+    let within : commits K i ≤ e.cycles = commits-within (air_of e) K h.is_journal.legal i in
+    let space : 3 * e.cycles ≤ room_at t i j = subst (λ (r : ℕ). r ≤ room_at t i j) (room-is (air_of e) K i j m (first-owed h i j m hi f).owes) (h.queues i j hi hj) in
     let q : length (waiting (air_of e) K i j) ≤ 3 * sends K i j = waiting-few (air_of e) (sound-of e h.is_journal.valid) K i j in
     let l : (link_at t i j).sends ≡ sends K i j = ap (λ (y : Link). y.sends) (h.kept.link i j hi hj) in
     let g : length (queue_at t i j) ≡ length (waiting (air_of e) K i j) = ap length (h.kept.queue i j hi hj) in
@@ -111,6 +122,7 @@ sent-whole {e} {w} {v} {t} {u} h i j number position m plans active f n p q writ
     record {
       is_journal = record { valid = h.is_journal.valid; inside = h.is_journal.inside; legal = subst (IsLegal (air_of e)) (sym written.entries) (extended h.is_journal.legal may) };
       kept = subst (λ (J : List Entry). IsKept (air_of e) J u) (sym written.entries) (kept-send (air_of e) w.entries t u h.kept i j number (word_of m) position m.vrc plans fit.own fit.target vrc p q after);
+      queues = λ a b ha hb. subst (λ (r : ℕ). room_of (air_of e) a b ≤ r) (sym (after.room a b ha hb)) (h.queues a b ha hb);
       room = subst (λ (k : ℕ). most_entries (air_of e) ≤ k) (sym written.room) h.room;
       places = written.places ∙ h.places;
     }
@@ -175,6 +187,7 @@ taken-whole {e} {w} {v} {t} {u} h i f active a written after =
       is_journal = record { valid = h.is_journal.valid; inside = h.is_journal.inside; legal = subst (IsLegal (air_of e)) (sym written.entries) (extended h.is_journal.legal (may-take h i f active a)) };
       kept = subst (λ (J : List Entry). IsKept (air_of e) J u) (sym written.entries)
           (subst (λ (g : Bool). IsKept (air_of e) (Take i f.waiting.send f.waiting.copy g ∷ w.entries) u) (sym (ap is_some r ∙ some-vrc m)) kept);
+      queues = λ a b ha hb. subst (λ (r : ℕ). room_of (air_of e) a b ≤ r) (sym (after.room a b ha hb)) (h.queues a b ha hb);
       room = subst (λ (k : ℕ). most_entries (air_of e) ≤ k) (sym written.room) h.room;
       places = written.places ∙ h.places;
     }
@@ -264,6 +277,7 @@ committed-whole {e} {w} {v} {t} {u} h i cycle cells many active free c next m wr
     record {
       is_journal = record { valid = h.is_journal.valid; inside = h.is_journal.inside; legal = subst (IsLegal (air_of e)) (sym written.entries) (extended h.is_journal.legal (may-commit h i cycle cells active free c next)) };
       kept = subst (λ (J : List Entry). IsKept (air_of e) J u) (sym written.entries) (kept-commit (air_of e) w.entries t u h.kept i cycle cells many m after);
+      queues = λ a b ha hb. subst (λ (r : ℕ). room_of (air_of e) a b ≤ r) (sym (after.room a b ha hb)) (h.queues a b ha hb);
       room = subst (λ (k : ℕ). most_entries (air_of e) ≤ k) (sym written.room) h.room;
       places = written.places ∙ h.places;
     }

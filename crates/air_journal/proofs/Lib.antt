@@ -1,5 +1,6 @@
 pub mod Soundness
 pub mod SmallEncounter
+pub mod Past
 pub mod Paging
 pub mod Queued
 pub mod Dues

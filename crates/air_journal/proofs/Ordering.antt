@@ -66,17 +66,16 @@ pub pass-is : (known : Bool) (n : ℕ) (xs : List Arrival) → order_in known (n
 pass-is true n xs = ap Some (ap (λ m. drop m xs) (let e : n + 1 ≡ suc n = omega arith in e) ∙ drop-next n xs)
 pass-is false n xs = refl
 
-pub order-passed : (n last capacity : ℕ) (xs : List Arrival) → IsOrder n last xs capacity → n < length xs → IsOrder (n + 1) last xs capacity
-order-passed n last capacity xs o h = subst (λ m. IsOrder m last xs capacity) (let e : suc n ≡ n + 1 = omega arith in e) (record {
+pub order-passed : (n last : ℕ) (xs : List Arrival) → IsOrder n last xs → n < length xs → IsOrder (n + 1) last xs
+order-passed n last xs o h = subst (λ m. IsOrder m last xs) (let e : suc n ≡ n + 1 = omega arith in e) (record {
   within = omega arith;
   rising = subst AreRising (sym (drop-next n xs)) (rest-rising (drop n xs) o.rising);
   until = λ p s a. o.until p s (in-rest (drop n xs) p s (subst (λ ys. Has ys p s) (drop-next n xs) a));
   senders = λ p s a. o.senders p s (in-rest (drop n xs) p s (subst (λ ys. Has ys p s) (drop-next n xs) a));
-  room = o.room;
 })
 
-pub order-pushed : (n last capacity : ℕ) (xs : List Arrival) (a : Arrival) → IsOrder n last xs capacity → last < a.send → a.sender < CRAFTS → IsOrder n a.send (xs ++ a ∷ []) capacity
-order-pushed n last capacity xs a o h k =
+pub order-pushed : (n last : ℕ) (xs : List Arrival) (a : Arrival) → IsOrder n last xs → last < a.send → a.sender < CRAFTS → IsOrder n a.send (xs ++ a ∷ [])
+order-pushed n last xs a o h k =
     let e : drop n (xs ++ a ∷ []) ≡ drop n xs ++ a ∷ [] = drop-append-le n xs (a ∷ []) o.within in
     record {
       within = (let m : length (xs ++ a ∷ []) ≡ length xs + 1 = length-append xs (a ∷ []) in let w = o.within in omega arith);
@@ -91,12 +90,11 @@ order-pushed n last capacity xs a o h k =
         | inr (inl c) ↦ (let z : a.sender ≡ s = c.1 in omega arith)
         | inr (inr c) ↦ absurd c
       ];
-      room = o.room;
     }
 
 -- The message at the place is the first.
-pub front-is : (n last capacity : ℕ) (xs : List Arrival) (a : Arrival) → IsOrder n last xs capacity → n < length xs → a ≡ get_or xs n a → IsFront (Some (drop n xs)) a
-front-is n last capacity xs a o h e =
+pub front-is : (n last : ℕ) (xs : List Arrival) (a : Arrival) → IsOrder n last xs → n < length xs → a ≡ get_or xs n a → IsFront (Some (drop n xs)) a
+front-is n last xs a o h e =
     let here : drop n xs ≡ a ∷ drop (suc n) xs = drop-here n xs a h e in
     record {
       rest = drop (suc n) xs;

@@ -18,6 +18,7 @@ use Rattle.acas_base.specs.declared.entry.Entry.TheVariants.{Commit, Send, Take}
 use Rattle.air_journal.proofs.Ages.{age-few}
 use Rattle.air_journal.proofs.Bounds.{below, few-commits, fits, most-few}
 use Rattle.air_journal.proofs.Dues.{due-waits}
+use Rattle.air_journal.proofs.Past.{clear-past}
 use Rattle.air_journal.proofs.Soundness.{message-address, sound-of}
 use Rattle.air_journal.specs.Airs.{air_of}
 use Rattle.air_journal.specs.Ranges.{AreCells, IsCell, IsEntry}
@@ -68,9 +69,6 @@ clear-own air K own = cond-false (nat_lt own air.count && not (eqb own own)) _ C
     other : (a b : Bool) → b ≡ true → (a && not b) ≡ false
     other true b e = ap not e
     other false b e = refl
-
-clear-past : (air : Air) (K : List Entry) (own j : ℕ) → air.count ≤ j → cell_for air K own j ≡ Clear
-clear-past air K own j h = cond-false (nat_lt j air.count && not (eqb own j)) _ Clear (and_left (nat_lt j air.count) (not (eqb own j)) (le-ltb j air.count h))
 
 cells-fit : (e : Parts) → IsEncounter e → (K : List Entry) (own cycle : ℕ) (cells : Cells) → IsLegal (air_of e) (Commit own cycle cells ∷ K) → AreCells (length e.crafts) own cells
 cells-fit e is K own cycle cells l =

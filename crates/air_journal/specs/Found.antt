@@ -35,7 +35,7 @@ owed_by air own other link made =
 abbrev pub owed_in : Air → Kept → ℕ → ℕ → Option ResMsg
 owed_in air kept own other = owed_by air own other (link_at kept own other) (made_at kept own)
 
--- Nothing is owed to the first so many aircraft.
+-- Nothing is owed to the first `count` aircraft.
 abbrev pub NothingOwedBy : Air → Kept → ℕ → ℕ → Type 0
 NothingOwedBy air kept own count = (other : ℕ) → other < count → owed_in air kept own other ≡ None
 
@@ -46,11 +46,11 @@ pub record IsFirstOwedBy (air : Air) (kept : Kept) (own other : ℕ) (message : 
 
 -- ---- what is due
 
--- No queue of the first so many senders to this aircraft has a copy that is due.
+-- No queue of the first `count` senders to this aircraft has a copy that is due.
 abbrev pub NoneOf : Kept → ℕ → ℕ → ℕ → Type 0
 NoneOf kept own made count = (sender : ℕ) → sender < count → NoneDue (queue_at kept sender own) made
 
--- The first due copy of the queues of the first so many senders.
+-- The first due copy of the queues of the first `count` senders.
 pub record IsLeast (kept : Kept) (own made count : ℕ) (found : Found) : Type 0 where
   pub sender : found.sender < count
   pub place : IsFirstDueAt (queue_at kept found.sender own) made found.place found.waiting
@@ -92,7 +92,7 @@ pub record WaitsAt (air : Air) (journal : List Entry) (own : ℕ) (found : Found
 
 -- ---- who is behind
 
--- None of the first so many active aircraft has fewer commits than this.
+-- None of the first `count` active aircraft has fewer commits than this.
 abbrev pub NobodyBehind : Air → Kept → ℕ → ℕ → Type 0
 NobodyBehind air kept made count = (other : ℕ) → other < count → is_active air other ≡ true → made ≤ (made_at kept other).commits
 
@@ -105,7 +105,7 @@ pub record IsFirstBehindBy (air : Air) (kept : Kept) (made : ℕ) (behind : Behi
 
 -- ---- the next cells
 
--- What is in force of the complement that is kept, once its taker has made so many commits.
+-- What is in force of the complement that is kept, once its taker has made `made` commits.
 abbrev pub kept_in_force : Option Complement → ℕ → Vrc
 kept_in_force None made = Nil
 kept_in_force (Some taken) made = in_force taken.vrc taken.commits made

@@ -1,5 +1,5 @@
 -- What is kept beside a journal. Each kept thing is a function of the journal.
-use Rattle.std.specs.Prelude.{◌≡◌, ◌≢◌, ℕ, ◌+◌, ◌*◌, ◌<◌, ◌&&◌, ◌==◌, Bool, true, false, if◌then◌else◌, List, [], ◌∷◌, ◌++◌, length, Option, Some, None, option_map, slice_index_or}
+use Rattle.std.specs.Prelude.{◌≡◌, ◌≢◌, ℕ, ◌+◌, ◌*◌, ◌<◌, ◌≤◌, ◌&&◌, ◌==◌, Bool, true, false, not, if◌then◌else◌, List, [], ◌∷◌, ◌++◌, length, Option, Some, None, option_map, slice_index_or}
 use Rattle.std.specs.List.{remove}
 use Rattle.acas_base.specs.declared.TheConstants.{CRAFTS}
 use Rattle.acas_base.specs.declared.advisory.Cell.{Cell}
@@ -15,16 +15,21 @@ use Rattle.air_journal.specs.declared.kept.Complement.{Complement}
 use Rattle.air_journal.specs.declared.kept.Link.{Link}
 use Rattle.air_journal.specs.declared.kept.Made.{Made}
 use Rattle.air_journal.specs.declared.kept.Waiting.{Waiting}
-use Rattle.air_rules.specs.Air.{Air}
+use Rattle.air_rules.specs.Air.{Air, is_ra}
 use Rattle.air_rules.specs.Journal.{commits, sends, last_cell, has_sent, sent_at, cell_at}
 use Rattle.air_rules.specs.Owed.{said, has_many_threats}
 use Rattle.air_rules.specs.Takes.{Taken, last_take, is_from}
+
+-- The copies of a queue, and for how many it has room.
+pub record Queued : Type 0 where
+  pub copies : List Waiting
+  pub room : ℕ
 
 -- What is kept of each aircraft, of each against each other one, and of the copies from each sender to each receiver.
 pub record Kept : Type 0 where
   pub made : List Made
   pub links : List Link
-  pub queues : List (List Waiting)
+  pub queues : List Queued
 
 -- That of one aircraft, of one against another one, and of the copies from a sender to a receiver, by their indices.
 abbrev pub no_link : Link
@@ -33,6 +38,9 @@ no_link = record { cell = Clear; said = Nil; sends = 0; sent = false; complement
 abbrev pub nothing_made : Made
 nothing_made = record { commits = 0; many = false }
 
+abbrev pub no_queue : Queued
+no_queue = record { copies = []; room = 0 }
+
 abbrev pub made_at : Kept → ℕ → Made
 made_at kept own = slice_index_or kept.made own nothing_made
 
@@ -40,7 +48,10 @@ abbrev pub link_at : Kept → ℕ → ℕ → Link
 link_at kept own other = slice_index_or kept.links (own * CRAFTS + other) no_link
 
 abbrev pub queue_at : Kept → ℕ → ℕ → List Waiting
-queue_at kept sender receiver = slice_index_or kept.queues (sender * CRAFTS + receiver) []
+queue_at kept sender receiver = (slice_index_or kept.queues (sender * CRAFTS + receiver) no_queue).copies
+
+abbrev pub room_at : Kept → ℕ → ℕ → ℕ
+room_at kept sender receiver = (slice_index_or kept.queues (sender * CRAFTS + receiver) no_queue).room
 
 -- ---- what each is of a journal
 
@@ -48,11 +59,12 @@ queue_at kept sender receiver = slice_index_or kept.queues (sender * CRAFTS + re
 abbrev pub vrc_of : Option ResMsg → Option Vrc
 vrc_of message = option_map (λ (m : ResMsg). m.vrc) message
 
--- The complement that the taker of a copy of a word reads, by what flips and reads words; none where the copy is spoilt.
+-- The complement that the taker of a copy of a word reads, by what flips and reads words; none where the copy is
+-- spoilt.
 abbrev pub read_as : (ℕ → ℕ → ℕ) → (ℕ → Option ResMsg) → ℕ → CopyPlan → Option Vrc
 read_as flip read word plan = vrc_of (read (flip word plan.mask))
 
--- A copy of the message sent at a position, to a receiver that has made so many commits, and what is read of it.
+-- A copy of the message sent at a position, to a receiver that has made `made` commits, and what is read of it.
 abbrev pub waiting_copy : (CopyPlan → Option Vrc) → ℕ → ℕ → ℕ → CopyPlan → Waiting
 waiting_copy reads send made copy plan = record { send = send; copy = copy; due = made + plan.hold; reads = reads plan }
 
@@ -104,13 +116,32 @@ pub record IsKept (air : Air) (journal : List Entry) (kept : Kept) : Type 0 wher
   pub queue : (sender receiver : ℕ) → sender < CRAFTS → receiver < CRAFTS → queue_at kept sender receiver ≡ waiting air journal sender receiver
 
 -- There is one of each aircraft, and of each ordered pair.
-abbrev pub kept_in : List Made → List Link → List (List Waiting) → Kept
+abbrev pub kept_in : List Made → List Link → List Queued → Kept
 kept_in made links queues = record { made = made; links = links; queues = queues }
 
 pub record AreTables (kept : Kept) : Type 0 where
   pub crafts : length kept.made ≡ CRAFTS
   pub pairs : length kept.links ≡ 256
   pub pairs_of_queues : length kept.queues ≡ 256
+
+-- ---- the room of the queues
+
+-- For how many copies a queue needs room: for three of a message in each cycle, where both aircraft are of kind RA; for
+-- none elsewhere.
+abbrev pub room_of : Air → ℕ → ℕ → ℕ
+room_of air sender receiver = if is_ra air sender && (is_ra air receiver && not (sender == receiver)) then 3 * air.cycles else 0
+
+abbrev pub HaveRoom : Air → Kept → Type 0
+HaveRoom air kept = (sender receiver : ℕ) → sender < CRAFTS → receiver < CRAFTS → room_of air sender receiver ≤ room_at kept sender receiver
+
+-- New queues, by their places.
+pub record IsNewQueue (air : Air) (sender receiver : ℕ) (queue : Queued) : Type 0 where
+  pub copies_are : queue.copies ≡ []
+  pub room_is : room_of air sender receiver ≤ queue.room
+
+pub record AreNewQueues (air : Air) (queues : List Queued) : Type 0 where
+  pub size : length queues ≡ 256
+  pub each : (sender receiver : ℕ) → sender < CRAFTS → receiver < CRAFTS → IsNewQueue air sender receiver (slice_index_or queues (sender * CRAFTS + receiver) no_queue)
 
 -- ---- what each entry changes
 
@@ -139,16 +170,24 @@ pub record AfterSend (old new : Kept) (own target : ℕ) (vrc : Vrc) (copies : L
   pub made : (a : ℕ) → a < CRAFTS → made_at new a ≡ made_at old a
   pub link : (a b : ℕ) → a < CRAFTS → b < CRAFTS → link_at new a b ≡ (if own == a && target == b then sent_link (link_at old a b) vrc else link_at old a b)
   pub queue : (a b : ℕ) → a < CRAFTS → b < CRAFTS → queue_at new a b ≡ (if own == a && target == b then queue_at old a b ++ copies else queue_at old a b)
+  pub room : (a b : ℕ) → a < CRAFTS → b < CRAFTS → room_at new a b ≡ room_at old a b
 
 pub record AfterTake (old new : Kept) (own sender place : ℕ) (reads : Option Vrc) : Type 0 where
   pub made : (a : ℕ) → a < CRAFTS → made_at new a ≡ made_at old a
   pub link : (a b : ℕ) → a < CRAFTS → b < CRAFTS → link_at new a b ≡ (if own == a && sender == b then taken_link (link_at old a b) reads (made_at old a).commits else link_at old a b)
   pub queue : (a b : ℕ) → a < CRAFTS → b < CRAFTS → queue_at new a b ≡ (if sender == a && own == b then remove (queue_at old a b) place else queue_at old a b)
+  pub room : (a b : ℕ) → a < CRAFTS → b < CRAFTS → room_at new a b ≡ room_at old a b
 
 pub record AfterCommit (old new : Kept) (own : ℕ) (cells : Cells) (many : Bool) : Type 0 where
   pub made : (a : ℕ) → a < CRAFTS → made_at new a ≡ (if own == a then (let m : Made = record { commits = (made_at old a).commits + 1; many = many } in m) else made_at old a)
   pub link : (a b : ℕ) → a < CRAFTS → b < CRAFTS → link_at new a b ≡ (if own == a then committed_link (link_at old a b) (cell_at cells b) else link_at old a b)
   pub queue : (a b : ℕ) → a < CRAFTS → b < CRAFTS → queue_at new a b ≡ queue_at old a b
+  pub room : (a b : ℕ) → a < CRAFTS → b < CRAFTS → room_at new a b ≡ room_at old a b
+
+-- Past the first `count` aircraft the row of an aircraft stays as it is by a commit of these cells.
+abbrev pub IsSamePast : List Link → ℕ → Cells → ℕ → Type 0
+IsSamePast links own cells count = (other : ℕ) → count ≤ other → other < CRAFTS
+    → committed_link (slice_index_or links (own * CRAFTS + other) no_link) (cell_at cells other) ≡ slice_index_or links (own * CRAFTS + other) no_link
 
 -- The row of an aircraft has these cells, and nothing was sent since.
 pub record RowIs (old new : List Link) (own : ℕ) (cells : Cells) : Type 0 where

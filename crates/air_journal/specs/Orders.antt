@@ -3,7 +3,6 @@ use Rattle.std.specs.Prelude.{◌≡◌, ◌≢◌, ◌⊎◌, ℕ, ◌<◌, ◌
 use Rattle.acas_base.specs.declared.TheConstants.{CRAFTS}
 use Rattle.air_journal.specs.Kept.{Kept, queue_at}
 use Rattle.air_journal.specs.Queues.{IsIn}
-use Rattle.air_journal.specs.declared.queue.TheConstants.{QUEUE_ROOM}
 use Rattle.air_journal.specs.declared.kept.Waiting.{Waiting}
 use Rattle.air_journal.specs.declared.order.Arrival.{Arrival}
 use Rattle.air_journal.specs.declared.tables.Front.{Front}
@@ -23,13 +22,12 @@ AreRising (first ∷ rest) = ((send sender : ℕ) → Has rest send sender → f
 abbrev pub order_in : Bool → ℕ → List Arrival → Option (List Arrival)
 order_in known passed messages = if known then Some (drop passed messages) else None
 
--- They rise, no send is later than the last one, and each sender is an aircraft's index; and there is room.
-pub record IsOrder (passed last : ℕ) (messages : List Arrival) (capacity : ℕ) : Type 0 where
+-- They rise, no send is later than the last one, and each sender is an aircraft's index.
+pub record IsOrder (passed last : ℕ) (messages : List Arrival) : Type 0 where
   pub within : passed ≤ length messages
   pub rising : AreRising (drop passed messages)
   pub until : (send sender : ℕ) → Has (drop passed messages) send sender → send ≤ last
   pub senders : (send sender : ℕ) → Has (drop passed messages) send sender → sender < CRAFTS
-  pub room : QUEUE_ROOM ≤ capacity
 
 -- It is the first message, and comes before all others.
 pub record IsFront (order : Option (List Arrival)) (arrival : Arrival) : Type 0 where

@@ -1,9 +1,8 @@
 -- What a queue of copies says.
-use Rattle.std.specs.Prelude.{◌≡◌, ◌⊎◌, ℕ, ◌+◌, ◌<◌, ◌≤◌, false, List, [], ◌∷◌, length, take, Some, slice_get}
+use Rattle.std.specs.Prelude.{◌≡◌, ◌⊎◌, ℕ, ◌+◌, ◌<◌, ◌≤◌, false, List, [], ◌∷◌, take, Some, slice_get}
 use Rattle.acas_base.specs.declared.entry.Entry.{Entry}
 use Rattle.acas_base.specs.declared.link.CopyPlan.{CopyPlan}
 use Rattle.air_journal.specs.Kept.{read_as}
-use Rattle.air_journal.specs.declared.queue.TheConstants.{QUEUE_ROOM}
 use Rattle.air_journal.specs.declared.kept.Waiting.{Waiting}
 use Rattle.air_rules.specs.Air.{Air, copy_plan}
 use Rattle.air_rules.specs.Journal.{Sent, WasSent, commits, entries_after, was_taken}
@@ -38,7 +37,7 @@ pub record IsQueue (air : Air) (journal : List Entry) (sender receiver : ℕ) (q
   pub holds : (waiting : Waiting) → IsIn waiting queue → IsWaiting air journal sender receiver waiting
   pub whole : (waiting : Waiting) → IsWaiting air journal sender receiver waiting → IsIn waiting queue
 
--- None of them is due after so many commits.
+-- None of them is due after `made` commits.
 abbrev pub NoneDue : List Waiting → ℕ → Type 0
 NoneDue queue made = (waiting : Waiting) → IsIn waiting queue → made < waiting.due
 
@@ -47,8 +46,3 @@ pub record IsFirstDueAt (queue : List Waiting) (made place : ℕ) (waiting : Wai
   pub here : slice_get queue place ≡ Some waiting
   pub in_time : waiting.due ≤ made
   pub first : NoneDue (take place queue) made
-
--- As the copies are kept: those that are taken stand before those that wait, and there is room.
-pub record IsQueued (taken : ℕ) (copies : List Waiting) (capacity : ℕ) : Type 0 where
-  pub within : taken ≤ length copies
-  pub room : QUEUE_ROOM ≤ capacity

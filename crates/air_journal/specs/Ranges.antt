@@ -15,14 +15,14 @@ IsCell Clear = Unit {0}
 IsCell Traffic = Unit {0}
 IsCell (Ra it) = IsCycle it.age
 
--- The cells of an aircraft among so many: its own place and those past the last aircraft are Clear.
+-- The cells of an aircraft among `count` aircraft: its own place and those past the last aircraft are Clear.
 pub record AreCells (count own : ℕ) (cells : Cells) : Type 0 where
   pub size : length cells.list ≡ CRAFTS
   pub each : All IsCell cells.list
   pub own_place : cell_at cells own ≡ Clear
   pub past : drop count cells.list ≡ replicate (CRAFTS - count) Clear
 
--- An entry in an encounter of so many aircraft.
+-- An entry in an encounter of `count` aircraft.
 abbrev pub IsEntry : ℕ → Entry → Type 0
 IsEntry count (Commit own cycle cells) = (own < count) × IsCycle cycle × AreCells count own cells
 IsEntry count (Send own target number word) = (own < count) × (target < count) × IsCycle number × (word < 2 ^ 56)

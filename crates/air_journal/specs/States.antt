@@ -5,7 +5,7 @@ use Rattle.acas_base.specs.declared.TheConstants.{CRAFTS}
 use Rattle.acas_base.specs.declared.entry.Entry.{Entry}
 use Rattle.acas_base.specs.declared.link.Fate.{Fate}
 use Rattle.air_journal.specs.Airs.{air_of}
-use Rattle.air_journal.specs.Kept.{IsKept, Kept}
+use Rattle.air_journal.specs.Kept.{HaveRoom, IsKept, Kept}
 use Rattle.air_journal.specs.Usual.{AreUsual}
 use Rattle.air_journal.specs.Written.{Written}
 use Rattle.air_rules.specs.Length.{most_entries}
@@ -27,6 +27,7 @@ pub record IsJournalOf (e : Parts) (journal : List Entry) : Type 0 where
 pub record IsWhole (e : Parts) (journal : Written) (tables : Kept) : Type 0 where
   pub is_journal : IsJournalOf e journal.entries
   pub kept : IsKept (air_of e) journal.entries tables
+  pub queues : HaveRoom (air_of e) tables
   pub room : most_entries (air_of e) ≤ journal.room
   pub places : journal.places ≡ e.cycles * CRAFTS
 

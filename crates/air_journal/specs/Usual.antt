@@ -17,12 +17,12 @@ pub record AreUsual (e : Parts) (fates : List (Option Fate)) : Type 0 where
   pub size : length fates ≡ 256
   pub each : (sender receiver : ℕ) → sender < CRAFTS → receiver < CRAFTS → IsUsual e sender receiver (usual_at fates sender receiver)
 
--- None of the first so many records of fates is of this pair.
+-- None of the first `count` records of fates is of this pair.
 abbrev pub NoneNames : List Fate → ℕ → ℕ → ℕ → Type 0
 NoneNames records count sender receiver = (at : ℕ) → at < count → (it : Fate)
     → ((slice_index_or records at it).sender ≢ sender) ⊎ ((slice_index_or records at it).receiver ≢ receiver)
 
--- The fate of a message without a record is kept, where none of the first so many records is of the pair.
+-- The fate of a message without a record is kept, where none of the first `count` records is of the pair.
 abbrev pub IsUnnamed : Parts → ℕ → ℕ → ℕ → Option Fate → Type 0
 IsUnnamed e count sender receiver None = Unit {0}
 IsUnnamed e count sender receiver (Some fate) = (fate ≡ fate_of e sender receiver 0) × NoneNames e.fates count sender receiver

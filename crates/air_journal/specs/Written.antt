@@ -23,7 +23,7 @@ told table (Take own send copy good) = entries.Take own send copy good
 abbrev pub entries_in : List Cells → List Note → List Entry
 entries_in table notes = map (told table) (reverse notes)
 
--- The cells of a commit stand in a table with so many places.
+-- The cells of a commit stand in a table with `places` places.
 abbrev pub IsNote : ℕ → Note → Type 0
 IsNote places (Commit own cycle) = (own < CRAFTS) × (1 ≤ cycle) × (place_of own cycle < places)
 IsNote places (Send own target number word) = Unit {0}

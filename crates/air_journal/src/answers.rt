@@ -9,7 +9,7 @@ pub enum Commit {
     Owed(u8),
     /// A copy is due: this is the first, by the position of its send and by its number.
     Due(u32, u8),
-    /// This aircraft, the first of them by index, has fewer commits, so many.
+    /// Other aircraft have fewer commits: the first of them by index, and how many it has.
     Ahead(u8, u16),
     /// The commit is the entry at this position.
     Done(u32),

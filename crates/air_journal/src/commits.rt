@@ -52,7 +52,9 @@ impl AirState {
         let cycle = self.tables.made(own).commits + 1;
         let cells = next_cells(&self.encounter, &self.tables, own, pic);
         self.journal.push_commit(own, cycle, &cells);
-        self.tables.commit(own, &cells, has_many(&cells));
+        let many = has_many(&cells);
+        let count = count_of(&self.encounter);
+        self.tables.commit(own, &cells, many, count);
         position
     }
 

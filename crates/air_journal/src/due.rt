@@ -6,9 +6,11 @@ ghost use Rattle.air_journal.specs.Kept.{queue_at};
 ghost use Rattle.air_journal.specs.Queues.{AreOrdered, IsFirstDueAt, NoneDue};
 
 use crate::kept::Waiting;
-use crate::queue::QUEUE_ROOM;
 use crate::tables::{Front, Tables};
 use acas_base::CRAFTS;
+
+// How many messages are passed over at most before all queues are searched.
+const MOST_TURNS: usize = 1800;
 
 /// A due copy and its place in its queue.
 #[derive(Clone, Copy)]
@@ -25,7 +27,7 @@ pub(crate) struct Found {
     pub waiting: Waiting,
 }
 
-// The first due copy of a queue, to a receiver that has made so many commits.
+// The first due copy of a queue, to a receiver that has made `made` commits.
 fn first_due(queue: &[Waiting], made: u16) -> Option<Due>
     ensures { MatchOption result (NoneDue queue.now made) (λ due. IsFirstDueAt queue.now made due.place due.waiting) }
 {
@@ -62,7 +64,7 @@ fn earlier(best: Option<Found>, sender: u8, next: Option<Due>) -> Option<Found>
     }
 }
 
-/// The first copy that is due to an aircraft that has made so many commits, from the first so many senders.
+/// The first copy that is due to an aircraft that has made `made` commits, from the first `count` senders.
 pub(crate) fn first_due_to(tables: &Tables, own: u8, made: u16, count: u8) -> Option<Found>
     requires own { own < CRAFTS }
     requires count { count ≤ CRAFTS }
@@ -80,16 +82,16 @@ pub(crate) fn first_due_to(tables: &Tables, own: u8, made: u16, count: u8) -> Op
     best
 }
 
-/// The first copy that is due to an aircraft that has made so many commits. Mostly it is a copy of the first message to it,
-/// and no search is needed.
+/// The first copy that is due to an aircraft that has made `made` commits. Mostly it is a copy of the first message
+/// to it, and no search is needed.
 pub(crate) fn next_due(tables: &mut Tables, own: u8, made: u16) -> Option<Found>
     requires own { own < CRAFTS }
     requires ordered { (sender : ℕ) → sender < CRAFTS → AreOrdered (queue_at tables.old sender own) }
     ensures same { tables.new ≡ tables.old }
     ensures found { MatchOption result (NoneOf tables.old own made CRAFTS) (IsLeast tables.old own made CRAFTS) }
 {
-    // A message is passed over in each turn but the last, and no more than a queue has room for.
-    for _turn in 0..QUEUE_ROOM {
+    // A message is passed over in each turn but the last.
+    for _turn in 0..MOST_TURNS {
         match tables.front(own) {
             Front::Waits(sender) => {
                 let first = tables.queue(sender, own)[0];

@@ -92,7 +92,7 @@ fn entry_of<'a>(note: &Note, cells: &'a [Cells]) -> EntryRef<'a>
 }
 
 impl Journal {
-    /// An empty journal with room for the commits of so many cycles and for so many pages of entries.
+    /// An empty journal with room for the commits of `cycles` cycles and for `pages` pages of entries.
     pub(crate) fn new(alloc: Global, cycles: usize, pages: usize) -> Result<Self, AllocError>
         requires cycles { cycles ≤ 600 }
         requires pages { pages ≤ 1000000 }

@@ -8,7 +8,7 @@ pub struct Waiting {
     pub send: u32,
     /// Which copy of the message it is, from 0.
     pub copy: u8,
-    /// The copy is due as soon as its receiver has made so many commits.
+    /// The copy is due as soon as its receiver has made this many commits.
     pub due: u16,
     /// The complement that its taker reads; none where the copy is spoilt.
     pub reads: Option<Vrc>,

@@ -70,7 +70,7 @@ impl Page {
     }
 }
 
-/// Notes in order, and room for so many.
+/// Notes in order, and for how many there is room.
 #[derive(Drop)]
 pub(crate) struct Log {
     pages: Vec<Page>,
@@ -100,7 +100,7 @@ fn new_pages(alloc: Global, count: usize) -> Result<Vec<Page>, AllocError>
 }
 
 impl Log {
-    /// An empty log with room for so many pages.
+    /// An empty log with room for `pages` pages.
     pub(crate) fn new(alloc: Global, pages: usize) -> Result<Self, AllocError>
         requires { pages ≤ 1000000 }
         ensures notes { IfOk result (λ log. log.notes ≡ []) }

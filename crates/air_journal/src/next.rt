@@ -15,7 +15,7 @@ use crate::tables::Tables;
 use acas_base::{CRAFTS, Cell, Cells, Encounter, Picture, View, Vrc};
 use coord_core::next_cell;
 
-// The complement in force after so many commits.
+// The complement in force after `made` commits.
 fn kept_in_force(complement: Option<Complement>, made: u16) -> Vrc
     ensures { result ≡ kept_in_force complement made }
 {
@@ -28,15 +28,13 @@ fn kept_in_force(complement: Option<Complement>, made: u16) -> Vrc
 // The next cell for one other aircraft.
 fn next_for(encounter: &Encounter, tables: &Tables, own: u8, target: u8, view: &View) -> Cell
     requires own { own < length encounter.now.crafts }
-    requires target { target < CRAFTS }
+    requires target { target < length encounter.now.crafts }
+    requires few { length encounter.now.crafts ≤ CRAFTS }
     requires made { (made_at tables.now own).commits < 600 }
     requires view { view.now ≡ view_of encounter.now own target ((made_at tables.now own).commits + 1) }
     requires age { (intent : Intent) → (link_at tables.now own target).cell ≡ cell_kinds.Ra intent → intent.age < 600 }
     ensures { result ≡ next_in (air_of encounter.now) tables.now own target }
 {
-    if target >= count_of(encounter) {
-        return Cell::Clear;
-    }
     if own == target {
         return Cell::Clear;
     }
@@ -49,7 +47,7 @@ fn next_for(encounter: &Encounter, tables: &Tables, own: u8, target: u8, view: &
     )
 }
 
-/// The cells of an aircraft's next commit.
+/// The cells of an aircraft's next commit. Those past the last aircraft are Clear.
 pub(crate) fn next_cells(
     encounter: &Encounter,
     tables: &Tables,
@@ -63,7 +61,7 @@ pub(crate) fn next_cells(
     ensures { AreNext (air_of encounter.now) tables.now own result }
 {
     let mut list = [Cell::Clear; CRAFTS];
-    for target in 0..CRAFTS as u8 {
+    for target in 0..count_of(encounter) {
         list[usize::from(target)] = next_for(
             encounter,
             tables,

@@ -3,7 +3,6 @@ ghost use Rattle.std.specs.Prelude.{◌≡◌, ◌<◌, Some, [], IfOk, IfSome, 
 ghost use Rattle.acas_base.specs.declared.TheConstants.{CRAFTS};
 ghost use Rattle.air_journal.specs.Orders.{IsFront, Pushed, without_front};
 
-use crate::queue::QUEUE_ROOM;
 use std::alloc::{AllocError, Global};
 use std::marker::Model;
 
@@ -28,7 +27,7 @@ pub(crate) struct Order {
 }
 
 impl Model for Order {
-    ghost use Rattle.std.specs.Prelude.{List, Option, vec_capacity};
+    ghost use Rattle.std.specs.Prelude.{List, Option};
     ghost use Rattle.air_journal.specs.Orders.{IsOrder, order_in};
     ghost use Rattle.air_journal.specs.declared.order.Arrival.{Arrival};
 
@@ -36,16 +35,16 @@ impl Model for Order {
 
     ghost view = { λ o. order_in o.known o.passed o.messages.items };
 
-    ghost invariant = { λ o. IsOrder o.passed o.last o.messages.items (vec_capacity o.messages) };
+    ghost invariant = { λ o. IsOrder o.passed o.last o.messages.items };
 }
 
 impl Order {
-    /// That of no message.
-    pub(crate) fn new(alloc: Global) -> Result<Self, AllocError>
+    /// The order of no message, with room for `room` messages.
+    pub(crate) fn new(alloc: Global, room: usize) -> Result<Self, AllocError>
         ensures { IfOk result (λ order. order ≡ Some []) }
     {
         Ok(Order {
-            messages: Vec::with_capacity(alloc, QUEUE_ROOM)?,
+            messages: Vec::with_capacity(alloc, room)?,
             passed: 0,
             last: 0,
             known: true,
@@ -100,7 +99,7 @@ impl Order {
         ensures { Pushed self.old arrival self.new }
     {
         self.clear();
-        if self.messages.len() >= QUEUE_ROOM {
+        if self.messages.len() >= self.messages.capacity() {
             self.known = false;
             return;
         }

@@ -1,17 +1,13 @@
 // The copies of one aircraft's messages to another one that wait.
 ghost use Rattle.std.specs.Prelude.{◌≡◌, ◌+◌, ◌<◌, ◌≤◌, [], ◌∷◌, ◌++◌, drop, length, vec_capacity, IfOk};
 ghost use Rattle.std.specs.List.{remove};
-ghost use Rattle.air_journal.specs.declared.queue.TheConstants.{QUEUE_ROOM};
 
 use crate::kept::Waiting;
 use std::alloc::{AllocError, Global};
 use std::marker::Model;
 
-/// The most copies that can wait in a queue: three of a message in each cycle of the longest run.
-pub(crate) const QUEUE_ROOM: usize = 1800;
-
-/// The copies that wait, in order of position and copy. Mostly the first one is taken first: then it is counted, so that the
-/// others needn't move. All its memory is taken at the start.
+/// The copies that wait, in order of position and copy. Mostly the first one is taken first: then it is counted, so
+/// that the others needn't move. All its memory is taken at the start, by the room that is asked for.
 #[derive(Drop)]
 pub(crate) struct Queue {
     copies: Vec<Waiting>,
@@ -20,18 +16,17 @@ pub(crate) struct Queue {
 }
 
 impl Model for Queue {
-    ghost use Rattle.std.specs.Prelude.{List, drop, vec_capacity};
-    ghost use Rattle.air_journal.specs.Queues.{IsQueued};
-    ghost use Rattle.air_journal.specs.declared.kept.Waiting.{Waiting};
+    ghost use Rattle.std.specs.Prelude.{◌≤◌, drop, length, vec_capacity};
+    ghost use Rattle.air_journal.specs.Kept.{Queued};
 
-    ghost Value = { List Waiting };
+    ghost Value = { Queued };
 
-    ghost view = { λ q. drop q.taken q.copies.items };
+    ghost view = { λ q. record { copies = drop q.taken q.copies.items; room = vec_capacity q.copies } };
 
-    ghost invariant = { λ q. IsQueued q.taken q.copies.items (vec_capacity q.copies) };
+    ghost invariant = { λ q. q.taken ≤ length q.copies.items };
 }
 
-// Gives back the room of the first so many copies.
+// Gives back the room of the first `count` copies.
 fn drop_front(copies: &mut Vec<Waiting>, count: usize)
     requires { count ≤ length copies.old.items }
     ensures items { copies.new.items ≡ drop count copies.old.items }
@@ -43,20 +38,23 @@ fn drop_front(copies: &mut Vec<Waiting>, count: usize)
 }
 
 impl Queue {
-    pub(crate) fn new(alloc: Global) -> Result<Self, AllocError>
-        ensures { IfOk result (λ queue. queue ≡ []) }
+    /// An empty queue with room for `room` copies.
+    pub(crate) fn new(alloc: Global, room: usize) -> Result<Self, AllocError>
+        ensures copies { IfOk result (λ queue. queue.copies ≡ []) }
+        ensures room { IfOk result (λ queue. room ≤ queue.room) }
     {
         Ok(Queue {
-            copies: Vec::with_capacity(alloc, QUEUE_ROOM)?,
+            copies: Vec::with_capacity(alloc, room)?,
             taken: 0,
         })
     }
 
     pub(crate) fn push(&mut self, copy: Waiting)
-        requires { length self.old < QUEUE_ROOM }
-        ensures { self.new ≡ self.old ++ copy ∷ [] }
+        requires { length self.old.copies < self.old.room }
+        ensures copies { self.new.copies ≡ self.old.copies ++ copy ∷ [] }
+        ensures room { self.new.room ≡ self.old.room }
     {
-        if self.copies.len() >= QUEUE_ROOM {
+        if self.copies.len() >= self.copies.capacity() {
             drop_front(&mut self.copies, self.taken);
             self.taken = 0;
         }
@@ -64,8 +62,9 @@ impl Queue {
     }
 
     pub(crate) fn remove(&mut self, place: usize)
-        requires { place < length self.old }
-        ensures { self.new ≡ remove self.old place }
+        requires { place < length self.old.copies }
+        ensures copies { self.new.copies ≡ remove self.old.copies place }
+        ensures room { self.new.room ≡ self.old.room }
     {
         if place > 0 {
             let _ = self.copies.remove(self.taken + place);
@@ -79,7 +78,7 @@ impl Queue {
     }
 
     pub(crate) fn as_slice(&self) -> &[Waiting]
-        ensures { result.now ≡ self.now }
+        ensures { result.now ≡ self.now.copies }
     {
         &self.copies[self.taken..]
     }

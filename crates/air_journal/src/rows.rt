@@ -2,13 +2,14 @@
 ghost use Rattle.std.specs.Prelude.{◌≡◌, ℕ, ◌+◌, ◌<◌, ◌≤◌, List, [], ◌++◌, length, replicate, IfOk, Some};
 ghost use Rattle.acas_base.specs.Fates.{copies_of};
 ghost use Rattle.acas_base.specs.declared.TheConstants.{CRAFTS};
-ghost use Rattle.air_journal.specs.Kept.{AfterCommit, AfterSend, AfterTake, IsBlank, RowIs, copies_from, link_at, made_at, no_link, nothing_made, queue_at, read_as, vrc_of, waiting_copy};
-ghost use Rattle.air_journal.specs.declared.queue.TheConstants.{QUEUE_ROOM};
+ghost use Rattle.air_journal.specs.Kept.{AfterCommit, AfterSend, AfterTake, AreNewQueues, HaveRoom, IsBlank, IsSamePast, RowIs, copies_from, link_at, made_at, no_link, nothing_made, queue_at, read_as, room_at, vrc_of, waiting_copy};
+ghost use Rattle.air_journal.specs.Airs.{air_of};
 ghost use Rattle.res_message.specs.Words.{flip_word, read_word};
 
+use crate::crafts::room_of;
 use crate::kept::{Complement, Link, Made, Waiting};
 use crate::queue::Queue;
-use acas_base::{CRAFTS, Cell, Cells, CopyPlan, Fate, PAIRS, Vrc, pair_of};
+use acas_base::{CRAFTS, Cell, Cells, CopyPlan, Encounter, Fate, PAIRS, Vrc, pair_of};
 use res_message::{decode, flip, read_law};
 use std::alloc::{AllocError, Global};
 use std::marker::Model;
@@ -60,12 +61,13 @@ fn new_links(alloc: Global) -> Result<Vec<Link>, AllocError>
     Ok(links)
 }
 
-fn new_queues(alloc: Global) -> Result<Vec<Queue>, AllocError>
-    ensures { IfOk result (λ queues. queues.items ≡ replicate 256 []) }
+fn new_queues(alloc: Global, encounter: &Encounter) -> Result<Vec<Queue>, AllocError>
+    ensures { IfOk result (λ queues. AreNewQueues (air_of encounter.now) queues.items) }
 {
     let mut queues = Vec::with_capacity(alloc, PAIRS)?;
-    for _pair in 0..PAIRS {
-        queues.push(Queue::new(alloc)?)?;
+    for pair in 0..PAIRS {
+        let room = room_of(encounter, (pair / CRAFTS) as u8, (pair % CRAFTS) as u8);
+        queues.push(Queue::new(alloc, room)?)?;
     }
     Ok(queues)
 }
@@ -110,10 +112,11 @@ fn copy_of(message: Message, copy: u8, plan: CopyPlan) -> Waiting
 
 // Puts the copies of a message into its queue.
 fn push_copies(queue: &mut Queue, message: Message, fate: &Fate)
-    requires room { length queue.old + 3 ≤ QUEUE_ROOM }
+    requires room { length queue.old.copies + 3 ≤ queue.old.room }
     requires word { vrc_of (read_word message.word) ≡ Some message.vrc }
     requires commits { message.commits ≤ 600 }
-    ensures { queue.new ≡ queue.old ++ copies_from (read_as flip_word read_word message.word) message.send message.commits 0 (copies_of fate.now) }
+    ensures copies { queue.new.copies ≡ queue.old.copies ++ copies_from (read_as flip_word read_word message.word) message.send message.commits 0 (copies_of fate.now) }
+    ensures room { queue.new.room ≡ queue.old.room }
 {
     if fate.copies == 0 {
         return;
@@ -130,13 +133,14 @@ fn push_copies(queue: &mut Queue, message: Message, fate: &Fate)
 }
 
 impl Rows {
-    /// Those of the empty journal.
-    pub(crate) fn new(alloc: Global) -> Result<Self, AllocError>
-        ensures { IfOk result (λ tables. IsBlank tables) }
+    /// Those of the empty journal of an encounter.
+    pub(crate) fn new(alloc: Global, encounter: &Encounter) -> Result<Self, AllocError>
+        ensures blank { IfOk result (λ tables. IsBlank tables) }
+        ensures room { IfOk result (HaveRoom (air_of encounter.now)) }
     {
         let made = new_made(alloc)?;
         let links = new_links(alloc)?;
-        let queues = new_queues(alloc)?;
+        let queues = new_queues(alloc, encounter)?;
         Ok(Rows {
             made,
             links,
@@ -182,7 +186,7 @@ impl Rows {
         requires word { vrc_of (read_word word) ≡ Some vrc }
         requires sends { (link_at self.old own target).sends < 600 }
         requires commits { (made_at self.old target).commits ≤ 600 }
-        requires room { length (queue_at self.old own target) + 3 ≤ QUEUE_ROOM }
+        requires room { length (queue_at self.old own target) + 3 ≤ room_at self.old own target }
         ensures { AfterSend self.old self.new own target vrc (copies_from (read_as flip_word read_word word) send (made_at self.old target).commits 0 (copies_of fate.now)) }
     {
         let pair = pair_of(own, target);
@@ -214,27 +218,31 @@ impl Rows {
         self.queues[pair_of(sender, own)].remove(place);
     }
 
-    /// A commit with these cells.
-    pub(crate) fn commit(&mut self, own: u8, cells: &Cells, many: bool)
+    /// A commit with these cells, in an encounter of `count` aircraft.
+    pub(crate) fn commit(&mut self, own: u8, cells: &Cells, many: bool, count: u8)
         requires own { own < CRAFTS }
         requires commits { (made_at self.old own).commits < 600 }
         requires size { length cells.now.list ≡ CRAFTS }
+        requires count { count ≤ CRAFTS }
+        requires past { IsSamePast self.old.links own cells.now count }
         ensures { AfterCommit self.old self.new own cells.now many }
     {
         let commits = self.made[usize::from(own)].commits + 1;
         self.made[usize::from(own)] = Made { commits, many };
-        put_cells(&mut self.links, own, cells);
+        put_cells(&mut self.links, own, cells, count);
     }
 }
 
-// Puts new cells into an aircraft's row; nothing was sent since.
-fn put_cells(links: &mut Vec<Link>, own: u8, cells: &Cells)
+// Puts new cells into an aircraft's row; nothing was sent since. Past the last aircraft the row stays as it was.
+fn put_cells(links: &mut Vec<Link>, own: u8, cells: &Cells, count: u8)
     requires own { own < CRAFTS }
     requires pairs { length links.old.items ≡ 256 }
     requires size { length cells.now.list ≡ CRAFTS }
+    requires count { count ≤ CRAFTS }
+    requires past { IsSamePast links.old.items own cells.now count }
     ensures { RowIs links.old.items links.new.items own cells.now }
 {
-    for other in 0..CRAFTS as u8 {
+    for other in 0..count {
         let pair = pair_of(own, other);
         let link = &mut links[pair];
         link.cell = cells.list[usize::from(other)];

@@ -52,7 +52,7 @@ impl AirState {
         let encounter = enc.copy(alloc)?;
         let usual = UsualFates::new(alloc, enc)?;
         let journal = Journal::new(alloc, usize::from(enc.cycles()), pages_for(enc))?;
-        let tables = Tables::new(alloc)?;
+        let tables = Tables::new(alloc, enc)?;
         Ok(AirState {
             encounter,
             usual,

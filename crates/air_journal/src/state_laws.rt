@@ -42,7 +42,7 @@ pub fn priority_law(state: &AirState)
     air_rules::onward_law();
 }
 
-/// A law: where an aircraft has committed so many cycles in two journals, has equal sights in both up to
+/// A law: where an aircraft has committed the same number of cycles in two journals, has equal sights in both up to
 /// there, and has equal complements in force before each of these commits, it commits equal cells.
 pub fn worlds_law(a: &AirState, b: &AirState, own: u8, cycle: u16)
     requires active_in_a { IsActive a.now.encounter own }

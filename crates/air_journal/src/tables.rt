@@ -2,16 +2,17 @@
 ghost use Rattle.std.specs.Prelude.{◌≡◌, ℕ, ◌+◌, ◌<◌, ◌≤◌, [], length, replicate, IfOk, IsTrue, MatchBool, Some};
 ghost use Rattle.acas_base.specs.Fates.{copies_of};
 ghost use Rattle.acas_base.specs.declared.TheConstants.{CRAFTS};
-ghost use Rattle.air_journal.specs.Kept.{AfterCommit, AfterSend, AfterTake, IsBlank, copies_from, link_at, made_at, queue_at, read_as, vrc_of};
+ghost use Rattle.air_journal.specs.Airs.{air_of};
+ghost use Rattle.air_journal.specs.Kept.{AfterCommit, AfterSend, AfterTake, HaveRoom, IsBlank, IsSamePast, copies_from, link_at, made_at, queue_at, read_as, room_at, vrc_of};
 ghost use Rattle.air_journal.specs.Orders.{IsQuiet, IsTold, StartsOtherwise, StartsWith};
 ghost use Rattle.air_journal.specs.Queues.{AreOrdered};
-ghost use Rattle.air_journal.specs.declared.queue.TheConstants.{QUEUE_ROOM};
 ghost use Rattle.res_message.specs.Words.{flip_word, read_word};
 
+use crate::crafts::is_ra;
 use crate::kept::{Link, Made, Waiting};
 use crate::order::{Arrival, Order};
 use crate::rows::Rows;
-use acas_base::{CRAFTS, Cells, Fate, Vrc};
+use acas_base::{CRAFTS, Cells, Encounter, Fate, Vrc};
 use std::alloc::{AllocError, Global};
 use std::marker::Model;
 
@@ -44,12 +45,21 @@ pub(crate) enum Front {
     Unknown,
 }
 
-fn new_orders(alloc: Global) -> Result<Vec<Order>, AllocError>
+// For how many messages to an aircraft there is room: as for copies from one other aircraft.
+fn order_room(encounter: &Encounter, own: u8) -> usize {
+    if is_ra(encounter, own) {
+        3 * usize::from(encounter.cycles())
+    } else {
+        0
+    }
+}
+
+fn new_orders(alloc: Global, encounter: &Encounter) -> Result<Vec<Order>, AllocError>
     ensures { IfOk result (λ orders. orders.items ≡ replicate CRAFTS (Some [])) }
 {
     let mut orders = Vec::with_capacity(alloc, CRAFTS)?;
-    for _own in 0..CRAFTS {
-        orders.push(Order::new(alloc)?)?;
+    for own in 0..CRAFTS {
+        orders.push(Order::new(alloc, order_room(encounter, own as u8))?)?;
     }
     Ok(orders)
 }
@@ -65,12 +75,13 @@ fn starts_with(queue: &[Waiting], send: u32) -> bool
 }
 
 impl Tables {
-    /// Those of the empty journal.
-    pub(crate) fn new(alloc: Global) -> Result<Self, AllocError>
-        ensures { IfOk result (λ tables. IsBlank tables) }
+    /// Those of the empty journal of an encounter.
+    pub(crate) fn new(alloc: Global, encounter: &Encounter) -> Result<Self, AllocError>
+        ensures blank { IfOk result (λ tables. IsBlank tables) }
+        ensures room { IfOk result (HaveRoom (air_of encounter.now)) }
     {
-        let rows = Rows::new(alloc)?;
-        let orders = new_orders(alloc)?;
+        let rows = Rows::new(alloc, encounter)?;
+        let orders = new_orders(alloc, encounter)?;
         Ok(Tables { rows, orders })
     }
 
@@ -137,7 +148,7 @@ impl Tables {
         requires word { vrc_of (read_word word) ≡ Some vrc }
         requires sends { (link_at self.old own target).sends < 600 }
         requires commits { (made_at self.old target).commits ≤ 600 }
-        requires room { length (queue_at self.old own target) + 3 ≤ QUEUE_ROOM }
+        requires room { length (queue_at self.old own target) + 3 ≤ room_at self.old own target }
         ensures { AfterSend self.old self.new own target vrc (copies_from (read_as flip_word read_word word) send (made_at self.old target).commits 0 (copies_of fate.now)) }
     {
         self.rows.send(own, target, vrc, word, send, fate);
@@ -154,13 +165,15 @@ impl Tables {
         self.rows.take(own, sender, place, reads);
     }
 
-    /// A commit with these cells.
-    pub(crate) fn commit(&mut self, own: u8, cells: &Cells, many: bool)
+    /// A commit with these cells, in an encounter of `count` aircraft.
+    pub(crate) fn commit(&mut self, own: u8, cells: &Cells, many: bool, count: u8)
         requires own { own < CRAFTS }
         requires commits { (made_at self.old own).commits < 600 }
         requires size { length cells.now.list ≡ CRAFTS }
+        requires count { count ≤ CRAFTS }
+        requires past { IsSamePast self.old.links own cells.now count }
         ensures { AfterCommit self.old self.new own cells.now many }
     {
-        self.rows.commit(own, cells, many);
+        self.rows.commit(own, cells, many, count);
     }
 }

@@ -2,14 +2,15 @@
 ghost use Rattle.std.specs.Prelude.{◌≡◌, ◌<◌, length, IfOk, IfSome, IsTrue};
 ghost use Rattle.acas_base.specs.Fates.{copies_of, fate_of};
 ghost use Rattle.acas_base.specs.declared.TheConstants.{CRAFTS};
-ghost use Rattle.air_journal.specs.Usual.{AreUnnamed, AreUsual};
+ghost use Rattle.air_journal.specs.Usual.{AreUnnamed, AreUsual, IsUnnamed};
 
+use crate::crafts::is_ra;
 use acas_base::{CRAFTS, Encounter, Fate, PAIRS, pair_of};
 use std::alloc::{AllocError, Global};
 use std::marker::Model;
 
-/// The fate that all messages of an ordered pair have, for each pair of which the encounter names no single message; so a
-/// send needn't search the encounter's lists.
+/// The fate that all messages of an ordered pair have, for each pair that sends messages and of which the encounter
+/// names no single message; so a send needn't search the encounter's lists.
 #[derive(Drop)]
 pub(crate) struct UsualFates {
     fates: Vec<Option<Fate>>,
@@ -26,13 +27,24 @@ impl Model for UsualFates {
     ghost view = { λ u. u.fates.items };
 }
 
-// What becomes of a message that no record names.
+// What becomes of a message that no record names, where the pair sends messages.
+fn unnamed(encounter: &Encounter, sender: u8, receiver: u8) -> Option<Fate>
+    ensures { IsUnnamed encounter.now 0 sender receiver result }
+{
+    if is_ra(encounter, sender) && is_ra(encounter, receiver) {
+        Some(encounter.fate(sender, receiver, 0))
+    } else {
+        None
+    }
+}
+
+// That of each pair.
 fn all_unnamed(alloc: Global, encounter: &Encounter) -> Result<Vec<Option<Fate>>, AllocError>
     ensures { IfOk result (λ fates. AreUnnamed encounter.now 0 fates.items) }
 {
     let mut fates = Vec::with_capacity(alloc, PAIRS)?;
     for pair in 0..PAIRS {
-        fates.push(Some(encounter.fate((pair / CRAFTS) as u8, (pair % CRAFTS) as u8, 0)))?;
+        fates.push(unnamed(encounter, (pair / CRAFTS) as u8, (pair % CRAFTS) as u8))?;
     }
     Ok(fates)
 }

@@ -23,8 +23,8 @@ IsActive e own = IsTrue (is_active_at e.crafts own)
 abbrev pub kept_of : Kept → ℕ → Tracks
 kept_of kept index = slice_index_or kept.tracks index no_tracks
 
--- What is kept belongs to an encounter: all aircraft stay inside the box, own aircraft is active, the cycle is one of the run
--- (or 0, before the first), and each track is that of all that was measured up to the cycle.
+-- What is kept belongs to an encounter: all aircraft stay inside the box, own aircraft is active, the cycle is one of
+-- the run (or 0, before the first), and each track is that of all that was measured up to the cycle.
 pub record Belongs (e : Parts) (kept : Kept) : Type 0 where
   pub inside : IsInside e
   pub active : IsActive e kept.own

@@ -1,4 +1,5 @@
--- The tracks that follow from what is known, and what they say where they run. Estimates are in 1/1024 ft, rates in 1/1024 ft/s.
+-- The tracks that follow from what is known, and what they say where they run. Estimates are in 1/1024 ft, rates in
+-- 1/1024 ft/s.
 use Rattle.std.specs.Prelude.{ℕ, ◌≤◌, ◌^◌, ℤ, pos, unsigned_abs, List, map, Option, Some, None, option_map}
 use Rattle.std.specs.Option.{option_and_then, option_map_or}
 use Rattle.acas_base.specs.Encounter.{Parts}

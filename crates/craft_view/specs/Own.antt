@@ -9,7 +9,8 @@ use Rattle.craft_view.specs.Sight.{Sight}
 use Rattle.craft_view.specs.declared.own.OwnAircraft.{OwnAircraft}
 use Rattle.sens_table.specs.Levels.{IsTableRow, level_at}
 
--- The thresholds of a resolution advisory: those of the level, for an aircraft that gives such advisories. Level 2 alone has none.
+-- The thresholds of a resolution advisory: those of the level, for an aircraft that gives such advisories. Level 2
+-- alone has none.
 abbrev pub resolution_row : Option Kind → Level → Option Row
 resolution_row None level = None
 resolution_row (Some Ra) level = level.ra

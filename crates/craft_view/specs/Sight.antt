@@ -16,8 +16,8 @@ pub record Other : Type 0 where
   pub rank : Rank
   pub seen : List (Option Meas)
 
--- The gains of the tracks, the elevation of the ground in ft, own kind and ceiling, own altitudes in ft, the newest first,
--- and the others by index. There is none in the own place, nor past the last aircraft.
+-- The gains of the tracks, the elevation of the ground in ft, own kind and ceiling, own altitudes in ft, the newest
+-- first, and the others by index. There is none in the own place, nor past the last aircraft.
 pub record Sight : Type 0 where
   pub range : Gains
   pub altitude : Gains

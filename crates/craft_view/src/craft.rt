@@ -86,7 +86,7 @@ impl Craft {
         self.look_among(&places)
     }
 
-    /// What [`Craft::look`] gives and does, from the places in that next cycle: all that look in a cycle can
+    /// Does the same as [`Craft::look`], from the places in that next cycle. All aircraft that look in a cycle can
     /// share them.
     pub fn look_among(&mut self, places: &Places) -> Picture
         requires belongs { Belongs places.now.encounter self.old }
@@ -102,8 +102,8 @@ impl Craft {
         picture
     }
 
-    /// What [`Craft::look_among`] does. Each view is put where an earlier one was, so that none is moved. Past the last
-    /// aircraft the views have to say nothing already, as those of each picture of the same encounter do.
+    /// Does the same as [`Craft::look_among`], and puts each view where an earlier one was, so that none is moved. Past
+    /// the last aircraft the views have to say nothing already, as those of each picture of the same encounter do.
     pub fn look_into(&mut self, places: &Places, picture: &mut Picture)
         requires belongs { Belongs places.now.encounter self.old }
         requires left { self.old.cycle < places.now.encounter.cycles }
@@ -153,7 +153,8 @@ impl Craft {
         self.put_views(places.encounter(), &own, &mut picture.views);
     }
 
-    // Puts the view of each aircraft in the present cycle at its place. Past the last one the views say nothing already.
+    // Puts the view of each aircraft in the present cycle at its place. Past the last one the views say nothing
+    // already.
     fn put_views(&self, encounter: &Encounter, own: &OwnAircraft, views: &mut [View; CRAFTS])
         requires belongs { Belongs encounter.now self.now }
         requires own { own.now ≡ own_of (sight_of encounter.now self.now.own self.now.cycle) }
@@ -192,7 +193,7 @@ impl Craft {
         self.tracks[usize::from(target)].range.state()
     }
 
-    /// The state of the track of the altitude of an aircraft, in the own place that of own altitude:
+    /// The state of the track of an aircraft's altitude, and in the own place the state of the track of own altitude:
     /// estimate in 1/1024 ft, rate in 1/1024 ft/s. It is empty where there is no aircraft.
     pub fn altitude_of(&self, target: u8) -> TrackState
         requires { target < CRAFTS }
@@ -204,7 +205,8 @@ impl Craft {
         self.tracks[usize::from(target)].altitude.state()
     }
 
-    /// What the tracks of the newest cycle say of an aircraft, where the pair is tested: where they all run.
+    /// What the tracks of the newest cycle say of an aircraft. It is none where the pair isn't tested: where one of the
+    /// tracks doesn't run.
     pub fn motion_of(&self, target: u8) -> Option<Motion>
         requires { target < CRAFTS }
         ensures value { result ≡ motion_of self.now.altitude (kept_of self.now target) }

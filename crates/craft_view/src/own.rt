@@ -11,9 +11,9 @@ use acas_base::{CraftSpec, Encounter, Kind, Level, Row, is_active_at};
 use flight::Places;
 use sens_table::level_of;
 
-/// The thresholds of advisories at own altitude, none of a resolution advisory where own aircraft
-/// doesn't resolve; the separation to aim for, in 1/1024 ft; whether own aircraft may climb; and its
-/// height above ground, in ft.
+/// What own aircraft brings into its views: the thresholds of a TA at own altitude; the thresholds of an RA, none where
+/// own aircraft doesn't resolve; ALIM, in 1/1024 ft; whether own aircraft may climb; and its height above ground, in
+/// ft.
 #[derive(Clone, Copy, Debug, PartialEq, Eq)]
 pub struct OwnAircraft {
     pub traffic: Row,

@@ -14,8 +14,8 @@ use crate::tracks::Tracks;
 use acas_base::{CRAFTS, Picture, Row, Sense, Seps, View};
 use alt_track::AltTrack;
 
-// Puts the view of an aircraft by its tracks and the track of own altitude. Each case puts its own view, since a view that
-// the cases share is moved once more.
+// Puts the view of an aircraft by its tracks and the track of own altitude. Each case puts its own view, since a view
+// that the cases share is moved once more.
 #[tactic(auto, unfolding(crate::specs::Views::view_by))]
 pub(crate) fn put_view(own: &OwnAircraft, altitude: &AltTrack, tracks: &Tracks, view: &mut View)
     requires { AreRows own.now }

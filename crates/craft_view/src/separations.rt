@@ -71,8 +71,9 @@ pub(crate) fn approach_of(motion: &Motion, row: &Row) -> Approach
 
 // The separations of all strengths.
 //
-// With its response, its sense and its strength known where it is compiled, a separation takes half the instructions. Without
-// this and the attribute of `in_sense`, serial runs of 16 and of 8 aircraft of kind RA take 12.6 and 6.6 per cent more.
+// With its response, its sense and its strength known where it is compiled, a separation takes half the instructions.
+// Without this and the attribute of `in_sense`, serial runs of 16 and of 8 aircraft of kind RA take 12.6 and 6.6 per
+// cent more.
 #[inline(always)]
 #[tactic(auto, unfolding(crate::specs::Separations::separations))]
 pub(crate) fn separations(motion: &Motion, approach: &Approach, response: Response) -> Seps
@@ -189,6 +190,7 @@ fn kept_after(altitude: &Estimate, halves: u16) -> i64
     sum(altitude.est, half_of_product(altitude.rate, halves))
 }
 
+// For the proof: the bounds of half a product.
 fn half_of_product(rate: i64, halves: u16) -> i64
     requires rate { unsigned_abs rate ≤ 2 ^ 18 }
     requires halves { halves ≤ 120 }
@@ -198,6 +200,7 @@ fn half_of_product(rate: i64, halves: u16) -> i64
     product(rate, halves) >> 1
 }
 
+// For the proof: the bounds of a product.
 fn product(rate: i64, halves: u16) -> i64
     requires rate { unsigned_abs rate ≤ 2 ^ 18 }
     requires halves { halves ≤ 120 }
@@ -207,6 +210,7 @@ fn product(rate: i64, halves: u16) -> i64
     rate * i64::from(halves)
 }
 
+// For the proof: the bounds of a sum.
 fn sum(a: i64, b: i64) -> i64
     requires a { unsigned_abs a ≤ 2 ^ 30 }
     requires b { unsigned_abs b ≤ 2 ^ 30 }
@@ -216,8 +220,8 @@ fn sum(a: i64, b: i64) -> i64
     a + b
 }
 
-/// The vertical rate that an advisory asks for, in 1/1024 ft/s: `rate` where that meets the floor already,
-/// else the floor (this project's profile).
+/// The vertical rate that an advisory asks for, in 1/1024 ft/s. It is `rate` where that meets the floor already, else
+/// the floor (this project's profile).
 #[tactic(auto, unfolding(crate::specs::Separations::asked_rate))]
 pub fn asked_rate(sense: Sense, strength: Strength, rate: i64) -> i64
     requires { unsigned_abs rate ≤ 2 ^ 18 }

@@ -2,31 +2,20 @@
 use Rattle.std.proofs.Common.{◌≡◌, ◌≢◌, ℕ, ◌+◌, ◌<◌, ◌||◌, Bool, true, false, cond, eqb, List, [], ◌∷◌, length, Option, Some, None, is_some, unwrap_or, refl, sym, ap, ◌∙◌, subst, arith, inl, inr, eq-eqb, eqb-true, ne_eqb}
 use Rattle.std.specs.Prelude.{option_and_then}
 use Rattle.std.proofs.lemmas.Bool.{cases_Bool, cases_eq, cond-false, cond-true}
-use Rattle.acas_base.specs.Senses.{has_sense, is_same_sense, sense_of}
+use Rattle.acas_base.specs.Senses.{has_sense, sense_of}
 use Rattle.acas_base.specs.declared.advisory.Cell.{Cell}
-use Rattle.acas_base.specs.declared.advisory.Cell.TheVariants.{Clear, Ra, Traffic}
 use Rattle.acas_base.specs.declared.advisory.Cells.{Cells}
 use Rattle.acas_base.specs.declared.advisory.Sense.{Sense}
-use Rattle.acas_base.specs.declared.advisory.Sense.TheVariants.{Down, Up}
 use Rattle.acas_base.specs.declared.entry.Entry.{Entry}
 use Rattle.acas_base.specs.declared.entry.Entry.TheVariants.{Commit, Send, Take}
 use Rattle.air_rules.proofs.Positions.{chosen}
-use Rattle.air_rules.proofs.Running.{has-run-by-sense, run-sense, run-within, sense-has}
+use Rattle.air_rules.proofs.Running.{has-from, has-run-by-sense, run-sense, run-within, sense-has}
 use Rattle.air_rules.specs.Journal.{cell_at, is_commit_of, last_cell}
 use Rattle.air_rules.specs.Runs.{run_began}
 use Rattle.journal_reader.specs.Reading.{present_run}
 use Rattle.pair_watch.specs.Watching.{begun_sense, equal_sense, is_at, is_pair_commit, row_began}
 
 -- ---- senses
-
-is-same : (s : Sense) → is_same_sense s s ≡ true
-is-same Up = refl
-is-same Down = refl
-
-pub has-its-own : (cell : Cell) (sense : Sense) → sense_of cell ≡ Some sense → has_sense cell sense ≡ true
-has-its-own Clear sense is = absurd (cc)
-has-its-own Traffic sense is = absurd (cc)
-has-its-own (Ra it) sense is = let same : it.sense ≡ sense = cc in subst (λ (s : Sense). is_same_sense it.sense s ≡ true) same (is-same it.sense)
 
 -- The sense of two cells, where both have it.
 abbrev pub equal_by : Cell → Cell → Option Sense
@@ -48,7 +37,7 @@ agree high low sense is = go (sense_of high) refl is
 
 pub agreed : (high low : Cell) (sense : Sense) → Agree high low sense → equal_by high low ≡ Some sense
 agreed high low sense is =
-    ap (option_and_then (λ s. cond (has_sense low s) (Some s) None)) is.high_has ∙ cond-true (has_sense low sense) (Some sense) None (has-its-own low sense is.low_has)
+    ap (option_and_then (λ s. cond (has_sense low s) (Some s) None)) is.high_has ∙ cond-true (has_sense low sense) (Some sense) None (has-from low sense is.low_has)
 
 -- With another cell for one of the two they agree on, or don't any more.
 not-some : (o : Option Sense) → ((s : Sense) → o ≡ Some s → ⊥) → is_some o ≡ false
@@ -68,7 +57,7 @@ pub high-ends : (high low cell : Cell) (sense : Sense) → equal_by high low ≡
 high-ends high low cell sense is has = not-some (equal_by cell low) (λ s e.
     let a = agree cell low s e in
     let same : s ≡ sense = same-sense (sense_of low) sense s (agree high low sense is).low_has a.low_has in
-    let yes : has_sense cell sense ≡ true = has-its-own cell sense (a.high_has ∙ ap Some same) in
+    let yes : has_sense cell sense ≡ true = has-from cell sense (a.high_has ∙ ap Some same) in
     let z : true ≡ false = sym yes ∙ has in
     cc)
 
@@ -76,7 +65,7 @@ pub low-ends : (high low cell : Cell) (sense : Sense) → equal_by high low ≡ 
 low-ends high low cell sense is has = not-some (equal_by high cell) (λ s e.
     let a = agree high cell s e in
     let same : s ≡ sense = same-sense (sense_of high) sense s (agree high low sense is).high_has a.high_has in
-    let yes : has_sense cell sense ≡ true = has-its-own cell sense (a.low_has ∙ ap Some same) in
+    let yes : has_sense cell sense ≡ true = has-from cell sense (a.low_has ∙ ap Some same) in
     let z : true ≡ false = sym yes ∙ has in
     cc)
 
@@ -175,7 +164,7 @@ commit-row K own other cycle low high cells sense apart commit mine theirs equal
     x = Commit own cycle cells
 
     run : run_began (Commit own cycle cells ∷ K) own other sense ≡ Some (unwrap_or (run_began K own other sense) (length K))
-    run = cond-true (eqb own own) _ (run_began K own other sense) (eq-eqb own own refl) ∙ cond-true (has_sense (cell_at cells other) sense) _ None (has-its-own (cell_at cells other) sense mine)
+    run = cond-true (eqb own own) _ (run_began K own other sense) (eq-eqb own own refl) ∙ cond-true (has_sense (cell_at cells other) sense) _ None (has-from (cell_at cells other) sense mine)
 
     at_same : (o p : Option ℕ) → is_some o ≡ true → is_some p ≡ true → ((b : ℕ) → o ≡ Some b → b < length K) → ((b : ℕ) → p ≡ Some b → b < length K) →
         is_at (length K) (Some (unwrap_or o (length K))) ≡ is_at (length K) (Some (unwrap_or p (length K)))

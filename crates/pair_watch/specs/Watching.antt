@@ -48,8 +48,8 @@ equal_sense journal low high = option_and_then (λ sense. if has_sense (last_cel
 abbrev pub is_pair_commit : ℕ → ℕ → Entry → Bool
 is_pair_commit low high entry = is_commit_of low entry || is_commit_of high entry
 
--- The longest row of commits of both, up to the last one, after each of which the senses are equal: the position of its first
--- commit; none where they aren't equal after the last one.
+-- The longest row of commits of both, up to the last one, after each of which the senses are equal: the position of its
+-- first commit; none where they aren't equal after the last one.
 abbrev pub row_began : List Entry → ℕ → ℕ → Option ℕ
 row_began [] low high = None
 row_began (entry ∷ earlier) low high =
@@ -59,6 +59,11 @@ row_began (entry ∷ earlier) low high =
 
 abbrev pub is_at : ℕ → Option ℕ → Bool
 is_at position began = option_map_or (λ b. b == position) began false
+
+-- The last entry is a commit of this aircraft.
+abbrev pub ends_with_commit : List Entry → ℕ → Bool
+ends_with_commit [] own = false
+ends_with_commit (entry ∷ earlier) own = is_commit_of own entry
 
 -- The position of the last commit of the row that began at a position.
 abbrev pub last_of : List Entry → ℕ → ℕ → ℕ → Option ℕ
@@ -72,8 +77,8 @@ begun_sense journal low high position = if is_at position (row_began journal low
 
 -- ---- what a row is told by
 
--- Why the senses are equal: the one that gives way had taken no undamaged message of the other one by its last commit; or the
--- last one was sent before that one's present run; or else it has lapsed.
+-- Why the senses are equal: the one that gives way had taken no undamaged message of the other one by its last commit;
+-- or the last one was sent before that one's present run; or else it has lapsed.
 abbrev pub cause_by : Option Taken → Option ℕ → Cause
 cause_by None run = Untold
 cause_by (Some taken) run = if nat_lt taken.send (unwrap_or run 0) then Old else Lapsed

@@ -1,8 +1,8 @@
 // The intervals of equal senses, in the order in which they begin.
-ghost use Rattle.std.specs.Prelude.{◌≡◌, ◌≢◌, ◌+◌, ◌<◌, ◌≤◌, length, option_to_list};
+ghost use Rattle.std.specs.Prelude.{◌≡◌, ◌≢◌, ◌+◌, ◌<◌, ◌≤◌, true, length, option_to_list};
 ghost use Rattle.acas_base.specs.declared.TheConstants.{CRAFTS};
 ghost use Rattle.air_rules.specs.Journal.{Begins};
-ghost use Rattle.pair_watch.specs.Watching.{line_at, lines_at, lines_of_low};
+ghost use Rattle.pair_watch.specs.Watching.{ends_with_commit, line_at, lines_at, lines_of_low};
 
 use crate::lines::{Interval, interval_line};
 use crate::pair::{Pair, begun_sense, cause_of, is_watched};
@@ -61,16 +61,43 @@ fn put_low<S: LineSink>(state: &AirState, reader: &Reader<'_>, low: u8, at: u32,
     }
 }
 
-// Puts those of all pairs.
-fn put_at<S: LineSink>(state: &AirState, reader: &Reader<'_>, at: u32, sink: &mut S)
+// Puts the same, after a commit of an aircraft: of the pairs of any other one, only that of the two can have changed.
+fn put_changed<S: LineSink>(
+    state: &AirState,
+    reader: &Reader<'_>,
+    low: u8,
+    own: u8,
+    at: u32,
+    sink: &mut S,
+)
     requires encounter { reader.now.encounter ≡ state.now.encounter }
     requires journal { reader.now.journal ≡ state.now.journal }
+    requires low { low < length state.now.encounter.crafts }
+    requires own { own < length state.now.encounter.crafts }
     requires last { length reader.now.read ≡ at + 1 }
+    requires commit { ends_with_commit reader.now.read own ≡ true }
+    ensures { S.took sink.old sink.new (lines_of_low state.now.encounter state.now.journal reader.now.read at low) }
+{
+    if low == own {
+        put_low(state, reader, low, at, sink);
+    } else {
+        let pair = Pair { low, high: own };
+        put_pair(state, reader, pair, at, sink);
+    }
+}
+
+// Puts those of all pairs, after a commit of an aircraft.
+fn put_at<S: LineSink>(state: &AirState, reader: &Reader<'_>, own: u8, at: u32, sink: &mut S)
+    requires encounter { reader.now.encounter ≡ state.now.encounter }
+    requires journal { reader.now.journal ≡ state.now.journal }
+    requires own { own < length state.now.encounter.crafts }
+    requires last { length reader.now.read ≡ at + 1 }
+    requires commit { ends_with_commit reader.now.read own ≡ true }
     ensures { S.took sink.old sink.new (lines_at state.now.encounter state.now.journal reader.now.read at) }
 {
     state.legal_law();
     for low in 0..state.enc().crafts().len() {
-        put_low(state, reader, low as u8, at, sink);
+        put_changed(state, reader, low as u8, own, at, sink);
     }
 }
 
@@ -80,10 +107,11 @@ impl Text for Intervals<'_> {
     ghost lines = { λ i. interval_lines i.0.now.encounter i.0.now.journal };
 
     fn put<S: LineSink>(&self, sink: &mut S) {
+        self.0.legal_law();
         let mut reader = Reader::new(self.0);
         while let Some(entry) = reader.next() {
-            if let EntryRef::Commit { .. } = entry {
-                put_at(self.0, &reader, reader.position() - 1, sink);
+            if let EntryRef::Commit { own, .. } = entry {
+                put_at(self.0, &reader, own, reader.position() - 1, sink);
             }
         }
     }

@@ -13,8 +13,8 @@ use acas_text::Line;
 use advisory_report::sense_letter;
 use air_journal::AirState;
 
-/// An interval of equal senses: the sense, the positions of its first and last commit, its cause, and the position of the next
-/// message.
+/// An interval of equal senses: the sense, the positions of its first and last commit, its cause, and the position of
+/// the next message.
 #[derive(Clone, Copy, Debug, PartialEq, Eq)]
 pub(crate) struct Interval {
     pub sense: Sense,
@@ -46,8 +46,8 @@ fn add_next(line: &mut Line, next: Option<u32>)
     }
 }
 
-/// The line of an interval of two aircraft. It is inlined: else room for a line is cleared for each pair in each commit, and
-/// the watch of eight aircraft takes 5 per cent more instructions.
+/// The line of an interval of two aircraft. It is inlined: else room for a line is cleared for each pair in each
+/// commit, and the watch of eight aircraft takes 5 per cent more instructions.
 #[inline(always)]
 pub(crate) fn interval_line(low: Address, high: Address, it: &Interval) -> Line
     ensures { result ≡ interval_line low high it.now.sense it.now.from it.now.to it.now.cause it.now.next }
@@ -66,8 +66,8 @@ pub(crate) fn interval_line(low: Address, high: Address, it: &Interval) -> Line
     line
 }
 
-/// The intervals of equal senses of a state: how many there are, and the line of each, by the position of its first commit and
-/// then by the indices of its two aircraft.
+/// The intervals of equal senses of a state: how many there are, and the line of each, by the position of its first
+/// commit and then by the indices of its two aircraft.
 #[derive(Drop)]
 pub struct Watch<'a>(pub &'a AirState);
 
@@ -79,8 +79,12 @@ impl Text for Watch<'_> {
     fn put<S: LineSink>(&self, sink: &mut S) {
         self.0.legal_law();
         let intervals = Intervals(self.0);
-        sink.line(&count_line("watch", count_lines(&intervals)));
-        intervals.put(sink);
+        let count = count_lines(&intervals);
+        sink.line(&count_line("watch", count));
+        // Mostly there are none. Then the journal isn't read again.
+        if count > 0 {
+            intervals.put(sink);
+        }
     }
 }
 

@@ -28,8 +28,8 @@ fn pair_cell(entry: &EntryRef<'_>, pair: Pair) -> Option<Cell>
     None
 }
 
-/// The position of the last commit of the row of equal senses that began at a position. It looks no further than to the commit
-/// that ends the row.
+/// The position of the last commit of the row of equal senses that began at a position. It looks no further than to the
+/// commit that ends the row.
 pub(crate) fn last_of(state: &AirState, pair: Pair, sense: Sense, from: u32) -> u32
     requires low { pair.low < CRAFTS }
     requires high { pair.high < CRAFTS }
@@ -65,8 +65,8 @@ fn is_send_from(entry: &EntryRef<'_>, pair: Pair) -> bool
     }
 }
 
-/// The position of the next send of the first one of a pair to the one that gives way, after a position. It comes soon: with an
-/// advisory, and after its end, each commit is followed by one.
+/// The position of the next send of the first one of a pair to the one that gives way, after a position. It comes soon:
+/// with an advisory, and after its end, each commit is followed by one.
 pub(crate) fn next_send(state: &AirState, pair: Pair, from: u32) -> Option<u32>
     requires { from < length state.now.journal }
     ensures { result ≡ next_send state.now.journal pair.low pair.high from }

@@ -1,5 +1,5 @@
--- How an aircraft would have flown with the modelled response (this project's profile). Altitudes are in 1/2048 ft and rates in
--- 1/1024 ft/s, so that in a half-second an altitude grows by the rate.
+-- How an aircraft would have flown with the modelled response (this project's profile). Altitudes are in 1/2048 ft and
+-- rates in 1/1024 ft/s, so that in a half-second an altitude grows by the rate.
 use Rattle.std.specs.Prelude.{ℕ, zero, suc, ◌+◌, ◌-◌, ◌*◌, Bool, not, ◌&&◌, if◌then◌else◌, nat_le, ℤ, pos, neg_ℤ, ◌+ℤ◌, ◌-ℤ◌, ◌*ℤ◌, List, find, Option, Some, None}
 use Rattle.std.specs.Int.{int_div_euclid}
 use Rattle.std.specs.List.{range_with_len}
@@ -20,8 +20,8 @@ use Rattle.craft_view.specs.declared.separations.Response.{Response}
 use Rattle.flight.specs.Flight.{legs_of, position, rate_in}
 use Rattle.response.specs.declared.motion.Motion.{Motion}
 
--- What is planned and what is advised of one aircraft: by cycle, the planned altitude, the planned rate, and what the aircraft
--- shows, which is nothing in cycle 0.
+-- What is planned and what is advised of one aircraft: by cycle, the planned altitude, the planned rate, and what the
+-- aircraft shows, which is nothing in cycle 0.
 pub record Flight : Type 0 where
   pub altitude : ℕ → ℤ
   pub rate : ℕ → ℤ
@@ -55,8 +55,8 @@ response_to before now = if has_advice now then (if has_advice before then later
 abbrev pub response_in : Flight → ℕ → Response
 response_in flight cycle = response_to (flight.shown (changed flight cycle - 1)) (flight.shown cycle)
 
--- The rate to fly at, by the strengths advised up and down, the planned rate and the rate so far. Advice of one sense asks for
--- its floor, where the rate doesn't meet it already; advice of both asks for level flight.
+-- The rate to fly at, by the strengths advised up and down, the planned rate and the rate so far. Advice of one sense
+-- asks for its floor, where the rate doesn't meet it already; advice of both asks for level flight.
 abbrev pub goal_by : Option Strength → Option Strength → ℤ → ℤ → ℤ
 goal_by None None planned rate = planned
 goal_by (Some up) None planned rate = asked_rate Up up rate

@@ -3,15 +3,16 @@ ghost use Rattle.std.specs.Prelude.{◌≡◌};
 ghost use Rattle.acas_io.specs.Stream.{Puts};
 ghost use Rattle.response.specs.Response.{response_text};
 
-use crate::pairs::Pairs;
+use crate::pairs::{Pairs, count_pairs};
 use acas_io::{Failed, Sink};
-use acas_lines::{LineSink, Text, count_line, count_lines, write_text};
+use acas_lines::{LineSink, Text, count_line, write_text};
 use air_journal::AirState;
 
-/// The modelled response of a state: how many pairs of aircraft there are of which one has a resolution advisory against
-/// the other in some commit, and a line for each, by lower and by higher index: `p,ADDRESS,ADDRESS,CYCLE,PLANNED,FLOWN`.
-/// CYCLE is the first cycle in which their slant range is least, as planned; PLANNED and FLOWN are how far apart their
-/// altitudes are in it, as planned and by [`crate::flown`], in ft and rounded down (this project's profile).
+/// The modelled response of a state: how many pairs of aircraft there are of which one has a resolution advisory
+/// against the other in some commit, and a line for each, by lower and by higher index:
+/// `p,ADDRESS,ADDRESS,CYCLE,PLANNED,FLOWN`. CYCLE is the first cycle in which their slant range is least, as planned;
+/// PLANNED and FLOWN are how far apart their altitudes are in it, as planned and by [`crate::flown`], in ft and rounded
+/// down (this project's profile).
 #[derive(Drop)]
 pub struct Response<'a>(pub &'a AirState);
 
@@ -21,10 +22,8 @@ impl Text for Response<'_> {
     ghost lines = { λ r. response_lines r.0.now.encounter r.0.now.journal };
 
     fn put<S: LineSink>(&self, sink: &mut S) {
-        self.0.legal_law();
-        let pairs = Pairs(self.0);
-        sink.line(&count_line("response", count_lines(&pairs)));
-        pairs.put(sink);
+        sink.line(&count_line("response", count_pairs(self.0)));
+        Pairs(self.0).put(sink);
     }
 }
 

@@ -1,4 +1,5 @@
-// Expected values: by hand from the tables of bits of "RA report blocks" in docs/FORMATS.md and of "Messages" in docs/RULES.md.
+// Expected values: by hand from the tables of bits of "RA report blocks" in docs/FORMATS.md and of "Messages" in
+// docs/RULES.md.
 use acas_io::{MemSink, Sink};
 use std::alloc::Global;
 use std::test::Fail;

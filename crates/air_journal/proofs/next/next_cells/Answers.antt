@@ -1,6 +1,10 @@
-use Rattle.std.proofs.Common.{◌≡◌, ℕ, ◌+◌, List, get_or, set, ap, ◌∙◌, arith, below_more, get_or-set_same, get_or-set_other, length-set}
+use Rattle.std.proofs.Common.{◌≡◌, ℕ, ◌+◌, List, get_or, set, sym, refl, ap, ◌∙◌, inl, inr, arith, below_more, get_or-set_same, get_or-set_other, length-set}
+use Rattle.std.proofs.lemmas.Bool.{cases_lt}
+use Rattle.std.proofs.lemmas.List.{get_or-replicate}
+use Rattle.acas_base.specs.declared.TheConstants.{CRAFTS}
 use Rattle.acas_base.specs.declared.advisory.Cell.{Cell}
 use Rattle.acas_base.specs.declared.advisory.Cell.TheVariants.{Clear}
+use Rattle.air_journal.proofs.Past.{next-past}
 use Rattle.air_journal.proofs.Seeing.{seen}
 use Rattle.air_journal.proofs.next.next_cells.Goals as goal
 use Rattle.air_journal.specs.Airs.{air_of}
@@ -23,4 +27,21 @@ loop-target-preserved c =
     record {
       size = length-set xs c.from-in-loop-target.result v ∙ c.loop-target.invariant.size;
       done = λ k h. ap (λ (l : List Cell). get_or l k Clear) s ∙ all k h;
+      rest = λ k h few. ap (λ (l : List Cell). get_or l k Clear) s ∙ get_or-set_other xs t k v Clear (omega arith) ∙ c.loop-target.invariant.rest k (omega arith) few;
     }
+
+pub loop-target-init : goal.loop-target-init
+loop-target-init c = record {
+  size = refl;
+  done = λ k h. absurd (omega arith);
+  rest = λ k h few. get_or-replicate CRAFTS k Clear Clear few;
+}
+
+pub returns : goal.returns
+returns c = record {
+  size = c.loop-target.invariant.size;
+  each = λ k few. elim (cases_lt k c.loop-target.target) [
+    | inl h ↦ c.loop-target.invariant.done k h
+    | inr h ↦ c.loop-target.invariant.rest k h few ∙ sym (next-past (air_of c.args.encounter.now) c.args.tables.now c.args.own k (omega arith))
+  ];
+}

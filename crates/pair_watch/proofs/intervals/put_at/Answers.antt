@@ -8,5 +8,5 @@ pub loop-low-preserved : goal.loop-low-preserved
 loop-low-preserved g c =
     let f = lines_of_low c.args.state.now.encounter c.args.state.now.journal c.args.reader.now.read c.args.at in
     let next : c.loop-low.low ≡ 0 + c.loop-low.low = omega arith in
-    subst (g.S.LineSink.took c.args.sink.now c.put_low.new.sink) (ap (λ n. flat_map f (range_with_len 0 c.loop-low.low) ++ f n) next ∙ sym (flat-more f 0 c.loop-low.low))
-    (g.met.S.LineSink.then _ _ _ _ _ c.loop-low.invariant c.put_low.ensures)
+    subst (g.S.LineSink.took c.args.sink.now c.put_changed.new.sink) (ap (λ n. flat_map f (range_with_len 0 c.loop-low.low) ++ f n) next ∙ sym (flat-more f 0 c.loop-low.low))
+    (g.met.S.LineSink.then _ _ _ _ _ c.loop-low.invariant c.put_changed.ensures)

@@ -1,5 +1,6 @@
 use Rattle.std.proofs.Common.{◌≡◌, ℕ, suc, zero, ◌+◌, List, [], ◌∷◌, drop, sym, refl, ap, ◌∙◌, arith}
 use Rattle.std.specs.List.{remove}
+use Rattle.air_journal.specs.Kept.{Queued}
 use Rattle.air_journal.specs.declared.kept.Waiting.{Waiting}
 use Rattle.air_journal.proofs.queue.Queue.remove.Goals as goal
 
@@ -19,14 +20,14 @@ drop-next zero (x ∷ xs) = refl
 drop-next (suc n) [] = refl
 drop-next (suc n) (x ∷ xs) = drop-next n xs
 
-pub returns-then-place-gt0 : goal.returns-then-place-gt0
-returns-then-place-gt0 c =
+pub returns-then-place-gt0-clause-copies : goal.returns-then-place-gt0-clause-copies
+returns-then-place-gt0-clause-copies c =
     ap (drop c.self.inside.taken) c.remove.ensures.items ∙ drop-removed c.self.inside.taken c.args.place (c.self.inside.taken + c.args.place) c.self.inside.copies.items refl
-    ∙ ap (λ (xs : List Waiting). remove xs c.args.place) c.self.view_is
+    ∙ ap (λ (q : Queued). remove q.copies c.args.place) c.self.view_is
 
-pub returns-else-self-len : goal.returns-else-self-len
-returns-else-self-len c =
+pub returns-else-self-len-clause-copies : goal.returns-else-self-len-clause-copies
+returns-else-self-len-clause-copies c =
     let e : c.self.inside.taken + 1 ≡ suc c.self.inside.taken = omega arith in
     let z : c.args.place ≡ 0 = omega arith in
     ap (λ n. drop n c.self.inside.copies.items) e ∙ drop-next c.self.inside.taken c.self.inside.copies.items
-    ∙ ap (remove (drop c.self.inside.taken c.self.inside.copies.items)) (sym z) ∙ ap (λ (xs : List Waiting). remove xs c.args.place) c.self.view_is
+    ∙ ap (remove (drop c.self.inside.taken c.self.inside.copies.items)) (sym z) ∙ ap (λ (q : Queued). remove q.copies c.args.place) c.self.view_is

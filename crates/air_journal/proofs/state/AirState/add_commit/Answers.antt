@@ -2,10 +2,11 @@ use Rattle.std.proofs.Common.{◌≡◌, ℕ, ◌+◌, ◌<◌, ◌≤◌, true,
 use Rattle.acas_base.specs.declared.TheConstants.{CRAFTS}
 use Rattle.air_journal.proofs.Adding.{CommitFits, commit-fits, committed-whole, may-commit}
 use Rattle.air_journal.proofs.Bounds.{active-is, below, below-all}
+use Rattle.air_journal.proofs.Past.{same-past}
 use Rattle.air_journal.proofs.Telling.{ages, count-is}
 use Rattle.air_journal.specs.Airs.{air_of}
 use Rattle.air_journal.specs.Calls.{Committed, IsFree}
-use Rattle.air_journal.specs.Kept.{made_at}
+use Rattle.air_journal.specs.Kept.{IsSamePast, made_at}
 use Rattle.air_journal.specs.States.{IsWhole, State}
 use Rattle.air_rules.specs.Air.{is_active}
 use Rattle.air_rules.specs.Journal.{commits}
@@ -40,7 +41,7 @@ fit c p a f = commit-fits c.self.invariant.whole c.args.own c.next_cells-cells.r
 pub overflow_cast-position : goal.overflow_cast-position
 overflow_cast-position c =
     let h = c.self.invariant.whole in
-    omega (arith, fits c.self.inside.encounter c.self.inside.journal.entries h.valid h.legal, most-few c.self.inside.encounter h.valid, c.len-position.ensures)
+    omega (arith, fits c.self.inside.encounter c.self.inside.journal.entries h.is_journal.valid h.is_journal.legal, most-few c.self.inside.encounter h.is_journal.valid, c.len-position.ensures)
 
 pub made-cycle-requires : goal.made-cycle-requires
 made-cycle-requires c = own (goal.at.made-cycle-requires c).After-len-position
@@ -89,11 +90,16 @@ commit-requires-clause-own c = own (goal.at.commit-requires-clause-own c).After-
 pub commit-requires-clause-commits : goal.commit-requires-clause-commits
 commit-requires-clause-commits c = few (goal.at.commit-requires-clause-commits c).After-len-position
 
+pub commit-requires-clause-past : goal.commit-requires-clause-past
+commit-requires-clause-past c =
+    subst (IsSamePast c.self.inside.tables.links c.args.own c.next_cells-cells.result) (sym c.count_of-count.ensures.value)
+    (same-past c.self.invariant.whole c.args.own c.next_cells-cells.result (own (goal.at.commit-requires-clause-past c).After-len-position) c.next_cells-cells.ensures)
+
 pub commit-requires-clause-size : goal.commit-requires-clause-size
 commit-requires-clause-size c = c.next_cells-cells.ensures.size
 
 whole : (c : After-commit) → is_active (air_of c.self.inside.encounter) c.args.own ≡ true → IsFree (air_of c.self.inside.encounter) c.self.inside.journal.entries c.args.own → IsWhole c.self.inside.encounter c.push_commit.new.self c.commit.new.self
-whole c a f = committed-whole c.self.invariant.whole c.args.own (c.made-cycle.result.commits + 1) c.next_cells-cells.result c.has_many.result a f (ap (λ m. m.commits + 1) c.made-cycle.ensures) c.next_cells-cells.ensures c.has_many.ensures
+whole c a f = committed-whole c.self.invariant.whole c.args.own (c.made-cycle.result.commits + 1) c.next_cells-cells.result c.has_many-many.result a f (ap (λ m. m.commits + 1) c.made-cycle.ensures) c.next_cells-cells.ensures c.has_many-many.ensures
     (record { entries = c.push_commit.ensures.entries; room = c.push_commit.ensures.room; places = c.push_commit.ensures.places }) c.commit.ensures
 
 pub invariant_of-self : goal.invariant_of-self
@@ -112,4 +118,4 @@ returns-clause-commits c =
     })
 
 pub returns-clause-legal : goal.returns-clause-legal
-returns-clause-legal c = let p = (goal.at.returns-clause-legal c).After-len-position in (whole c (active p) (free p)).legal
+returns-clause-legal c = let p = (goal.at.returns-clause-legal c).After-len-position in (whole c (active p) (free p)).is_journal.legal

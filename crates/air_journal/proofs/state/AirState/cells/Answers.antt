@@ -20,4 +20,4 @@ cells-requires c =
     let h = c.self.invariant.whole in
     let n : c.commits.result ≡ commits c.self.inside.journal.entries c.args.own = c.commits.ensures ∙ sym (ap (λ (s : State). commits s.journal c.args.own) c.self.view_is) in
     let few : c.args.cycle ≤ commits c.self.inside.journal.entries c.args.own = omega arith in
-    ap is_some (some-cells (air_of c.self.inside.encounter) c.self.inside.journal.entries h.legal c.args.own c.args.cycle (omega arith) few).1
+    ap is_some (some-cells (air_of c.self.inside.encounter) c.self.inside.journal.entries h.is_journal.legal c.args.own c.args.cycle (omega arith) few).1

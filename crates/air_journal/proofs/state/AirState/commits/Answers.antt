@@ -7,4 +7,4 @@ use Rattle.air_rules.specs.Journal.{commits}
 pub returns-then-own-count_of : goal.returns-then-own-count_of
 returns-then-own-count_of c =
     let h = c.self.invariant.whole in
-    sym (commits-past c.self.inside.encounter c.self.inside.journal.entries h.valid h.legal c.args.own (omega (arith, c.count_of.ensures.value))) ∙ ap (λ (s : State). commits s.journal c.args.own) c.self.view_is
+    sym (commits-past c.self.inside.encounter c.self.inside.journal.entries h.is_journal.valid h.is_journal.legal c.args.own (omega (arith, c.count_of.ensures.value))) ∙ ap (λ (s : State). commits s.journal c.args.own) c.self.view_is

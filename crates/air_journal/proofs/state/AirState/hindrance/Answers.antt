@@ -27,7 +27,7 @@ pub returns-then-made-cycles : goal.returns-then-made-cycles
 returns-then-made-cycles c =
     let h = c.self.invariant.whole in
     let n = count (goal.at.returns-then-made-cycles c).After-made-made (own (goal.at.returns-then-made-cycles c).After-self) in
-    let few = commits-within (air_of c.self.inside.encounter) c.self.inside.journal.entries h.legal c.args.own in
+    let few = commits-within (air_of c.self.inside.encounter) c.self.inside.journal.entries h.is_journal.legal c.args.own in
     let e : commits c.self.inside.journal.entries c.args.own ≡ c.self.inside.encounter.cycles = omega (arith, c.cycles.ensures.value) in
     subst (λ (s : State). commits s.journal c.args.own ≡ s.encounter.cycles) c.self.view_is e
 

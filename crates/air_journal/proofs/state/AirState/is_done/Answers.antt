@@ -19,7 +19,7 @@ none-tells (Some w) false P D Q e m f g = (λ t. absurd (let z : false ≡ true 
 pub returns : goal.returns
 returns c =
     let h = c.self.invariant.whole in
-    let few = few-crafts c.self.inside.encounter h.valid in
+    let few = few-crafts c.self.inside.encounter h.is_journal.valid in
     let own : c.args.own < length c.self.inside.encounter.crafts = subst (λ (s : State). c.args.own < length s.encounter.crafts) (sym c.self.view_is) c.requires in
     let hi : c.args.own < CRAFTS = omega arith in
     let n : c.made.result.commits ≡ commits c.self.inside.journal.entries c.args.own = ap (λ m. m.commits) c.made.ensures ∙ count-is h c.args.own hi in

@@ -4,7 +4,7 @@ use Rattle.acas_base.specs.declared.entry.Entry.{Entry}
 use Rattle.air_journal.proofs.Steps.{blank-kept}
 use Rattle.air_journal.proofs.state.AirState.new.Goals as goal
 use Rattle.air_journal.specs.Airs.{air_of}
-use Rattle.air_journal.specs.Kept.{IsKept}
+use Rattle.air_journal.specs.Kept.{HaveRoom, IsKept}
 use Rattle.air_journal.specs.Usual.{AreUsual}
 use Rattle.air_rules.specs.Length.{most_entries}
 use Rattle.air_rules.specs.Rules.{IsLegal, empty}
@@ -24,7 +24,8 @@ invariant_of-result c =
           inside = subst IsInside (sym same) c.requires;
           legal = subst (IsLegal (air_of e)) (sym c.in_ok-journal.ensures.entries) empty;
         };
-        kept = subst (λ (J : List Entry). IsKept (air_of e) J c.in_ok-tables.tables) (sym c.in_ok-journal.ensures.entries) (blank-kept (air_of e) c.in_ok-tables.tables c.in_ok-tables.ensures);
+        kept = subst (λ (J : List Entry). IsKept (air_of e) J c.in_ok-tables.tables) (sym c.in_ok-journal.ensures.entries) (blank-kept (air_of e) c.in_ok-tables.tables c.in_ok-tables.ensures.blank);
+        queues = subst (λ (p : Parts). HaveRoom (air_of p) c.in_ok-tables.tables) (sym same) c.in_ok-tables.ensures.room;
         room = omega (arith, c.pages_for.ensures.enough, c.in_ok-journal.ensures.room);
         places = omega (arith, c.in_ok-journal.ensures.places, c.from.ensures, c.cycles.ensures.value);
       };

@@ -74,7 +74,7 @@ pub returns-in-None-clause-sends : goal.returns-in-None-clause-sends
 returns-in-None-clause-sends c =
     let h = c.self.invariant.whole in
     let a = active-is c.self.inside.encounter c.args.own (subst (λ (s : State). IsActive s.encounter c.args.own) (sym c.self.view_is) c.requires) in
-    (subst (λ (s : State). OwesNothing (air_of s.encounter) s.journal c.args.own) c.self.view_is (owes-nothing h c.args.own (below-all c.self.inside.encounter h.valid c.args.own a) c.in-None.ensures), refl)
+    (subst (λ (s : State). OwesNothing (air_of s.encounter) s.journal c.args.own) c.self.view_is (owes-nothing h c.args.own (below-all c.self.inside.encounter h.is_journal.valid c.args.own a) c.in-None.ensures), refl)
 
 pub returns-in-Some-clause-sends : goal.returns-in-Some-clause-sends
 returns-in-Some-clause-sends c =
@@ -90,4 +90,4 @@ returns-in-Some-clause-sends c =
     })
 
 pub returns-in-Some-clause-legal : goal.returns-in-Some-clause-legal
-returns-in-Some-clause-legal c = (whole c (active (goal.at.returns-in-Some-clause-legal c).In-Some)).legal
+returns-in-Some-clause-legal c = (whole c (active (goal.at.returns-in-Some-clause-legal c).In-Some)).is_journal.legal

@@ -59,4 +59,4 @@ returns-clause-took c =
     })
 
 pub returns-clause-legal : goal.returns-clause-legal
-returns-clause-legal c = let p = (goal.at.returns-clause-legal c).After-len-position in (whole c p (active p) (waits p)).legal
+returns-clause-legal c = let p = (goal.at.returns-clause-legal c).After-len-position in (whole c p (active p) (waits p)).is_journal.legal

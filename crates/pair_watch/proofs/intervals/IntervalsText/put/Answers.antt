@@ -1,10 +1,10 @@
-use Rattle.std.proofs.Common.{◌≡◌, ◌++◌, ℕ, ◌+◌, ◌-◌, List, length, sym, ap, ap₂, ◌∙◌, subst, arith}
+use Rattle.std.proofs.Common.{◌≡◌, ◌++◌, ℕ, ◌+◌, ◌-◌, List, length, sym, ap, ap₂, ◌∙◌, subst, subst₂, arith}
 use Rattle.std.proofs.lemmas.List.{append-nil}
 use Rattle.acas_base.specs.declared.entry.Entry.{Entry}
 use Rattle.air_journal.specs.EntryRefs.{entry_of}
 use Rattle.air_rules.specs.Journal.{Begins}
 use Rattle.pair_watch.specs.Watching.{begun_lines, lines_at}
-use Rattle.pair_watch.proofs.Putting.{lines-more, lines-start, nothing-begins, other-no-lines, reads-on}
+use Rattle.pair_watch.proofs.Putting.{commits-within, ends-with, lines-more, lines-start, nothing-begins, other-no-lines, reads-on}
 use Rattle.pair_watch.proofs.intervals.IntervalsText.put.Goals as goal
 
 pub loop-entry-init : goal.loop-entry-init
@@ -18,6 +18,17 @@ loop-entry-init g c =
       begins = subst (λ (K : List Entry). Begins K c.new-reader.result.journal) (sym read) (nothing-begins c.new-reader.result.journal);
       put = subst (g.S.LineSink.took c.args.sink.now c.args.sink.now) (sym (ap (begun_lines e J) read ∙ lines-start e J)) (g.met.S.LineSink.nothing c.args.sink.now);
     }
+
+pub put_at-requires-clause-own : goal.put_at-requires-clause-own
+put_at-requires-clause-own g c =
+    let r = reads-on c.loop-entry.reader c.next.new.self c.in-Some.entry c.next.result c.in-Some.is c.next.ensures.entry c.next.ensures.journal c.loop-entry.invariant.begins c.next.ensures.read in
+    let b = subst₂ (λ (K J : List Entry). Begins K J) r.read (c.next.ensures.journal ∙ c.loop-entry.invariant.journal) r.begins in
+    commits-within c.args.self.now.0.now.encounter c.args.self.now.0.now.journal c.loop-entry.reader.read c.in-Some.entry c.in-Commit.own c.in-Commit.cycle c.in-Commit.cells c.in-Commit.is c.legal_law.ensures.valid c.legal_law.ensures.legal b
+
+pub put_at-requires-clause-commit : goal.put_at-requires-clause-commit
+put_at-requires-clause-commit g c =
+    let r = reads-on c.loop-entry.reader c.next.new.self c.in-Some.entry c.next.result c.in-Some.is c.next.ensures.entry c.next.ensures.journal c.loop-entry.invariant.begins c.next.ensures.read in
+    ends-with c.loop-entry.reader.read c.next.new.self.read c.in-Some.entry c.in-Commit.own c.in-Commit.cycle c.in-Commit.cells c.in-Commit.is r.read
 
 pub loop-entry-smaller-in-Commit : goal.loop-entry-smaller-in-Commit
 loop-entry-smaller-in-Commit g c =
