@@ -6,7 +6,6 @@ pub mod Pairing
 pub mod Ready
 pub mod Reading
 pub mod Explaining
-pub mod Testing
 pub mod Sighted
 pub mod Columned
 pub mod Hearing

@@ -6,13 +6,13 @@ use Rattle.acas_base.specs.Senses.{sense_of}
 use Rattle.acas_base.specs.declared.entry.Entry.{Entry}
 use Rattle.reasons.specs.Explained.{OfEachReason}
 use Rattle.reasons.specs.Reasons.{reason_of}
-use Rattle.reasons.specs.Seconds.{is_within}
 use Rattle.reasons.specs.declared.reason.Reason.{Reason}
 use Rattle.reasons.specs.declared.rules.Rule.TheVariants.{Starts, Reverses, Weakens}
 use Rattle.reasons.specs.declared.shown.Continued.{Continued}
 use Rattle.reasons.specs.declared.shown.Projected.{Projected}
 use Rattle.reasons.specs.declared.shown.TestSeconds.{TestSeconds}
 use Rattle.reasons.specs.declared.shown.Tested.{Tested}
+use Rattle.test_seconds.specs.Seconds.{is_within}
 
 -- Both tests have seconds, and these are no more than their tau.
 abbrev pub are_within_tau : TestSeconds → Bool

@@ -1,6 +1,5 @@
 pub mod Fields
 pub mod Rules
-pub mod Seconds
 pub mod Shown
 pub mod Columns
 pub mod Bounds

@@ -9,7 +9,6 @@ mod crew;
 mod laws;
 mod reason;
 mod rules;
-mod seconds;
 mod seen;
 mod shown;
 mod tenths;
@@ -20,5 +19,4 @@ pub use laws::{
     columns_law, heard_law, message_law, on_board_law, reason_law, rule_law, seen_law, unique_law,
 };
 pub use rules::{Rule, rule_of};
-pub use seconds::test_law;
 pub use text::{Reasons, write};

@@ -1,5 +1,5 @@
 -- No choice is a limit that is stricter than the weakest one.
-use Rattle.std.proofs.Common.{◌≡◌, refl, Bool, true, false, cond, ◌&&◌, Option, Some, None, arith, rules, subst}
+use Rattle.std.proofs.Common.{◌≡◌, refl, Bool, true, false, cond, ◌&&◌, Some, None, arith, rules, subst}
 use Rattle.std.specs.Prelude.{ℤ, neg_ℤ, int_le, find, unwrap_or, ◌≤ℤ◌}
 use Rattle.std.specs.Bool.{Decides}
 use Rattle.std.proofs.lemmas.Int.{ints}

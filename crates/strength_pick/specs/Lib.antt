@@ -1,3 +1,4 @@
+pub mod Alim
 pub mod Extremes
 pub mod Limits
 pub use Rattle.acas_base.specs.Strengths

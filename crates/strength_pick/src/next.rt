@@ -1,7 +1,8 @@
 // The next strength of an advisory that keeps its sense.
-ghost use Rattle.std.specs.Prelude.{◌≡◌, int_le};
+ghost use Rattle.std.specs.Prelude.{◌≡◌};
 ghost use Rattle.acas_base.specs.Strengths.{is_at_most};
-ghost use Rattle.acas_base.specs.Choice.{present_separation, weakens, reaches_both, least_of_both, strength_after};
+ghost use Rattle.acas_base.specs.Choice.{is_fresh_after, weakens, reaches_both, least_of_both, strength_after};
+ghost use Rattle.strength_pick.specs.Alim.{has_alim};
 
 use crate::weakest::least;
 use acas_base::{Intent, Sense, Strength, View, allowed, strongest};
@@ -9,9 +10,9 @@ use acas_base::{Intent, Sense, Strength, View, allowed, strongest};
 // The age in cycles from which an advisory may weaken to `Level`.
 const WEAKENS_FROM: u16 = 5;
 
-// The present separation of this sense is at least ALIM.
-fn has_alim(view: &View, sense: Sense) -> bool
-    ensures { result ≡ int_le view.now.alim (present_separation view.now sense) }
+/// Whether a sense has ALIM already: the present separation in it is at least as much.
+pub fn has_alim(view: &View, sense: Sense) -> bool
+    ensures { result ≡ has_alim view.now sense }
 {
     let alim = view.alim;
     match sense {
@@ -27,6 +28,13 @@ fn is_at_least(strength: Strength, other: Strength) -> bool
     ensures { result ≡ is_at_most other strength }
 {
     other.place() <= strength.place()
+}
+
+/// Whether the choice after an advisory of this strength is fresh: it was weaker than `Positive`.
+pub fn is_fresh_after(strength: Strength) -> bool
+    ensures { result ≡ is_fresh_after strength }
+{
+    !is_at_least(strength, Strength::Positive)
 }
 
 /// Whether the advisory weakens to `Level`: it is at least five cycles old and at least `Level`, and its sense
@@ -86,7 +94,7 @@ pub fn next_strength(prev: &Intent, view: &View) -> Strength
     ensures { result ≡ strength_after prev.now view.now }
 {
     let sense = prev.sense;
-    let fresh = !is_at_least(prev.strength, Strength::Positive);
+    let fresh = is_fresh_after(prev.strength);
     let need = least(view, sense, fresh);
     if weakens(prev, view) {
         Strength::Level
