@@ -3,8 +3,8 @@ pub mod Moderate
 pub mod Separated
 pub mod Looking
 pub mod Pairing
-pub mod Ready
 pub mod Reading
+pub mod Looked
 pub mod Explaining
 pub mod Sighted
 pub mod Columned

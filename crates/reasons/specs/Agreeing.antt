@@ -18,8 +18,8 @@ use Rattle.test_seconds.specs.Seconds.{is_within}
 abbrev pub are_within_tau : TestSeconds → Bool
 are_within_tau needs = is_within needs.range needs.tau && is_within needs.altitude needs.tau
 
--- There is traffic exactly where the seconds of a traffic advisory are within tau, and a threat exactly where own aircraft
--- resolves and those of a resolution advisory are.
+-- There is traffic exactly where the seconds of a traffic advisory are within tau, and a threat exactly where own
+-- aircraft resolves and those of a resolution advisory are.
 pub record GoesBySeconds (tested : Tested) : Type 0 where
   pub traffic : tested.traffic ≡ are_within_tau tested.ta
   pub threat : tested.threat ≡ option_map_or are_within_tau tested.ra false

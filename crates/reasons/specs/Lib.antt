@@ -5,7 +5,6 @@ pub mod Columns
 pub mod Bounds
 pub mod Seen
 pub mod Reasons
-pub mod Crews
 pub mod Explained
 pub mod Agreeing
 pub mod Aboard

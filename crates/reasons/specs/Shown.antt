@@ -67,9 +67,9 @@ projected_of view = record {
   chosen = chosen_sense view;
 }
 
--- What an advisory may go on with: whether the choice of its strength is fresh, the least strength of that choice and what it
--- gives; what the strongest allowed strengths give with the later response, in its sense and, freshly chosen, in the other one;
--- and whether its sense has ALIM already.
+-- What an advisory may go on with: whether the choice of its strength is fresh, the least strength of that choice and
+-- what it gives; what the strongest allowed strengths give with the later response, in its sense and, freshly chosen,
+-- in the other one; and whether its sense has ALIM already.
 unfoldable pub continued_of : View → Intent → Continued
 continued_of view before =
     let fresh = is_fresh_after before.strength in

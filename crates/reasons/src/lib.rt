@@ -1,11 +1,10 @@
-//! The reasons of the cells of a state of the air: one line for each commit and each other aircraft, with what was measured
-//! and tracked, what the tests needed, what the senses would have given, which message was in force, and by which rule the
-//! cell followed.
+//! The reasons of the cells of a state of the air: one line for each commit and each other aircraft, with what was
+//! measured and tracked, what the tests needed, what the senses would have given, which message was in force, and by
+//! which rule the cell followed.
 #![tactic(auto)]
 
 mod columns;
 mod commits;
-mod crew;
 mod laws;
 mod reason;
 mod rules;

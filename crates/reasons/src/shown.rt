@@ -51,7 +51,8 @@ pub struct Tested {
     pub threat: bool,
 }
 
-/// The strongest allowed strength of a fresh choice in a sense, and its separation with the first response, in tenths of a foot.
+/// The strongest allowed strength of a fresh choice in a sense, and its separation with the first response, in tenths
+/// of a foot.
 #[derive(Clone, Copy, Debug, PartialEq, Eq)]
 pub struct Best {
     pub strength: Strength,
@@ -73,7 +74,8 @@ pub struct Projected {
     pub chosen: Sense,
 }
 
-/// What an advisory may go on with, where the pair is tested and own aircraft resolves. Separations are in tenths of a foot.
+/// What an advisory may go on with, where the pair is tested and own aircraft resolves. Separations are in tenths of a
+/// foot.
 #[derive(Clone, Copy, Debug, PartialEq, Eq)]
 pub struct Continued {
     /// A choice that keeps the sense is fresh.
