@@ -1,6 +1,6 @@
 -- What the columns of a line say of one another.
-use Rattle.std.proofs.Common.{◌≡◌, ◌∙◌, ℕ, ◌*◌, ◌/◌, ◌≤◌, Bool, true, false, List, Option, Some, None, arith, refl, sym, ap, subst}
-use Rattle.std.specs.Prelude.{◌&&◌, ℤ, pos, ◌*ℤ◌, ◌+ℤ◌, ◌≤ℤ◌, ◌<ℤ◌, IfSome, if◌then◌else◌, int_le, is_some, nat_le, not, option_map, unsigned_abs}
+use Rattle.std.proofs.Common.{◌≡◌, ◌∙◌, ℕ, ◌*◌, ◌/◌, ◌≤◌, Bool, true, false, List, Option, Some, None, arith, refl, sym, ap, ap₂, subst}
+use Rattle.std.specs.Prelude.{◌&&◌, ℤ, pos, ◌*ℤ◌, ◌+ℤ◌, ◌-ℤ◌, ◌≤ℤ◌, ◌<ℤ◌, IfSome, if◌then◌else◌, int_le, is_some, nat_le, not, option_map, unsigned_abs}
 use Rattle.std.specs.Option.{option_map_or}
 use Rattle.std.proofs.lemmas.Bool.Decides.{nat_tests}
 use Rattle.std.proofs.lemmas.Int.{ints}
@@ -28,25 +28,30 @@ use Rattle.craft_view.specs.declared.motion.Motion.{Motion}
 use Rattle.craft_view.specs.declared.own.OwnAircraft.{OwnAircraft}
 use Rattle.reasons.proofs.Explaining.{both, commit-explained, not-so}
 use Rattle.reasons.proofs.Sighted.{IsSighted, alim-whole, sighted, threat-projects, view_by_motion}
-use Rattle.reasons.proofs.Testing.{hit-goes}
 use Rattle.reasons.specs.Agreeing.{Agrees, AreAgreeing, GoesBySeconds, are_within_tau, resolves}
 use Rattle.reasons.specs.Explained.{Explains, GoesOn, IsExplained, untested, starts, starts_as_told, traffic, quiet, ends_below_level, ends_without_threat, obeys, reverses, strengthens, keeps, weakens, capped}
 use Rattle.reasons.specs.Fields.{tenths_of}
 use Rattle.reasons.specs.Reasons.{reason_of}
 use Rattle.reasons.specs.Seen.{seen_of}
-use Rattle.reasons.specs.Shown.{continued_after, continued_of, is_projected, projected_of, shown_of, test_seconds, tested_of}
+use Rattle.reasons.specs.Shown.{continued_after, continued_of, is_projected, projected_of, seconds_of, shown_of, tested_of}
 use Rattle.reasons.specs.declared.rules.Rule.{Rule}
 use Rattle.reasons.specs.declared.rules.Rule.TheVariants.{Starts, Reverses, Weakens}
 use Rattle.reasons.specs.declared.seen.Seen.{Seen}
+use Rattle.test_seconds.proofs.Testing.{altitude-goes, range-goes}
 
 -- ---- the tests
 
-traffic-goes : (own : OwnAircraft) (m : Motion) (o : Option Row) → (option_map_or (resolving_view own m) o (plain_view true (is_hit m own.traffic) false)).traffic ≡ are_within_tau (test_seconds m own.traffic)
+-- Both tests of a pair.
+hit-goes : (m : Motion) (row : Row) → is_hit m row ≡ are_within_tau (seconds_of m row)
+unfolding seconds_of
+hit-goes m row = ap₂ ◌&&◌ (range-goes m.range.est m.range.rate row) (altitude-goes (m.target.est -ℤ m.own.est) (m.target.rate -ℤ m.own.rate) row)
+
+traffic-goes : (own : OwnAircraft) (m : Motion) (o : Option Row) → (option_map_or (resolving_view own m) o (plain_view true (is_hit m own.traffic) false)).traffic ≡ are_within_tau (seconds_of m own.traffic)
 traffic-goes own m None = hit-goes m own.traffic
 traffic-goes own m (Some row) = hit-goes m own.traffic
 
 threat-goes : (own : OwnAircraft) (m : Motion) (o : Option Row)
-    → (option_map_or (resolving_view own m) o (plain_view true (is_hit m own.traffic) false)).threat ≡ option_map_or are_within_tau (option_map (test_seconds m) o) false
+    → (option_map_or (resolving_view own m) o (plain_view true (is_hit m own.traffic) false)).threat ≡ option_map_or are_within_tau (option_map (seconds_of m) o) false
 threat-goes own m None = refl
 threat-goes own m (Some row) = hit-goes m row
 
@@ -68,7 +73,7 @@ some-if : {X : Type 0} (b : Bool) (x : X) → is_some (if b then Some x else Non
 some-if true x = refl
 some-if false x = refl
 
-projected-by-row : (own : OwnAircraft) (m : Motion) (o : Option Row) → is_projected (option_map_or (resolving_view own m) o (plain_view true (is_hit m own.traffic) false)) ≡ is_some (option_map (test_seconds m) o)
+projected-by-row : (own : OwnAircraft) (m : Motion) (o : Option Row) → is_projected (option_map_or (resolving_view own m) o (plain_view true (is_hit m own.traffic) false)) ≡ is_some (option_map (seconds_of m) o)
 projected-by-row own m None = refl
 projected-by-row own m (Some row) = refl
 

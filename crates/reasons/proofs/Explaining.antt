@@ -79,8 +79,8 @@ starting view complement rank before none tested = go view.threat refl
 
 -- ---- there was one
 
--- Where the next strength is weaker and doesn't weaken to Level, the strength before isn't allowed any more: else the choice would
--- reach it.
+-- Where the next strength is weaker and doesn't weaken to Level, the strength before isn't allowed any more: else the
+-- choice would reach it.
 not-allowed : (it : Intent) (view : View) → weakens_to_level it view ≡ false → place_of (strength_after it view) < place_of it.strength → is_allowed view it.sense it.strength (is_fresh_after it.strength) ≡ false
 not-allowed it view stays less = go (is_allowed view it.sense it.strength (is_fresh_after it.strength)) refl
   where

@@ -3,10 +3,9 @@ pub mod Moderate
 pub mod Separated
 pub mod Looking
 pub mod Pairing
-pub mod Ready
 pub mod Reading
+pub mod Looked
 pub mod Explaining
-pub mod Testing
 pub mod Sighted
 pub mod Columned
 pub mod Hearing

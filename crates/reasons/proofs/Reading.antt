@@ -6,10 +6,10 @@ use Rattle.acas_base.specs.Encounter.{Parts}
 use Rattle.acas_base.specs.declared.entry.Entry.{Entry}
 use Rattle.air_journal.specs.EntryRefs.{entry_of}
 use Rattle.air_journal.specs.declared.entry_ref.EntryRef.{EntryRef}
-use Rattle.air_rules.specs.Journal.{Begins, more, whole}
+use Rattle.air_rules.specs.Journal.{Begins, commits, more, whole}
 use Rattle.craft_view.specs.Kept.{Kept}
+use Rattle.craft_view.specs.Looking.{AreReady}
 use Rattle.reasons.specs.Columns.{reason_line}
-use Rattle.reasons.specs.Crews.{AreReady}
 use Rattle.reasons.specs.Reasons.{entry_reasons, reasons_of}
 
 pub begins-empty : (journal : List Entry) → Begins [] journal
@@ -29,5 +29,6 @@ lines-on e f read new entry same is =
     ∙ sym (map-append reason_line (reasons_of e read) (entry_reasons e read entry))
     ∙ ap (λ (L : List Entry). map reason_line (reasons_of e L)) (sym is)
 
-pub ready-on : (e f : Parts) (read new : List Entry) (entry : Entry) (crafts : List (Option Kept)) → f ≡ e → new ≡ entry ∷ read → AreReady f (entry ∷ read) crafts → AreReady e new crafts
-ready-on e f read new entry crafts same is r = subst (λ (L : List Entry). AreReady e L crafts) (sym is) (subst (λ (x : Parts). AreReady x (entry ∷ read) crafts) same r)
+pub ready-on : (e f : Parts) (read new : List Entry) (entry : Entry) (crafts : List (Option Kept)) → f ≡ e → new ≡ entry ∷ read
+    → AreReady f (commits (entry ∷ read)) crafts → AreReady e (commits new) crafts
+ready-on e f read new entry crafts same is r = subst (λ (L : List Entry). AreReady e (commits L) crafts) (sym is) (subst (λ (x : Parts). AreReady x (commits (entry ∷ read)) crafts) same r)

@@ -26,8 +26,8 @@ abbrev pub with_message : Air → Option Sent → ℕ → List Heard → List He
 with_message air None copy heard = heard
 with_message air (Some sent) copy heard = told sent.sender (complement_read (read_copy air (Some sent) copy)) ∷ heard
 
--- What an aircraft has heard in a journal, the newest first: its own commits and its own good takes, and of these who sent the
--- message and what it reads as. What others entered isn't in it, nor any position.
+-- What an aircraft has heard in a journal, the newest first: its own commits and its own good takes, and of these who
+-- sent the message and what it reads as. What others entered isn't in it, nor any position.
 abbrev pub heard_in : Air → List Entry → ℕ → List Heard
 heard_in air [] craft = []
 heard_in air (Commit own cycle cells ∷ earlier) craft = if own == craft then committed ∷ heard_in air earlier craft else heard_in air earlier craft
@@ -41,7 +41,8 @@ heard_in air (Take own send copy good ∷ earlier) craft =
 abbrev pub without_positions : Told → Told
 without_positions it = record { complement = it.complement; sent_at = 0; taken_at = 0; commits_since = it.commits_since }
 
--- A reason without what only names: its position, both addresses, and the positions of the send and of the take of a message.
+-- A reason without what only names: its position, both addresses, and the positions of the send and of the take of a
+-- message.
 abbrev pub without_names : Reason → Reason
 without_names reason = record {
   position = 0;
@@ -58,8 +59,8 @@ without_names reason = record {
 
 -- ---- what follows from what
 
--- What was measured, tracked, tested and projected follows from the sight up to the cycle of the reason, whatever else the
--- encounters and the journals have.
+-- What was measured, tracked, tested and projected follows from the sight up to the cycle of the reason, whatever else
+-- the encounters and the journals have.
 abbrev pub GoesBySight : Type 0
 GoesBySight = (e f : Parts) (own cycle : ℕ) → SeesAlike e f own cycle → (journal_one journal_two : List Entry) (cells_one cells_two : Cells) (other : ℕ) →
     (reason_of e journal_one own cycle cells_one other).seen ≡ (reason_of f journal_two own cycle cells_two other).seen
@@ -80,8 +81,8 @@ GoesByBoth = (e f : Parts) (own cycle : ℕ) (earlier_one earlier_two : List Ent
 
 -- ---- what the positions name
 
--- The message that a reason names was sent by the other aircraft, and own aircraft took a copy of it unspoilt, at this place; it
--- reads as this complement, and own aircraft made so many commits since, too few for it to lapse.
+-- The message that a reason names was sent by the other aircraft, and own aircraft took a copy of it unspoilt, at this
+-- place; it reads as this complement, and own aircraft made so many commits since, too few for it to lapse.
 pub record IsNamed (air : Air) (journal : List Entry) (own other : ℕ) (it : Told) : Type 0 where
   pub before : List Entry
   pub copy : ℕ

@@ -6,20 +6,20 @@ use Rattle.acas_base.specs.Senses.{sense_of}
 use Rattle.acas_base.specs.declared.entry.Entry.{Entry}
 use Rattle.reasons.specs.Explained.{OfEachReason}
 use Rattle.reasons.specs.Reasons.{reason_of}
-use Rattle.reasons.specs.Seconds.{is_within}
 use Rattle.reasons.specs.declared.reason.Reason.{Reason}
 use Rattle.reasons.specs.declared.rules.Rule.TheVariants.{Starts, Reverses, Weakens}
 use Rattle.reasons.specs.declared.shown.Continued.{Continued}
 use Rattle.reasons.specs.declared.shown.Projected.{Projected}
 use Rattle.reasons.specs.declared.shown.TestSeconds.{TestSeconds}
 use Rattle.reasons.specs.declared.shown.Tested.{Tested}
+use Rattle.test_seconds.specs.Seconds.{is_within}
 
 -- Both tests have seconds, and these are no more than their tau.
 abbrev pub are_within_tau : TestSeconds → Bool
 are_within_tau needs = is_within needs.range needs.tau && is_within needs.altitude needs.tau
 
--- There is traffic exactly where the seconds of a traffic advisory are within tau, and a threat exactly where own aircraft
--- resolves and those of a resolution advisory are.
+-- There is traffic exactly where the seconds of a traffic advisory are within tau, and a threat exactly where own
+-- aircraft resolves and those of a resolution advisory are.
 pub record GoesBySeconds (tested : Tested) : Type 0 where
   pub traffic : tested.traffic ≡ are_within_tau tested.ta
   pub threat : tested.threat ≡ option_map_or are_within_tau tested.ra false

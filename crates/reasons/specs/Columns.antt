@@ -166,7 +166,8 @@ continued_columns =
     ∷ column (codes "has_alim") (λ continued. mark continued.has_alim)
     ∷ []
 
--- The complement in force, where there is one, the positions of the send and of the take of its message, and the commits since.
+-- The complement in force, where there is one, the positions of the send and of the take of its message, and the
+-- commits since.
 abbrev pub told_columns : List (Column Told)
 told_columns =
     column (codes "complement") (λ told. complement_text told.complement)

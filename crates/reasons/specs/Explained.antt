@@ -57,8 +57,8 @@ abbrev pub ExplainsOnce : Type 0
 ExplainsOnce = (view : View) (complement : Vrc) (rank : Rank) (before : Cell) (one two : Rule) (cell_one cell_two : Cell) →
     Explains view complement rank before one cell_one → Explains view complement rank before two cell_two → (one ≡ two) × (cell_one ≡ cell_two)
 
--- The cell of a reason is the one that its rule gives after the cell before, by its rank, the view in the cycle and the complement
--- in force.
+-- The cell of a reason is the one that its rule gives after the cell before, by its rank, the view in the cycle and the
+-- complement in force.
 abbrev pub IsExplained : Parts → List Entry → ℕ → ℕ → Cells → ℕ → Type 0
 IsExplained e journal own cycle cells other =
     let reason = reason_of e journal own cycle cells other in

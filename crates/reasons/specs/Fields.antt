@@ -28,8 +28,8 @@ mark holds = if holds then codes "1" else codes "0"
 abbrev pub with_point : ℤ → List ℕ
 with_point tenths = (if int_lt tenths (pos 0) then codes "-" else []) ++ decimal (unsigned_abs tenths / 10) ++ codes "." ++ decimal (unsigned_abs tenths % 10)
 
--- The tenths in a number of 1/1024, rounded down: tenths of a foot of a length in 1/1024 ft, tenths of ft/s of a rate in
--- 1/1024 ft/s.
+-- The tenths in a number of 1/1024, rounded down: tenths of a foot of a length in 1/1024 ft, tenths of ft/s of a rate
+-- in 1/1024 ft/s.
 abbrev pub tenths_of : ℤ → ℤ
 tenths_of n = int_div_euclid (pos 10 *ℤ n) (pos 1024)
 

@@ -1,12 +1,10 @@
 pub mod Fields
 pub mod Rules
-pub mod Seconds
 pub mod Shown
 pub mod Columns
 pub mod Bounds
 pub mod Seen
 pub mod Reasons
-pub mod Crews
 pub mod Explained
 pub mod Agreeing
 pub mod Aboard

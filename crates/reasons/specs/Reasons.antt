@@ -37,7 +37,8 @@ told_by NotAbove made taken at = option_and_then (λ (t : Taken). option_map (to
 unfoldable pub told_of : Air → List Entry → ℕ → ℕ → Option Told
 told_of air journal own other = told_by (complement_from air journal own other) (commits journal own) (last_take air journal own other) (taken_at journal own other)
 
--- Why the cell of a commit against another aircraft is what it is, after the journal before it and by what own aircraft sees.
+-- Why the cell of a commit against another aircraft is what it is, after the journal before it and by what own aircraft
+-- sees.
 abbrev pub reason_by : Parts → List Entry → ℕ → ℕ → Cells → ℕ → Seen → Reason
 reason_by e journal own cycle cells other seen =
     let air = air_of e in

@@ -1,5 +1,5 @@
--- By which rule the next cell follows (FAA, Introduction to TCAS II v7.1; ICAO Annex 10 vol. IV, 4.3; with the details of this
--- project's profile).
+-- By which rule the next cell follows (FAA, Introduction to TCAS II v7.1; ICAO Annex 10 vol. IV, 4.3; with the details
+-- of this project's profile).
 use Rattle.std.specs.Prelude.{not, if◌then◌else◌, ◌==◌, nat_lt}
 use Rattle.acas_base.specs.Choice.{strength_after, weakens}
 use Rattle.acas_base.specs.Next.{changes_sense, ends}

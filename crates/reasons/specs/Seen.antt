@@ -18,8 +18,8 @@ own_side_of s = record {
   aircraft = own_of s;
 }
 
--- The rank against the aircraft at an index, what was measured of it in the newest cycle, own side, what the tracks say where
--- the pair is tested, and the view.
+-- The rank against the aircraft at an index, what was measured of it in the newest cycle, own side, what the tracks say
+-- where the pair is tested, and the view.
 unfoldable pub seen_of : Sight → ℕ → Seen
 seen_of s other = record {
   rank = option_map_or (λ (o : Other). o.rank) (s.others other) Free;

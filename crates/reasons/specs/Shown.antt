@@ -1,6 +1,6 @@
 -- What a line tells of what own aircraft saw. Lengths and rates of tracks and separations are in tenths, rounded down.
-use Rattle.std.specs.Prelude.{Bool, true, false, ◌&&◌, if◌then◌else◌, ◌/◌, ◌-ℤ◌, int_le, unsigned_abs, Option, Some, None, option_map}
-use Rattle.acas_base.specs.Choice.{chosen_sense, is_fresh_after, least_strength, present_separation, separation_of, strongest}
+use Rattle.std.specs.Prelude.{Bool, true, false, ◌&&◌, if◌then◌else◌, ◌/◌, ◌-ℤ◌, unsigned_abs, Option, Some, None, option_map}
+use Rattle.acas_base.specs.Choice.{chosen_sense, is_fresh_after, least_strength, separation_of, strongest}
 use Rattle.acas_base.specs.Senses.{other_sense}
 use Rattle.acas_base.specs.declared.advisory.Cell.{Cell}
 use Rattle.acas_base.specs.declared.advisory.Cell.TheVariants.{Clear, Traffic, Ra}
@@ -12,7 +12,6 @@ use Rattle.acas_base.specs.declared.view.View.{View}
 use Rattle.craft_view.specs.declared.motion.Motion.{Motion}
 use Rattle.craft_view.specs.declared.own.OwnAircraft.{OwnAircraft}
 use Rattle.reasons.specs.Fields.{tenths_a_minute_of, tenths_of}
-use Rattle.reasons.specs.Seconds.{altitude_seconds, range_seconds}
 use Rattle.reasons.specs.declared.seen.Seen.{Seen}
 use Rattle.reasons.specs.declared.shown.Best.{Best}
 use Rattle.reasons.specs.declared.shown.Continued.{Continued}
@@ -20,12 +19,14 @@ use Rattle.reasons.specs.declared.shown.Projected.{Projected}
 use Rattle.reasons.specs.declared.shown.Shown.{Shown}
 use Rattle.reasons.specs.declared.shown.TestSeconds.{TestSeconds}
 use Rattle.reasons.specs.declared.shown.Tested.{Tested}
+use Rattle.strength_pick.specs.Alim.{has_alim}
+use Rattle.test_seconds.specs.Seconds.{altitude_seconds, range_seconds}
 
 -- ---- where the pair is tested
 
 -- What both tests need with the thresholds of a row.
-unfoldable pub test_seconds : Motion → Row → TestSeconds
-test_seconds m row = record {
+unfoldable pub seconds_of : Motion → Row → TestSeconds
+seconds_of m row = record {
   range = range_seconds m.range.est m.range.rate row;
   altitude = altitude_seconds (m.target.est -ℤ m.own.est) (m.target.rate -ℤ m.own.rate) row;
   tau = unsigned_abs row.tau;
@@ -39,8 +40,8 @@ tested_of own view m = record {
   height = tenths_of (m.target.est -ℤ m.own.est);
   height_rate = tenths_a_minute_of (m.target.rate -ℤ m.own.rate);
   own_rate = tenths_a_minute_of m.own.rate;
-  ta = test_seconds m own.traffic;
-  ra = option_map (test_seconds m) own.resolution;
+  ta = seconds_of m own.traffic;
+  ra = option_map (seconds_of m) own.resolution;
   traffic = view.traffic;
   threat = view.threat;
 }
@@ -66,13 +67,9 @@ projected_of view = record {
   chosen = chosen_sense view;
 }
 
--- This sense has ALIM already.
-abbrev pub has_alim : View → Sense → Bool
-has_alim view sense = int_le view.alim (present_separation view sense)
-
--- What an advisory may go on with: whether the choice of its strength is fresh, the least strength of that choice and what it
--- gives; what the strongest allowed strengths give with the later response, in its sense and, freshly chosen, in the other one;
--- and whether its sense has ALIM already.
+-- What an advisory may go on with: whether the choice of its strength is fresh, the least strength of that choice and
+-- what it gives; what the strongest allowed strengths give with the later response, in its sense and, freshly chosen,
+-- in the other one; and whether its sense has ALIM already.
 unfoldable pub continued_of : View → Intent → Continued
 continued_of view before =
     let fresh = is_fresh_after before.strength in

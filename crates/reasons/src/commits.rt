@@ -1,5 +1,5 @@
 // The lines of a journal's commits.
-ghost use Rattle.std.specs.Prelude.{◌≡◌, ◌+◌, ◌<◌, ◌≤◌, ◌∷◌, List, length, map};
+ghost use Rattle.std.specs.Prelude.{◌≡◌, ◌+◌, ◌<◌, ◌≤◌, ◌∷◌, List, None, length, map, slice_index_or};
 ghost use Rattle.acas_base.specs.declared.TheConstants.{CRAFTS};
 ghost use Rattle.acas_base.specs.declared.entry.Entry.{Entry};
 ghost use Rattle.air_journal.specs.Airs.{air_of};
@@ -8,25 +8,25 @@ ghost use Rattle.air_journal.specs.Ranges.{IsEntry};
 ghost use Rattle.air_rules.specs.Journal.{commits};
 ghost use Rattle.air_rules.specs.Rules.{IsLegal};
 ghost use Rattle.craft_view.specs.Kept.{Belongs, IsActive};
+ghost use Rattle.craft_view.specs.Looking.{AreReady, IsReady};
 ghost use Rattle.craft_view.specs.Sight.{sight_of};
+ghost use Rattle.craft_view.specs.Views.{picture_of};
 ghost use Rattle.reasons.specs.Bounds.{IsSeen};
-ghost use Rattle.reasons.specs.Crews.{AreReady, HasLooked, IsReady};
 ghost use Rattle.reasons.specs.Columns.{reason_line};
 ghost use Rattle.reasons.specs.Reasons.{commit_reasons, entry_reasons, reason_of, reasons_of};
 ghost use Rattle.reasons.specs.Seen.{seen_of};
 
 use crate::columns::set_line;
-use crate::crew::crew_of;
 use crate::reason::Reason;
 use crate::rules::rule_of;
 use crate::seen::{Seen, own_side_of, seen_of};
 use crate::shown::{continued_after, shown_of};
 use crate::told::told_of;
-use acas_base::{CRAFTS, Cells, Encounter};
+use acas_base::{Cells, Encounter, Picture};
 use acas_lines::LineSink;
 use acas_text::Line;
 use air_journal::{AirState, EntryRef};
-use craft_view::Craft;
+use craft_view::{Craft, Surveillance};
 use flight::Places;
 use journal_reader::Reader;
 
@@ -68,52 +68,82 @@ fn reason_of(reader: &Reader<'_>, commit: &Next<'_>, other: u8, seen: &Seen) -> 
     }
 }
 
-// Puts the lines of a commit, whose aircraft looks in its cycle.
-fn put_commit<S: LineSink>(reader: &Reader<'_>, commit: &Next<'_>, craft: &mut Craft, sink: &mut S)
+// Puts the lines of a commit, whose aircraft has looked in its cycle.
+fn put_commit<S: LineSink>(
+    reader: &Reader<'_>,
+    commit: &Next<'_>,
+    places: &Places<'_>,
+    craft: &Craft,
+    picture: &Picture,
+    sink: &mut S,
+)
     requires same { commit.now.encounter.now ≡ reader.now.encounter }
-    requires belongs { Belongs reader.now.encounter craft.old }
-    requires own { craft.old.own ≡ commit.now.own }
-    requires next { commit.now.cycle ≡ craft.old.cycle + 1 }
-    requires run { commit.now.cycle ≤ reader.now.encounter.cycles }
-    ensures looked { HasLooked reader.now.encounter commit.now.own commit.now.cycle craft.new }
+    requires places { places.now ≡ record { encounter = reader.now.encounter; cycle = commit.now.cycle } }
+    requires belongs { Belongs reader.now.encounter craft.now }
+    requires own { craft.now.own ≡ commit.now.own }
+    requires present { craft.now.cycle ≡ commit.now.cycle }
+    requires begun { 1 ≤ commit.now.cycle }
+    requires picture { picture.now ≡ picture_of reader.now.encounter commit.now.own commit.now.cycle }
     ensures lines { S.took sink.old sink.new (map reason_line (commit_reasons reader.now.encounter reader.now.read commit.now.own commit.now.cycle commit.now.cells.now)) }
 {
-    // No run is longer than 600 cycles.
+    // No encounter has more than 16 aircraft.
     commit.encounter.valid_law();
-    let places = Places::new(commit.encounter, commit.cycle);
-    let picture = craft.look_among(&places);
-    let own = own_side_of(&places, commit.own);
+    let own = own_side_of(places, commit.own);
     let mut line = Line::new();
     for other in 0..commit.encounter.crafts().len() as u8 {
         if other == commit.own {
             continue;
         }
-        let seen = seen_of(&places, craft, &picture, &own, other);
+        let seen = seen_of(places, craft, picture, &own, other);
         set_line(&mut line, &reason_of(reader, commit, other, &seen));
         sink.line(&line);
     }
 }
 
-// Puts the lines of a commit of the aircraft at a place.
-#[tactic(auto, unfolding(crate::specs::Crews::IsReady))]
+// Puts the lines of a commit of the aircraft at a place, which has looked in its cycle.
+#[tactic(auto, unfolding(craft_view::specs::Looking::IsReady))]
+fn put_looked<S: LineSink>(
+    reader: &Reader<'_>,
+    commit: &Next<'_>,
+    places: &Places<'_>,
+    surveillance: &Surveillance,
+    sink: &mut S,
+)
+    requires same { commit.now.encounter.now ≡ reader.now.encounter }
+    requires places { places.now ≡ record { encounter = reader.now.encounter; cycle = commit.now.cycle } }
+    requires active { IsActive reader.now.encounter commit.now.own }
+    requires place { commit.now.own < CRAFTS }
+    requires begun { 1 ≤ commit.now.cycle }
+    requires looked { IsReady reader.now.encounter commit.now.own commit.now.cycle (slice_index_or surveillance.now.crafts commit.now.own None) }
+    requires picture { surveillance.now.picture ≡ picture_of reader.now.encounter commit.now.own commit.now.cycle }
+    ensures lines { S.took sink.old sink.new (map reason_line (commit_reasons reader.now.encounter reader.now.read commit.now.own commit.now.cycle commit.now.cells.now)) }
+{
+    match &surveillance.crafts[usize::from(commit.own)] {
+        Some(craft) => put_commit(reader, commit, places, craft, &surveillance.picture, sink),
+        None => unreachable!(),
+    }
+}
+
+// Puts the lines of a commit, in whose cycle its aircraft looks.
 fn put_by<S: LineSink>(
     reader: &Reader<'_>,
     commit: &Next<'_>,
-    craft: &mut Option<Craft>,
+    surveillance: &mut Surveillance,
     sink: &mut S,
 )
     requires same { commit.now.encounter.now ≡ reader.now.encounter }
     requires active { IsActive reader.now.encounter commit.now.own }
-    requires ready { IsReady reader.now.encounter commit.now.own (commits reader.now.read commit.now.own) craft.old }
+    requires ready { AreReady reader.now.encounter (commits reader.now.read) surveillance.old.crafts }
     requires next { commit.now.cycle ≡ commits reader.now.read commit.now.own + 1 }
     requires run { commit.now.cycle ≤ reader.now.encounter.cycles }
-    ensures ready { IsReady reader.now.encounter commit.now.own commit.now.cycle craft.new }
+    ensures ready { AreReady reader.now.encounter (commits (Entry.Commit commit.now.own commit.now.cycle commit.now.cells.now ∷ reader.now.read)) surveillance.new.crafts }
     ensures lines { S.took sink.old sink.new (map reason_line (commit_reasons reader.now.encounter reader.now.read commit.now.own commit.now.cycle commit.now.cells.now)) }
 {
-    match craft {
-        Some(craft) => put_commit(reader, commit, craft, sink),
-        None => unreachable!(),
-    }
+    // No run is longer than 600 cycles, and no encounter has more than 16 aircraft.
+    commit.encounter.valid_law();
+    let places = Places::new(commit.encounter, commit.cycle);
+    surveillance.look(commit.own, &places);
+    put_looked(reader, commit, &places, surveillance, sink);
 }
 
 // Puts the lines of an entry, which comes next.
@@ -121,13 +151,13 @@ fn put_entry<S: LineSink>(
     reader: &Reader<'_>,
     encounter: &Encounter,
     entry: &EntryRef<'_>,
-    crafts: &mut [Option<Craft>; CRAFTS],
+    surveillance: &mut Surveillance,
     sink: &mut S,
 )
     requires same { encounter.now ≡ reader.now.encounter }
     requires legal { IsLegal (air_of reader.now.encounter) (entry_of entry.now ∷ reader.now.read) }
-    requires ready { AreReady reader.now.encounter reader.now.read crafts.old }
-    ensures ready { AreReady reader.now.encounter (entry_of entry.now ∷ reader.now.read) crafts.new }
+    requires ready { AreReady reader.now.encounter (commits reader.now.read) surveillance.old.crafts }
+    ensures ready { AreReady reader.now.encounter (commits (entry_of entry.now ∷ reader.now.read)) surveillance.new.crafts }
     ensures lines { S.took sink.old sink.new (map reason_line (entry_reasons reader.now.encounter reader.now.read (entry_of entry.now))) }
 {
     // No encounter has more than 16 aircraft.
@@ -139,7 +169,7 @@ fn put_entry<S: LineSink>(
             cycle,
             cells,
         };
-        put_by(reader, &commit, &mut crafts[usize::from(own)], sink);
+        put_by(reader, &commit, surveillance, sink);
     }
 }
 
@@ -149,10 +179,10 @@ pub(crate) fn put_commits<S: LineSink>(state: &AirState, sink: &mut S)
 {
     state.legal_law();
     let mut reader = Reader::new(state);
-    let mut crafts = crew_of(state.enc());
+    let mut surveillance = Surveillance::new(state.enc());
     'entries: while let Some(entry) = reader.peek() {
         reader.reading_law();
-        put_entry(&reader, state.enc(), &entry, &mut crafts, sink);
+        put_entry(&reader, state.enc(), &entry, &mut surveillance, sink);
         let _ = reader.next();
     }
 }

@@ -102,9 +102,9 @@ fn advisory_rule(before: &Intent, view: &View, complement: Vrc, rank: Rank) -> R
     }
 }
 
-/// The case of the rules that gives the next cell (FAA, Introduction to TCAS II v7.1; ICAO Annex 10 vol. IV, 4.3; with the
-/// details of this project's profile): the first one that applies, from the cell before, the present view, the complement in
-/// force and the rank.
+/// The case of the rules that gives the next cell (FAA, Introduction to TCAS II v7.1; ICAO Annex 10 vol. IV, 4.3; with
+/// the details of this project's profile): the first one that applies, from the cell before, the present view, the
+/// complement in force and the rank.
 pub fn rule_of(before: &Cell, view: &View, complement: Vrc, rank: Rank) -> Rule
     ensures { result ≡ rule_of before.now view.now complement rank }
 {

@@ -23,8 +23,8 @@ pub struct OwnSide {
     pub aircraft: OwnAircraft,
 }
 
-// The rank against another aircraft, what was measured of it in the newest cycle, own side, what the tracks say where the pair
-// is tested, and the view.
+// The rank against another aircraft, what was measured of it in the newest cycle, own side, what the tracks say where
+// the pair is tested, and the view.
 #[derive(Clone, Copy, Debug, PartialEq, Eq)]
 pub struct Seen {
     pub rank: Rank,

@@ -1,21 +1,21 @@
 // What a line tells of what own aircraft saw.
 ghost use Rattle.std.specs.Prelude.{◌≡◌, ◌≤◌, ◌^◌, ◌-ℤ◌, IfSome, None, Some, if◌then◌else◌, option_map, unsigned_abs};
-ghost use Rattle.acas_base.specs.Choice.{is_fresh_after, separation_of};
+ghost use Rattle.acas_base.specs.Choice.{separation_of};
 ghost use Rattle.craft_view.specs.KnownTracks.{IsMotion};
 ghost use Rattle.craft_view.specs.Own.{AreRows};
 ghost use Rattle.reasons.specs.Bounds.{IsModerate, IsSeen};
 ghost use Rattle.reasons.specs.Fields.{tenths_of};
-ghost use Rattle.reasons.specs.Shown.{best_of, continued_after, continued_of, has_alim, is_projected, projected_of, shown_of, test_seconds, tested_of};
+ghost use Rattle.reasons.specs.Shown.{best_of, continued_after, continued_of, is_projected, projected_of, seconds_of, shown_of, tested_of};
 ghost use Rattle.sens_table.specs.Levels.{IsTableRow};
 
-use crate::seconds::{altitude_seconds, range_seconds};
 use crate::seen::Seen;
 use crate::tenths::{tenths_a_minute_of, tenths_of};
 use acas_base::{Cell, Intent, Rank, Row, Sense, Strength, View, separation, strongest};
 use craft_view::{Motion, OwnAircraft};
 use flight::Meas;
 use sense_pick::pick;
-use strength_pick::least;
+use strength_pick::{has_alim, is_fresh_after, least};
+use test_seconds::{altitude_seconds, range_seconds};
 
 /// What the tests of an advisory need with the thresholds of a row.
 #[derive(Clone, Copy, Debug, PartialEq, Eq)]
@@ -51,7 +51,8 @@ pub struct Tested {
     pub threat: bool,
 }
 
-/// The strongest allowed strength of a fresh choice in a sense, and its separation with the first response, in tenths of a foot.
+/// The strongest allowed strength of a fresh choice in a sense, and its separation with the first response, in tenths
+/// of a foot.
 #[derive(Clone, Copy, Debug, PartialEq, Eq)]
 pub struct Best {
     pub strength: Strength,
@@ -73,7 +74,8 @@ pub struct Projected {
     pub chosen: Sense,
 }
 
-/// What an advisory may go on with, where the pair is tested and own aircraft resolves. Separations are in tenths of a foot.
+/// What an advisory may go on with, where the pair is tested and own aircraft resolves. Separations are in tenths of a
+/// foot.
 #[derive(Clone, Copy, Debug, PartialEq, Eq)]
 pub struct Continued {
     /// A choice that keeps the sense is fresh.
@@ -128,11 +130,11 @@ fn height_rate_of(motion: &Motion) -> i64
 }
 
 // What both tests need with the thresholds of a row.
-#[tactic(auto, unfolding(crate::specs::Shown::test_seconds))]
-fn test_seconds(motion: &Motion, row: &Row) -> TestSeconds
+#[tactic(auto, unfolding(crate::specs::Shown::seconds_of))]
+fn seconds_of(motion: &Motion, row: &Row) -> TestSeconds
     requires motion { IsMotion motion.now }
     requires row { IsTableRow row.now }
-    ensures { result ≡ test_seconds motion.now row.now }
+    ensures { result ≡ seconds_of motion.now row.now }
 {
     TestSeconds {
         range: range_seconds(motion.range.est, motion.range.rate, row),
@@ -145,11 +147,11 @@ fn test_seconds(motion: &Motion, row: &Row) -> TestSeconds
 fn seconds_if_any(motion: &Motion, row: &Option<Row>) -> Option<TestSeconds>
     requires motion { IsMotion motion.now }
     requires row { IfSome row.now IsTableRow }
-    ensures { result ≡ option_map (test_seconds motion.now) row.now }
+    ensures { result ≡ option_map (seconds_of motion.now) row.now }
 {
     match row {
         None => None,
-        Some(row) => Some(test_seconds(motion, row)),
+        Some(row) => Some(seconds_of(motion, row)),
     }
 }
 
@@ -166,7 +168,7 @@ fn tested_of(own: &OwnAircraft, view: &View, motion: &Motion) -> Tested
         height: tenths_of(height_of(motion)),
         height_rate: tenths_a_minute_of(height_rate_of(motion)),
         own_rate: tenths_a_minute_of(motion.own.rate),
-        ta: test_seconds(motion, &own.traffic),
+        ta: seconds_of(motion, &own.traffic),
         ra: seconds_if_any(motion, &own.resolution),
         traffic: view.traffic,
         threat: view.threat,
@@ -231,27 +233,6 @@ fn projected_if_any(view: &View) -> Option<Projected>
         Some(projected_of(view))
     } else {
         None
-    }
-}
-
-// The choice of a strength after this one is fresh.
-fn is_fresh_after(strength: Strength) -> bool
-    ensures { result ≡ is_fresh_after strength }
-{
-    strength.place() < Strength::Positive.place()
-}
-
-// A sense has ALIM already: the present separation in it is at least as much.
-fn has_alim(view: &View, sense: Sense) -> bool
-    ensures { result ≡ has_alim view.now sense }
-{
-    let alim = view.alim;
-    match sense {
-        Sense::Up => alim <= view.gap,
-        Sense::Down => match view.gap.checked_neg() {
-            Some(separation) => alim <= separation,
-            None => true,
-        },
     }
 }
 

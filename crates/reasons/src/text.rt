@@ -8,8 +8,8 @@ use acas_io::{Failed, Sink};
 use acas_lines::{LineSink, Text, count_line, write_text};
 use air_journal::AirState;
 
-/// The reasons of the cells of a state: how many lines follow the names of the columns; these names; and a line for each
-/// commit, by position, and each other aircraft, by index.
+/// The reasons of the cells of a state: how many lines follow the names of the columns; these names; and a line for
+/// each commit, by position, and each other aircraft, by index.
 #[derive(Drop)]
 pub struct Reasons<'a>(pub &'a AirState);
 

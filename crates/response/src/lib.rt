@@ -14,4 +14,5 @@ mod response;
 
 pub use flying::flown;
 pub use modelled::ModelledFlight;
+pub use pairs::ever_advises_against;
 pub use response::{Response, write};

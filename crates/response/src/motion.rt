@@ -15,6 +15,7 @@ pub(crate) struct Motion {
     pub rate: i64,
 }
 
+// For the proof: the bounds of a sum.
 fn sum(a: i64, b: i64) -> i64
     requires a { unsigned_abs a ≤ 2 ^ 31 }
     requires b { unsigned_abs b ≤ 2 ^ 31 }

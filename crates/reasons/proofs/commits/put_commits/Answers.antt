@@ -28,7 +28,7 @@ entries-preserved g c =
     record {
       encounter = c.next.ensures.encounter ∙ c.entries.invariant.encounter;
       journal = c.next.ensures.journal ∙ c.entries.invariant.journal;
-      ready = ready-on e reader.encounter reader.read c.next.new.self.read (entry_of c.in-Some.entry) c.put_entry.new.crafts c.entries.invariant.encounter (read-is g c) c.put_entry.ensures.ready;
+      ready = ready-on e reader.encounter reader.read c.next.new.self.read (entry_of c.in-Some.entry) c.put_entry.new.surveillance.crafts c.entries.invariant.encounter (read-is g c) c.put_entry.ensures.ready;
       lines = subst (g.S.LineSink.took c.args.sink.now c.put_entry.new.sink) (lines-on e reader.encounter reader.read c.next.new.self.read (entry_of c.in-Some.entry) c.entries.invariant.encounter (read-is g c))
           (g.met.S.LineSink.then _ _ _ _ _ c.entries.invariant.lines c.put_entry.ensures.lines);
     }

@@ -1,5 +1,5 @@
-use Rattle.reasons.proofs.Testing.{altitude-goes, range-goes}
-use Rattle.reasons.proofs.seconds.test_law.Goals as goal
+use Rattle.test_seconds.proofs.Testing.{altitude-goes, range-goes}
+use Rattle.test_seconds.proofs.seconds.test_law.Goals as goal
 
 pub returns-clause-range : goal.returns-clause-range
 returns-clause-range c = range-goes

@@ -6,8 +6,8 @@ use Rattle.acas_num.specs.Seconds.{need}
 use Rattle.tau_test.specs.RangeTest.{modified_tau, is_range_hit}
 use Rattle.vert_test.specs.AltTest.{are_opposite, is_altitude_hit}
 
--- The least whole number of seconds for which the range test holds: 0 within DMOD, else modified tau, rounded up; none where
--- the range doesn't close.
+-- The least whole number of seconds for which the range test holds: 0 within DMOD, else modified tau, rounded up; none
+-- where the range doesn't close.
 unfoldable pub range_seconds : ℤ → ℤ → Row → Option ℕ
 range_seconds r rdot row =
     if int_le r row.dmod then Some 0

@@ -2,13 +2,13 @@
 ghost use Rattle.std.specs.Prelude.{◌≡◌, ℕ, ◌≤◌, ◌<◌, ◌*◌, ◌^◌, pos, unsigned_abs};
 ghost use Rattle.acas_base.specs.Ranges.{IsBetween};
 ghost use Rattle.acas_num.specs.Seconds.{need};
-ghost use Rattle.reasons.specs.Seconds.{altitude_seconds, range_seconds, AltitudeTestGoesBySeconds, RangeTestGoesBySeconds};
 ghost use Rattle.sens_table.specs.Levels.{IsTableRow};
 ghost use Rattle.tau_test.specs.RangeTest.{modified_tau};
-ghost use Rattle.vert_test.specs.AltTest.{are_opposite};
+ghost use Rattle.test_seconds.specs.Seconds.{altitude_seconds, range_seconds, AltitudeTestGoesBySeconds, RangeTestGoesBySeconds};
 
 use acas_base::Row;
 use acas_num::seconds_law;
+use vert_test::are_opposite;
 
 // The least whole number of seconds in which `b` a second make up `a`.
 fn need(a: u64, b: u64) -> u64
@@ -33,9 +33,10 @@ fn modified_tau(r: u64, rate: u64, dmod: u64) -> u64
 }
 
 /// The least whole number of seconds for which the range test of a slant range `r` (1/1024 ft) that changes by `rdot`
-/// (1/1024 ft/s) holds: 0 within the DMOD of a row, else modified tau; none where the range doesn't close (Munoz et al. 2013).
+/// (1/1024 ft/s) holds: 0 within the DMOD of a row, else modified tau; none where the range doesn't close (Munoz et al.
+/// 2013).
 #[tactic(auto, unfolding(crate::specs::Seconds::range_seconds))]
-pub(crate) fn range_seconds(r: i64, rdot: i64, row: &Row) -> Option<u32>
+pub fn range_seconds(r: i64, rdot: i64, row: &Row) -> Option<u32>
     requires range { IsBetween (pos 0) (pos (2 ^ 28)) r }
     requires rate { unsigned_abs rdot ≤ 2 ^ 23 }
     requires row { IsTableRow row.now }
@@ -55,18 +56,11 @@ pub(crate) fn range_seconds(r: i64, rdot: i64, row: &Row) -> Option<u32>
     Some(seconds as u32)
 }
 
-// One number is below zero and the other above it.
-fn are_opposite(a: i64, b: i64) -> bool
-    ensures { result ≡ are_opposite a b }
-{
-    (a < 0 && b > 0) || (a > 0 && b < 0)
-}
-
 /// The least whole number of seconds for which the altitude test of a height `dz` (1/1024 ft) that changes by `dzdot`
-/// (1/1024 ft/s) holds: 0 within the ZTHR of a row, else the time to the same altitude; none where the height doesn't shrink
-/// (Munoz et al. 2013).
+/// (1/1024 ft/s) holds: 0 within the ZTHR of a row, else the time to the same altitude; none where the height doesn't
+/// shrink (Munoz et al. 2013).
 #[tactic(auto, unfolding(crate::specs::Seconds::altitude_seconds))]
-pub(crate) fn altitude_seconds(dz: i64, dzdot: i64, row: &Row) -> Option<u32>
+pub fn altitude_seconds(dz: i64, dzdot: i64, row: &Row) -> Option<u32>
     requires { unsigned_abs dz ≤ 2 ^ 28 }
     ensures { result ≡ altitude_seconds dz dzdot row.now }
 {

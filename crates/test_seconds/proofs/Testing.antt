@@ -1,16 +1,11 @@
 -- The tests hold where their seconds are within tau.
-use Rattle.std.proofs.Common.{◌≡◌, ℕ, Bool, true, false, refl, sym, ap₂}
-use Rattle.std.specs.Prelude.{◌||◌, ◌&&◌, ◌-ℤ◌, if◌then◌else◌, nat_le, Some, None, int_le, int_lt, pos, unsigned_abs}
+use Rattle.std.proofs.Common.{◌≡◌, ℕ, Bool, true, false, refl, sym}
+use Rattle.std.specs.Prelude.{◌||◌, ◌&&◌, if◌then◌else◌, nat_le, Some, None, int_le, int_lt, pos, unsigned_abs}
 use Rattle.std.specs.Option.{option_map_or}
 use Rattle.std.proofs.Math.Dec.{leb-zero}
-use Rattle.acas_base.specs.declared.level.Row.{Row}
 use Rattle.acas_num.specs.Seconds.{need}
-use Rattle.craft_view.specs.Hits.{is_hit}
-use Rattle.craft_view.specs.declared.motion.Motion.{Motion}
-use Rattle.reasons.specs.Agreeing.{are_within_tau}
-use Rattle.reasons.specs.Seconds.{AltitudeTestGoesBySeconds, RangeTestGoesBySeconds, altitude_seconds, range_seconds}
-use Rattle.reasons.specs.Shown.{test_seconds}
 use Rattle.tau_test.specs.RangeTest.{is_range_hit, modified_tau}
+use Rattle.test_seconds.specs.Seconds.{AltitudeTestGoesBySeconds, RangeTestGoesBySeconds, altitude_seconds, range_seconds}
 use Rattle.vert_test.specs.AltTest.{are_opposite, is_altitude_hit}
 
 -- Near, or closing in time: so many seconds are within tau.
@@ -27,8 +22,3 @@ range-goes r rdot row = by_cases (int_le r row.dmod) (int_lt rdot (pos 0)) (modi
 pub altitude-goes : AltitudeTestGoesBySeconds
 unfolding is_altitude_hit altitude_seconds
 altitude-goes dz dzdot row = by_cases (nat_le (unsigned_abs dz) (unsigned_abs row.zthr)) (are_opposite dz dzdot) (need (unsigned_abs dz) (unsigned_abs dzdot)) (unsigned_abs row.tau)
-
--- Both tests of a pair.
-pub hit-goes : (m : Motion) (row : Row) → is_hit m row ≡ are_within_tau (test_seconds m row)
-unfolding test_seconds
-hit-goes m row = ap₂ ◌&&◌ (range-goes m.range.est m.range.rate row) (altitude-goes (m.target.est -ℤ m.own.est) (m.target.rate -ℤ m.own.rate) row)
