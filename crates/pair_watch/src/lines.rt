@@ -46,9 +46,7 @@ fn add_next(line: &mut Line, next: Option<u32>)
     }
 }
 
-/// The line of an interval of two aircraft. It is inlined: else room for a line is cleared for each pair in each
-/// commit, and the watch of eight aircraft takes 5 per cent more instructions.
-#[inline(always)]
+/// The line of an interval of two aircraft.
 pub(crate) fn interval_line(low: Address, high: Address, it: &Interval) -> Line
     ensures { result ≡ interval_line low high it.now.sense it.now.from it.now.to it.now.cause it.now.next }
 {

@@ -1,4 +1,4 @@
-use Rattle.std.proofs.Common.{sym, subst}
+use Rattle.std.proofs.Common.{subst}
 use Rattle.pair_watch.proofs.Putting.{changed-alone}
 use Rattle.pair_watch.proofs.intervals.put_changed.Goals as goal
 
