@@ -22,11 +22,12 @@ use std::thread::Threads;
 /// - `audit` reads a recording and writes `legal,ENTRIES`. Where the recording is wrong, it writes `wrong,LINE,REASON`.
 /// - `resume` reads a beginning of a recording, and writes the whole recording. Where the input is none, it writes the
 ///   line of its verdict.
-/// - `reports`, `response`, `watch` and `why` read a recording, and write a text about it. Where the recording is
-///   wrong, they write the line of its verdict.
+/// - `reports`, `response`, `watch`, `why`, `places` and `messages` read a recording, and write a text about it. Where
+///   the recording is wrong, they write the line of its verdict.
 /// - `gen NUMBER CRAFTS CYCLES` reads nothing, and writes the encounter that is made from the number.
 /// - `sweep NUMBER COUNT CRAFTS CYCLES` reads nothing. It plays the encounters that are made from COUNT numbers, in as
 ///   many threads as there are processors, and writes the counts of each.
+/// - `decode WORD` reads nothing, and writes what a word of fourteen digits says.
 /// - `--help`, `-h`, `help` and `--version` read nothing, and write a page about the program.
 ///
 /// All other words give [`Status::Usage`]. All memory is taken before the first byte is written.

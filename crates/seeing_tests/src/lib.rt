@@ -26,4 +26,6 @@ mod sens_table_tests;
 #[cfg(test)]
 mod tau_test_tests;
 #[cfg(test)]
+mod test_seconds_tests;
+#[cfg(test)]
 mod vert_test_tests;
