@@ -1,0 +1,5 @@
+pub mod Fields
+pub mod Places
+pub mod Noted
+pub mod Messages
+pub mod Following
