@@ -77,7 +77,9 @@ pub enum Plain {
     /// `resume`: reads a beginning of a recording, and writes the recording of its run, completed.
     Resume,
     /// `decode WORD`: reads nothing, and writes what a word of fourteen digits 0-9A-F says.
-    Decode { word: u64 },
+    Decode {
+        word: u64,
+    },
     /// The words that ask for a page: reads nothing, and writes the page.
     Show(Page),
 }

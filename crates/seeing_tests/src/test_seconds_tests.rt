@@ -40,6 +40,10 @@ fn tells_the_seconds_of_the_altitude_test(rt: HostRuntime) {
         (1_000 * FOOT, 40 * FOOT, None),
     ];
     for (dz, dzdot, seconds) in rows {
-        assert_eq!(rt; altitude_seconds(dz, dzdot, &LEVEL_5), seconds, "{dz} {dzdot}");
+        assert_eq!(rt;
+            altitude_seconds(dz, dzdot, &LEVEL_5),
+            seconds,
+            "{dz} {dzdot}"
+        );
     }
 }

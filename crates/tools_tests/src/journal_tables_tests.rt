@@ -133,7 +133,8 @@ fn delayed(hold: u8) -> CopyPlan {
 }
 
 // Of examples/held-copy.enc; besides, the last message is held back beyond the end of the run.
-const HELD: &[u8] = b"sender,receiver,number,sent_cycle,sent_at,sets,cancels,copy,hold,taken_at,taken_cycle,result,changed
+const HELD: &[u8] =
+    b"sender,receiver,number,sent_cycle,sent_at,sets,cancels,copy,hold,taken_at,taken_cycle,result,changed
 400A01,400B02,1,26,52,above,,0,2,67,28,g,0
 400A01,400B02,1,26,52,above,,1,0,55,26,g,1
 400B02,400A01,1,26,53,above,,0,0,54,26,g,1
@@ -150,7 +151,8 @@ const HELD: &[u8] = b"sender,receiver,number,sent_cycle,sent_at,sets,cancels,cop
 ";
 
 // Of examples/damaged-message.enc.
-const DAMAGED: &[u8] = b"sender,receiver,number,sent_cycle,sent_at,sets,cancels,copy,hold,taken_at,taken_cycle,result,changed
+const DAMAGED: &[u8] =
+    b"sender,receiver,number,sent_cycle,sent_at,sets,cancels,copy,hold,taken_at,taken_cycle,result,changed
 400A01,400B02,1,26,52,above,,0,0,55,26,b,0
 400B02,400A01,1,26,53,above,,0,0,54,26,g,1
 400A01,400B02,2,27,58,above,,0,0,61,27,g,1
@@ -166,7 +168,8 @@ const DAMAGED: &[u8] = b"sender,receiver,number,sent_cycle,sent_at,sets,cancels,
 ";
 
 // Of examples/repeated-copies.enc.
-const REPEATED: &[u8] = b"sender,receiver,number,sent_cycle,sent_at,sets,cancels,copy,hold,taken_at,taken_cycle,result,changed
+const REPEATED: &[u8] =
+    b"sender,receiver,number,sent_cycle,sent_at,sets,cancels,copy,hold,taken_at,taken_cycle,result,changed
 400A01,400B02,1,26,52,above,,0,0,55,26,g,1
 400A01,400B02,1,26,52,above,,1,0,56,26,g,0
 400A01,400B02,1,26,52,above,,2,0,57,26,g,0
@@ -184,7 +187,8 @@ const REPEATED: &[u8] = b"sender,receiver,number,sent_cycle,sent_at,sets,cancels
 ";
 
 // Of examples/lost-messages.enc.
-const LOST: &[u8] = b"sender,receiver,number,sent_cycle,sent_at,sets,cancels,copy,hold,taken_at,taken_cycle,result,changed
+const LOST: &[u8] =
+    b"sender,receiver,number,sent_cycle,sent_at,sets,cancels,copy,hold,taken_at,taken_cycle,result,changed
 400A01,400B02,1,26,52,above,,,,,,,
 400B02,400A01,1,26,53,above,,0,0,54,26,g,1
 400A01,400B02,2,27,57,above,,,,,,,
@@ -220,13 +224,9 @@ fn are_told(alloc: Global) -> Result<bool, Fail> {
     Ok(
         is_told(
             alloc,
-            &[
-                fate(1, 2, delayed(2), PLAIN),
-                fate(6, 1, delayed(1), PLAIN),
-            ],
+            &[fate(1, 2, delayed(2), PLAIN), fate(6, 1, delayed(1), PLAIN)],
             HELD,
-        )?
-            && is_told(alloc, &[fate(1, 1, damaged, PLAIN)], DAMAGED)?
+        )? && is_told(alloc, &[fate(1, 1, damaged, PLAIN)], DAMAGED)?
             && is_told(alloc, &[fate(1, 3, PLAIN, PLAIN)], REPEATED)?
             && is_told(alloc, &lost, LOST)?,
     )
