@@ -3,9 +3,9 @@ ghost use Rattle.std.specs.Prelude.{◌≡◌, ◌<◌, ◌≤◌, length};
 ghost use Rattle.acas_base.specs.declared.TheConstants.{CRAFTS};
 ghost use Rattle.ra_report.specs.Blocks.{is_limited, is_not_above, is_not_below, limited};
 
-use ra_block::RaBlock;
 use acas_base::Sense;
 use journal_reader::Reader;
+use ra_block::RaBlock;
 
 // The kinds of complements that are in force: "do not pass below" and "do not pass above".
 #[derive(Clone, Copy, Debug, PartialEq, Eq)]

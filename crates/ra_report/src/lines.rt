@@ -4,13 +4,13 @@ ghost use Rattle.acas_base.specs.Ranges.{IsCycle};
 ghost use Rattle.acas_io.specs.Stream.{Puts};
 ghost use Rattle.ra_report.specs.Blocks.{block_line, block_lines, lines_in, report_text};
 
-use ra_block::{RaBlock, encode};
 use crate::table::Table;
 use acas_base::Address;
 use acas_io::{Failed, Sink};
 use acas_lines::{LineSink, Text, count_line, count_lines, write_text};
 use acas_text::Line;
 use air_journal::AirState;
+use ra_block::{RaBlock, encode};
 
 // How many digits a word has.
 const WORD_DIGITS: u8 = 14;

@@ -5,8 +5,8 @@ ghost use Rattle.acas_base.specs.declared.advisory.Cells.{Cells};
 ghost use Rattle.ra_report.specs.Blocks.{block_for, ended, is_increase, is_positive, threats};
 ghost use Rattle.ra_report.specs.Stories.{AreAfter, IsAmong, IsStory, as_threats, had, held_after, no_senses, older, senses_after, told};
 
-use ra_block::RaBlock;
 use acas_base::{Address, CRAFTS, Cell, Cells, Encounter, Sense, Strength};
+use ra_block::RaBlock;
 
 /// The aircraft against which a commit advises.
 #[derive(Clone, Copy, Debug, PartialEq, Eq)]

@@ -10,12 +10,12 @@ ghost use Rattle.air_rules.specs.Air.{is_ra};
 ghost use Rattle.ra_report.specs.Blocks.{block_in};
 ghost use Rattle.ra_report.specs.Stories.{AreBlocks, AreStories, block_by, no_story};
 
-use ra_block::RaBlock;
 use crate::limits::with_limits;
 use crate::story::{Senses, Story};
 use acas_base::{CRAFTS, Cells, Encounter};
 use air_journal::{AirState, EntryRef, is_ra};
 use journal_reader::Reader;
+use ra_block::RaBlock;
 use std::marker::Model;
 
 /// A place for each aircraft in each cycle of the longest run.
