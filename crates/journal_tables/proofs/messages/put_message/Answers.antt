@@ -1,4 +1,4 @@
-use Rattle.std.proofs.Common.{◌≡◌, ◌≢◌, ℕ, ◌+◌, ◌<◌, ◌++◌, ◌∷◌, [], List, Option, Some, length, sym, ap, ◌∙◌, subst, arith}
+use Rattle.std.proofs.Common.{◌≡◌, ℕ, ◌+◌, ◌<◌, ◌++◌, ◌∷◌, [], List, Option, length, sym, ap, ◌∙◌, subst, arith}
 use Rattle.std.specs.List.{flat_map, range_with_len}
 use Rattle.std.specs.Prelude.{option_map, option_to_list, slice_get}
 use Rattle.std.proofs.lemmas.List.{append-nil}
@@ -10,7 +10,6 @@ use Rattle.air_journal.specs.Airs.{air_of, plans_of}
 use Rattle.air_rules.specs.Journal.{Sent}
 use Rattle.journal_tables.specs.Messages.{copy_line, lines_of_copy, message_of, take_of}
 use Rattle.journal_tables.specs.declared.messages.Message.{Message}
-use Rattle.journal_tables.specs.declared.takes.CopyTake.{CopyTake}
 use Rattle.journal_tables.proofs.Copies.{lines-some, within-copies}
 use Rattle.journal_tables.proofs.messages.put_message.Goals as goal
 use Rattle.journal_tables.proofs.messages.put_message.Goals.{in-Some, in_default}

@@ -1,9 +1,9 @@
-use Rattle.std.proofs.Common.{◌≡◌, ◌++◌, List, sym, ap, ◌∙◌, subst, subst₂}
+use Rattle.std.proofs.Common.{List, sym, ap, ◌∙◌, subst}
 use Rattle.acas_base.specs.declared.entry.Entry.{Entry}
 use Rattle.air_journal.specs.EntryRefs.{entry_of}
 use Rattle.air_rules.specs.Journal.{Begins}
 use Rattle.journal_tables.specs.Messages.{sent_lines}
-use Rattle.journal_tables.proofs.Reading.{begins-next, lines-more, lines-start, nothing-begins, reads-on}
+use Rattle.journal_tables.proofs.Reading.{lines-more, lines-start, nothing-begins, reads-on}
 use Rattle.journal_tables.proofs.messages.put_sent.Goals as goal
 
 pub loop-entry-init : goal.loop-entry-init

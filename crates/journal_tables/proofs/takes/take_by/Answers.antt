@@ -1,7 +1,7 @@
-use Rattle.std.proofs.Common.{◌≡◌, Bool, ◌∷◌, ap, ap₂, ◌∙◌}
+use Rattle.std.proofs.Common.{◌∷◌, ap, ap₂, ◌∙◌}
 use Rattle.std.specs.Prelude.{not}
 use Rattle.air_journal.specs.EntryRefs.{entry_of}
-use Rattle.journal_tables.specs.Messages.{changes, is_same_complement}
+use Rattle.journal_tables.specs.Messages.{is_same_complement}
 use Rattle.journal_tables.proofs.takes.take_by.Goals as goal
 
 pub returns : goal.returns
