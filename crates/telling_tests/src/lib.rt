@@ -4,6 +4,8 @@
 #[cfg(test)]
 mod advisory_report_tests;
 #[cfg(test)]
+mod comparison_tests;
+#[cfg(test)]
 mod enc_file_tests;
 #[cfg(test)]
 mod enc_gen_tests;

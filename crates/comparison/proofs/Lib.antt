@@ -1,0 +1,9 @@
+pub mod Fronts
+pub mod Cutting
+pub mod Differing
+pub mod Apart
+pub mod Slots
+pub mod Equal
+pub mod Equality
+pub mod Helps
+pub mod Once

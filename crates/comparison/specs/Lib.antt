@@ -1,0 +1,10 @@
+pub mod Splitting
+pub mod Sides
+pub mod Texts
+pub mod Picks
+pub mod Encounters
+pub mod Cells
+pub mod Reports
+pub mod Messages
+pub mod Found
+pub mod Comparing
