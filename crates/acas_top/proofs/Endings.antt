@@ -12,7 +12,7 @@ use Rattle.acas_top.specs.Statuses.{status_number}
 use Rattle.acas_top.specs.Words.{AreNoCommand, AreNoPlain, AreNoRun, IsCommand, Say, limit_of}
 use Rattle.acas_top.specs.Given.{answer_status, answer_text}
 use Rattle.acas_top.specs.declared.answers.Answer.{Answer}
-use Rattle.acas_top.specs.declared.answers.Answer.TheVariants.{Decoded, Judged, Made, Recorded, Refused, Shown, Summed, Swept, Told}
+use Rattle.acas_top.specs.declared.answers.Answer.TheVariants.{Compared, Decoded, Judged, Made, Recorded, Refused, Shown, Summed, Swept, Told}
 use Rattle.acas_top.specs.declared.status.Status.{Status}
 use Rattle.acas_top.specs.declared.status.Status.TheVariants as statuses
 use Rattle.rec_audit.specs.declared.verdict.Verdict.TheVariants.{Legal, Wrong}
@@ -21,7 +21,7 @@ use Rattle.acas_top.specs.declared.words.TheConstants.{ENCOUNTER_BYTES, RECORDIN
 use Rattle.acas_top.specs.declared.words.Command.{Command}
 use Rattle.acas_top.specs.declared.words.Command.TheVariants as commands
 use Rattle.acas_top.specs.declared.words.Page.TheVariants.{Help, Version}
-use Rattle.acas_top.specs.declared.words.Plain.TheVariants.{Audit, Decode, Gen, Resume, Serial, Show, Sweep, Tell}
+use Rattle.acas_top.specs.declared.words.Plain.TheVariants.{Audit, Compare, Decode, Gen, Resume, Serial, Show, Sweep, Tell}
 use Rattle.acas_top.specs.declared.words.Threaded.{Threaded}
 use Rattle.acas_top.specs.declared.words.Threaded.TheVariants.{Play, Sum}
 use Rattle.acas_top.specs.declared.words.Tool.TheVariants.{Messages, Places, Reports, Response, Watch, Why}
@@ -66,6 +66,7 @@ limit-said words (commands.Plain (Tell Watch)) said = sym (ap limit-by said)
 limit-said words (commands.Plain (Tell Why)) said = sym (ap limit-by said)
 limit-said words (commands.Plain (Sweep number count crafts cycles)) said = sym (ap limit-by said)
 limit-said words (commands.Plain Resume) said = sym (ap limit-by said)
+limit-said words (commands.Plain Compare) said = sym (ap limit-by said)
 limit-said words (commands.Plain (Decode word)) said = sym (ap limit-by said)
 limit-said words (commands.Plain (Show Help)) (inl said) = sym (ap limit-by said)
 limit-said words (commands.Plain (Show Help)) (inr (inl said)) = sym (ap limit-by said)
@@ -279,6 +280,7 @@ is-answer (Made encounter) = tt
 is-answer (Told tool state) = tt
 is-answer (Swept swept) = tt
 is-answer (Summed commits counts) = tt
+is-answer (Compared one other found) = tt
 is-answer (Decoded word) = tt
 is-answer (Shown page) = tt
 is-answer (Judged (Legal entries)) = tt

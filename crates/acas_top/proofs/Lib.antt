@@ -3,3 +3,4 @@ pub mod OneStatus
 pub mod FewEach
 pub mod FiveWords
 pub mod OneWord
+pub mod Within

@@ -1,7 +1,11 @@
 -- At most one status answers a command on the bytes that it read.
-use Rattle.std.proofs.Common.{◌≡◌, List, ℕ, length, refl}
-use Rattle.acas_top.specs.Answers.{Answers, AnswersPlain, IsLegal, IsWrong, IsWrongPart, Plays, Refuses, Resumes, Runs}
-use Rattle.rec_audit.specs.Judging.{IsPartLoaded, Judged}
+use Rattle.std.proofs.Common.{◌≡◌, List, ℕ, length, refl, subst}
+use Rattle.acas_top.specs.Answers.{Answers, AnswersPlain, IsLegal, IsWrong, IsWrongPair, IsWrongPart, Plays, Refuses, Resumes, Runs}
+use Rattle.acas_top.specs.Comparing.{Compares, IsWrongOfTwo, in_first, in_second}
+use Rattle.air_journal.specs.States.{State}
+use Rattle.comparison.specs.Splitting.{IsSplit}
+use Rattle.rec_audit.specs.Judging.{IsPartLoaded, IsRecordingOf, Judged}
+use Rattle.rec_audit.specs.declared.verdict.Reason.{Reason}
 use Rattle.rec_audit.specs.declared.verdict.Loaded.{Loaded}
 use Rattle.rec_audit.specs.declared.verdict.Loaded.TheVariants as loaded
 use Rattle.rec_audit.specs.declared.verdict.Verdict.{Verdict}
@@ -11,7 +15,7 @@ use Rattle.acas_top.specs.declared.status.Status.TheVariants.{Done, Refused, Wro
 use Rattle.acas_top.specs.declared.words.Command.{Command}
 use Rattle.acas_top.specs.declared.words.Command.TheVariants as commands
 use Rattle.acas_top.specs.declared.words.Plain.{Plain}
-use Rattle.acas_top.specs.declared.words.Plain.TheVariants.{Audit, Decode, Gen, Resume, Serial, Show, Sweep, Tell}
+use Rattle.acas_top.specs.declared.words.Plain.TheVariants.{Audit, Compare, Decode, Gen, Resume, Serial, Show, Sweep, Tell}
 use Rattle.acas_top.specs.declared.words.Threaded.{Threaded}
 use Rattle.acas_top.specs.declared.words.Threaded.TheVariants.{Play, Sum}
 use Rattle.acas_top.specs.Telling.{Tells}
@@ -87,6 +91,35 @@ wrong-part-only law bytes text other Done wrong is = absurd (not-wrong-part law 
 wrong-part-only law bytes text other Wrong wrong is = refl
 wrong-part-only law bytes text other also wrong is = absurd is
 
+-- Bytes are cut in one way.
+abbrev pub HasOneSplit : Type 0
+HasOneSplit = (bytes one other two another : List ℕ) → IsSplit bytes one other → IsSplit bytes two another → (one ≡ two) × (other ≡ another)
+
+-- Of two right recordings none is wrong.
+not-wrong-of-two : HasOneVerdict → (one other : List ℕ) (first second : State) (line : ℕ) (reason : Reason) → IsRecordingOf one first → IsRecordingOf other second → IsWrongOfTwo one other line reason → ⊥
+not-wrong-of-two law one other first second line reason a b (in_first wrong) =
+    let same = law one (verdicts.Legal (length first.journal)) (verdicts.Wrong line reason) (record { state = first; recording = a; count = refl }) wrong in
+    cc
+not-wrong-of-two law one other first second line reason a b (in_second {line = own} right wrong) =
+    let same = law other (verdicts.Legal (length second.journal)) (verdicts.Wrong own reason) (record { state = second; recording = b; count = refl }) wrong in
+    cc
+
+-- What is compared has no wrong line.
+not-wrong-pair : HasOneVerdict → HasOneSplit → (bytes text other : List ℕ) → Compares bytes text → IsWrongPair bytes other → ⊥
+not-wrong-pair law cut bytes text other c w =
+    let same = cut bytes c.one c.other w.one w.other c.split w.split in
+    not-wrong-of-two law w.one w.other c.first c.second w.line w.reason (subst (λ x. IsRecordingOf x c.first) same.0 c.first_is) (subst (λ x. IsRecordingOf x c.second) same.1 c.second_is) w.is
+
+compared-only : HasOneVerdict → HasOneSplit → (bytes text other : List ℕ) (also : Status) → Compares bytes text → AnswersPlain Compare bytes also other → Done ≡ also
+compared-only law cut bytes text other Done compares is = refl
+compared-only law cut bytes text other Wrong compares is = absurd (not-wrong-pair law cut bytes text other compares is)
+compared-only law cut bytes text other also compares is = absurd is
+
+wrong-pair-only : HasOneVerdict → HasOneSplit → (bytes text other : List ℕ) (also : Status) → IsWrongPair bytes text → AnswersPlain Compare bytes also other → Wrong ≡ also
+wrong-pair-only law cut bytes text other Done wrong is = absurd (not-wrong-pair law cut bytes other text is wrong)
+wrong-pair-only law cut bytes text other Wrong wrong is = refl
+wrong-pair-only law cut bytes text other also wrong is = absurd is
+
 -- What can be run in threads has no cause to be refused.
 not-run : (run : Threaded) (bytes text other : List ℕ) → Runs run bytes text → Refuses bytes other → ⊥
 not-run Play bytes text other ran refused = let one = ran.says in let two = refused.is in cc
@@ -102,34 +135,37 @@ not-run-only run bytes text other Done refused is = absurd (not-run run bytes ot
 not-run-only run bytes text other Refused refused is = refl
 not-run-only run bytes text other also refused is = absurd is
 
-one-plain : HasOneVerdict → HasOnePart → (plain : Plain) (bytes text other : List ℕ) (status also : Status) → AnswersPlain plain bytes status text → AnswersPlain plain bytes also other → status ≡ also
-one-plain law part Serial bytes text other Done also is other_is = done-only bytes text other also is other_is
-one-plain law part Serial bytes text other Refused also is other_is = refused-only bytes text other also is other_is
-one-plain law part Serial bytes text other status also is other_is = absurd is
-one-plain law part Audit bytes text other Done also is other_is = legal-only law bytes text other also is other_is
-one-plain law part Audit bytes text other Wrong also is other_is = wrong-only law bytes text other also is other_is
-one-plain law part Audit bytes text other status also is other_is = absurd is
-one-plain law part (Gen number crafts cycles) bytes text other Done Done is other_is = refl
-one-plain law part (Gen number crafts cycles) bytes text other Done also is other_is = absurd other_is
-one-plain law part (Gen number crafts cycles) bytes text other status also is other_is = absurd is
-one-plain law part (Tell tool) bytes text other Done also is other_is = told-only law tool bytes text other also is other_is
-one-plain law part (Tell tool) bytes text other Wrong also is other_is = untold-only law tool bytes text other also is other_is
-one-plain law part (Tell tool) bytes text other status also is other_is = absurd is
-one-plain law part (Sweep number count crafts cycles) bytes text other Done Done is other_is = refl
-one-plain law part (Sweep number count crafts cycles) bytes text other Done also is other_is = absurd other_is
-one-plain law part (Sweep number count crafts cycles) bytes text other status also is other_is = absurd is
-one-plain law part Resume bytes text other Done also is other_is = resumed-only part bytes text other also is other_is
-one-plain law part Resume bytes text other Wrong also is other_is = wrong-part-only part bytes text other also is other_is
-one-plain law part Resume bytes text other status also is other_is = absurd is
-one-plain law part (Decode word) bytes text other Done Done is other_is = refl
-one-plain law part (Decode word) bytes text other Done also is other_is = absurd other_is
-one-plain law part (Decode word) bytes text other status also is other_is = absurd is
-one-plain law part (Show page) bytes text other Done Done is other_is = refl
-one-plain law part (Show page) bytes text other Done also is other_is = absurd other_is
-one-plain law part (Show page) bytes text other status also is other_is = absurd is
+one-plain : HasOneVerdict → HasOnePart → HasOneSplit → (plain : Plain) (bytes text other : List ℕ) (status also : Status) → AnswersPlain plain bytes status text → AnswersPlain plain bytes also other → status ≡ also
+one-plain law part cut Serial bytes text other Done also is other_is = done-only bytes text other also is other_is
+one-plain law part cut Serial bytes text other Refused also is other_is = refused-only bytes text other also is other_is
+one-plain law part cut Serial bytes text other status also is other_is = absurd is
+one-plain law part cut Audit bytes text other Done also is other_is = legal-only law bytes text other also is other_is
+one-plain law part cut Audit bytes text other Wrong also is other_is = wrong-only law bytes text other also is other_is
+one-plain law part cut Audit bytes text other status also is other_is = absurd is
+one-plain law part cut (Gen number crafts cycles) bytes text other Done Done is other_is = refl
+one-plain law part cut (Gen number crafts cycles) bytes text other Done also is other_is = absurd other_is
+one-plain law part cut (Gen number crafts cycles) bytes text other status also is other_is = absurd is
+one-plain law part cut (Tell tool) bytes text other Done also is other_is = told-only law tool bytes text other also is other_is
+one-plain law part cut (Tell tool) bytes text other Wrong also is other_is = untold-only law tool bytes text other also is other_is
+one-plain law part cut (Tell tool) bytes text other status also is other_is = absurd is
+one-plain law part cut (Sweep number count crafts cycles) bytes text other Done Done is other_is = refl
+one-plain law part cut (Sweep number count crafts cycles) bytes text other Done also is other_is = absurd other_is
+one-plain law part cut (Sweep number count crafts cycles) bytes text other status also is other_is = absurd is
+one-plain law part cut Resume bytes text other Done also is other_is = resumed-only part bytes text other also is other_is
+one-plain law part cut Resume bytes text other Wrong also is other_is = wrong-part-only part bytes text other also is other_is
+one-plain law part cut Resume bytes text other status also is other_is = absurd is
+one-plain law part cut Compare bytes text other Done also is other_is = compared-only law cut bytes text other also is other_is
+one-plain law part cut Compare bytes text other Wrong also is other_is = wrong-pair-only law cut bytes text other also is other_is
+one-plain law part cut Compare bytes text other status also is other_is = absurd is
+one-plain law part cut (Decode word) bytes text other Done Done is other_is = refl
+one-plain law part cut (Decode word) bytes text other Done also is other_is = absurd other_is
+one-plain law part cut (Decode word) bytes text other status also is other_is = absurd is
+one-plain law part cut (Show page) bytes text other Done Done is other_is = refl
+one-plain law part cut (Show page) bytes text other Done also is other_is = absurd other_is
+one-plain law part cut (Show page) bytes text other status also is other_is = absurd is
 
-pub one-status : HasOneVerdict → HasOnePart → (command : Command) (bytes text other : List ℕ) (status also : Status) → Answers command bytes status text → Answers command bytes also other → status ≡ also
-one-status law part (commands.Plain plain) bytes text other status also is other_is = one-plain law part plain bytes text other status also is other_is
-one-status law part (commands.Run run) bytes text other Done also is other_is = ran-only run bytes text other also is other_is
-one-status law part (commands.Run run) bytes text other Refused also is other_is = not-run-only run bytes text other also is other_is
-one-status law part (commands.Run run) bytes text other status also is other_is = absurd is
+pub one-status : HasOneVerdict → HasOnePart → HasOneSplit → (command : Command) (bytes text other : List ℕ) (status also : Status) → Answers command bytes status text → Answers command bytes also other → status ≡ also
+one-status law part cut (commands.Plain plain) bytes text other status also is other_is = one-plain law part cut plain bytes text other status also is other_is
+one-status law part cut (commands.Run run) bytes text other Done also is other_is = ran-only run bytes text other also is other_is
+one-status law part cut (commands.Run run) bytes text other Refused also is other_is = not-run-only run bytes text other also is other_is
+one-status law part cut (commands.Run run) bytes text other status also is other_is = absurd is

@@ -4,6 +4,7 @@ use Rattle.std.specs.Fmt.{decimal}
 use Rattle.acas_base.specs.Encounter.{Parts}
 use Rattle.acas_base.specs.declared.entry.Entry.{Entry}
 use Rattle.acas_lines.specs.Lines.{count_line, joined}
+use Rattle.acas_top.specs.Comparing.{Compares, IsWrongOfTwo}
 use Rattle.acas_top.specs.Counted.{AreSerial, counts_of}
 use Rattle.acas_top.specs.Pages.{page_lines}
 use Rattle.acas_top.specs.Summing.{summed_lines}
@@ -12,7 +13,7 @@ use Rattle.acas_top.specs.declared.status.Status.TheVariants.{Done, Refused, Wro
 use Rattle.acas_top.specs.declared.words.Command.{Command}
 use Rattle.acas_top.specs.declared.words.Command.TheVariants as commands
 use Rattle.acas_top.specs.declared.words.Plain.{Plain}
-use Rattle.acas_top.specs.declared.words.Plain.TheVariants.{Audit, Decode, Gen, Resume, Serial, Show, Sweep, Tell}
+use Rattle.acas_top.specs.declared.words.Plain.TheVariants.{Audit, Compare, Decode, Gen, Resume, Serial, Show, Sweep, Tell}
 use Rattle.acas_top.specs.declared.words.Threaded.{Threaded}
 use Rattle.acas_top.specs.declared.words.Threaded.TheVariants.{Play, Sum}
 use Rattle.acas_top.specs.Sweeping.{Sweeps}
@@ -25,6 +26,7 @@ use Rattle.air_rules.specs.Rules.{IsComplete, IsLegal as IsLegalJournal}
 use Rattle.air_rules.specs.Safe.{IsSafe}
 use Rattle.air_rules.specs.Serial.{IsSerial}
 use Rattle.air_rules.specs.Settled.{IsSettled}
+use Rattle.comparison.specs.Splitting.{IsSplit}
 use Rattle.enc_file.specs.Canonical.{canonical_text}
 use Rattle.enc_file.specs.Codes.{code_number}
 use Rattle.enc_file.specs.Reading.{Says, reading_of}
@@ -120,6 +122,16 @@ pub record IsWrongPart (bytes text : List ℕ) : Type 0 where
   pub is : IsPartLoaded bytes (loaded.Wrong line reason)
   pub text_is : text ≡ verdict_line (verdicts.Wrong line reason)
 
+-- The bytes are no two recordings, and the text says which line is the first wrong one, and why.
+pub record IsWrongPair (bytes text : List ℕ) : Type 0 where
+  pub one : List ℕ
+  pub other : List ℕ
+  pub split : IsSplit bytes one other
+  pub line : ℕ
+  pub reason : Reason
+  pub is : IsWrongOfTwo one other line reason
+  pub text_is : text ≡ verdict_line (verdicts.Wrong line reason)
+
 -- The bytes say an encounter, and the text is the recording of some journal of it.
 pub record PlaysSome (bytes text : List ℕ) : Type 0 where
   pub encounter : Parts
@@ -161,6 +173,9 @@ AnswersPlain (Sweep number count crafts cycles) bytes status text = ⊥
 AnswersPlain Resume bytes Done text = Resumes bytes text
 AnswersPlain Resume bytes Wrong text = IsWrongPart bytes text
 AnswersPlain Resume bytes status text = ⊥
+AnswersPlain Compare bytes Done text = Compares bytes text
+AnswersPlain Compare bytes Wrong text = IsWrongPair bytes text
+AnswersPlain Compare bytes status text = ⊥
 AnswersPlain (Decode word) bytes Done text = text ≡ word_text word
 AnswersPlain (Decode word) bytes status text = ⊥
 AnswersPlain (Show page) bytes Done text = text ≡ joined (page_lines page)

@@ -7,9 +7,10 @@ use Rattle.acas_top.specs.Summing.{summed_lines}
 use Rattle.acas_top.specs.Sweeping.{swept_lines}
 use Rattle.acas_top.specs.Telling.{tool_lines}
 use Rattle.acas_top.specs.declared.answers.Answer.{Answer}
-use Rattle.acas_top.specs.declared.answers.Answer.TheVariants.{Decoded, Judged, Made, Recorded, Refused, Shown, Summed, Swept, Told}
+use Rattle.acas_top.specs.declared.answers.Answer.TheVariants.{Compared, Decoded, Judged, Made, Recorded, Refused, Shown, Summed, Swept, Told}
 use Rattle.acas_top.specs.declared.status.Status.{Status}
 use Rattle.acas_top.specs.declared.status.Status.TheVariants as statuses
+use Rattle.comparison.specs.Comparing.{compared_lines}
 use Rattle.enc_file.specs.Canonical.{canonical_lines}
 use Rattle.rec_audit.specs.declared.verdict.Verdict.{Verdict}
 use Rattle.rec_audit.specs.declared.verdict.Verdict.TheVariants as verdicts
@@ -27,6 +28,7 @@ answer_status (Made encounter) = statuses.Done
 answer_status (Swept swept) = statuses.Done
 answer_status (Told tool state) = statuses.Done
 answer_status (Summed commits counts) = statuses.Done
+answer_status (Compared one other found) = statuses.Done
 answer_status (Decoded word) = statuses.Done
 answer_status (Shown page) = statuses.Done
 answer_status (Judged verdict) = verdict_status verdict
@@ -38,6 +40,7 @@ answer_lines (Made encounter) = canonical_lines encounter
 answer_lines (Swept swept) = swept_lines swept.first swept.count swept.list.items swept.total
 answer_lines (Told tool state) = tool_lines tool state.encounter state.journal
 answer_lines (Summed commits counts) = summed_lines commits counts
+answer_lines (Compared one other found) = compared_lines one other found
 answer_lines (Decoded word) = word_lines word
 answer_lines (Shown page) = page_lines page
 answer_lines (Judged verdict) = verdict_line verdict ∷ []

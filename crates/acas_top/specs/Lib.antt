@@ -4,6 +4,7 @@ pub mod Pages
 pub mod Counted
 pub mod Sweeping
 pub mod Telling
+pub mod Comparing
 pub mod Summing
 pub mod Answers
 pub mod Ends

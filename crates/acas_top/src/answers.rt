@@ -1,9 +1,12 @@
 // The answer to a command: a status and a text.
-ghost use Rattle.std.specs.Prelude.{◌≡◌, ◌≤◌, IfOk, length};
+ghost use Rattle.std.specs.Prelude.{◌≡◌, ℕ, ◌+◌, ◌≤◌, List, IfOk, length};
+ghost use Rattle.acas_lines.specs.Split.{lines_of};
 ghost use Rattle.acas_top.specs.Answers.{AnswersPlain, IsMade};
 ghost use Rattle.acas_top.specs.Given.{IsReadable, answer_status, answer_text};
 ghost use Rattle.acas_top.specs.Words.{IsInRange, plain_limit};
 ghost use Rattle.acas_top.specs.Sweeping.{Sweeps};
+ghost use Rattle.comparison.specs.Splitting.{IsSplit};
+ghost use Rattle.rec_audit.specs.Judging.{IsRecordingOf};
 
 use crate::pages::put_page;
 use crate::refusal::refusal_line;
@@ -16,6 +19,7 @@ use crate::{ENCOUNTER_BYTES, Page, Plain, RECORDING_BYTES, Status, Tool};
 use acas_base::Encounter;
 use acas_lines::{LineSink, Text};
 use air_journal::AirState;
+use comparison::{Comparison, Found, compare, split};
 use enc_file::{CanonicalText, ReadError};
 use enc_gen::make;
 use rec_audit::{Loaded, Verdict, judge, load, load_part};
@@ -38,6 +42,8 @@ pub(crate) enum Answer {
     Swept(Swept),
     /// How many commits a run in threads has, and the counts of the serial run.
     Summed(u32, Counts),
+    /// What differs between two recordings.
+    Compared(AirState, AirState, Found),
     /// What a word says.
     Decoded(u64),
     /// A page about the program.
@@ -59,6 +65,7 @@ impl Answer {
             | Answer::Told(_, _)
             | Answer::Swept(_)
             | Answer::Summed(_, _)
+            | Answer::Compared(_, _, _)
             | Answer::Decoded(_)
             | Answer::Shown(_) => Status::Done,
             Answer::Judged(Verdict::Legal(_)) => Status::Done,
@@ -80,6 +87,7 @@ impl Text for Answer {
             Answer::Told(tool, state) => put_told(*tool, state, sink),
             Answer::Swept(swept) => swept.put(sink),
             Answer::Summed(commits, counts) => put_summed(*commits, counts, sink),
+            Answer::Compared(one, other, found) => Comparison { one, other, found }.put(sink),
             Answer::Decoded(word) => WordText(*word).put(sink),
             Answer::Shown(page) => put_page(*page, sink),
             Answer::Judged(verdict) => sink.line(&verdict_line(*verdict)),
@@ -158,6 +166,44 @@ fn answer_resume(alloc: Global, bytes: &[u8]) -> Result<Answer, AllocError>
     }
 }
 
+// The answer to `compare` after both recordings were loaded.
+fn answer_found(alloc: Global, first: AirState, second: AirState) -> Result<Answer, AllocError>
+    ensures { IfOk result (λ answer. (bytes one other : List ℕ) → IsSplit bytes one other → IsRecordingOf one first → IsRecordingOf other second
+        → AnswersPlain Plain.Compare bytes (answer_status answer) (answer_text answer)) }
+{
+    let found = compare(alloc, &first, &second)?;
+    Ok(Answer::Compared(first, second, found))
+}
+
+// The answer to `compare` after the first recording was loaded. It has `lines` lines.
+fn answer_second(
+    alloc: Global,
+    first: AirState,
+    lines: u32,
+    other: &[u8],
+) -> Result<Answer, AllocError>
+    requires { lines + length other.now ≤ RECORDING_BYTES }
+    ensures { IfOk result (λ answer. (bytes one : List ℕ) → IsSplit bytes one other.now → IsRecordingOf one first → lines ≡ length (lines_of one)
+        → AnswersPlain Plain.Compare bytes (answer_status answer) (answer_text answer)) }
+{
+    match load(alloc, other)? {
+        Loaded::Legal(second) => answer_found(alloc, first, second),
+        Loaded::Wrong(line, reason) => Ok(Answer::Judged(Verdict::Wrong(lines + line, reason))),
+    }
+}
+
+// The answer to `compare`.
+fn answer_compare(alloc: Global, bytes: &[u8]) -> Result<Answer, AllocError>
+    requires { length bytes.now ≤ RECORDING_BYTES }
+    ensures { IfOk result (λ answer. AnswersPlain Plain.Compare bytes.now (answer_status answer) (answer_text answer)) }
+{
+    let two = split(bytes);
+    match load(alloc, two.one)? {
+        Loaded::Legal(first) => answer_second(alloc, first, two.lines, two.other),
+        Loaded::Wrong(line, reason) => Ok(Answer::Judged(Verdict::Wrong(line, reason))),
+    }
+}
+
 /// The answer to a plain command on the bytes that it read. The error says that memory was wanting. All memory is asked
 /// for here.
 pub(crate) fn answer_to<R: Threads + Sync>(
@@ -186,6 +232,7 @@ pub(crate) fn answer_to<R: Threads + Sync>(
             cycles,
         } => answer_sweep(rt, alloc, number, count, crafts, cycles),
         Plain::Resume => answer_resume(alloc, bytes),
+        Plain::Compare => answer_compare(alloc, bytes),
         Plain::Decode { word } => Ok(Answer::Decoded(word)),
         Plain::Show(page) => Ok(Answer::Shown(page)),
     }

@@ -6,7 +6,7 @@ use crate::words::Page;
 use acas_lines::{LineSink, fixed_line};
 
 /// The page that `--help` writes.
-pub(crate) const HELP: [&str; 58] = [
+pub(crate) const HELP: [&str; 59] = [
     "acas plays encounters between aircraft with TCAS II version 7.1.\n",
     "\n",
     "usage: acas WORD [ARGUMENTS] < INPUT > OUTPUT\n",
@@ -30,6 +30,7 @@ pub(crate) const HELP: [&str; 58] = [
     "             closest approach, had each flown with the modelled response.\n",
     "  watch      Writes when two aircraft had advisories in one sense, and why.\n",
     "  why        Writes why each aircraft had each advisory, or had none.\n",
+    "  compare    Reads two recordings, one after the other. Writes what differs.\n",
     "  resume     Reads a recording that was cut, and writes the whole recording.\n",
     "\n",
     "These words read nothing:\n",

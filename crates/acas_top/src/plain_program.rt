@@ -11,6 +11,7 @@ use crate::streams::{put_answer, read_input};
 use crate::words::parse_plain;
 use crate::{Command, Plain, Status};
 use acas_io::{Sink, Source};
+use comparison::split_law;
 use rec_audit::verdict_law;
 use std::alloc::Global;
 use std::thread::Threads;
@@ -24,6 +25,8 @@ use std::thread::Threads;
 ///   line of its verdict.
 /// - `reports`, `response`, `watch`, `why`, `places` and `messages` read a recording, and write a text about it. Where
 ///   the recording is wrong, they write the line of its verdict.
+/// - `compare` reads two recordings, one after the other, and writes what differs between them. Where one of them is
+///   wrong, it writes the line of the verdict.
 /// - `gen NUMBER CRAFTS CYCLES` reads nothing, and writes the encounter that is made from the number.
 /// - `sweep NUMBER COUNT CRAFTS CYCLES` reads nothing. It plays the encounters that are made from COUNT numbers, in as
 ///   many threads as there are processors, and writes the counts of each.
@@ -64,4 +67,5 @@ pub fn one_status_law()
         → Answers command bytes status text → Answers command bytes also other → status ≡ also }
 {
     verdict_law();
+    split_law();
 }

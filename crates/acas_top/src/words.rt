@@ -76,6 +76,8 @@ pub enum Plain {
     },
     /// `resume`: reads a beginning of a recording, and writes the recording of its run, completed.
     Resume,
+    /// `compare`: reads two recordings, one after the other, and writes what differs between them.
+    Compare,
     /// `decode WORD`: reads nothing, and writes what a word of fourteen digits 0-9A-F says.
     Decode {
         word: u64,
@@ -112,7 +114,9 @@ impl Plain {
     {
         match self {
             Plain::Serial => Some(ENCOUNTER_BYTES),
-            Plain::Audit | Plain::Tell(_) | Plain::Resume => Some(RECORDING_BYTES),
+            Plain::Audit | Plain::Tell(_) | Plain::Resume | Plain::Compare => {
+                Some(RECORDING_BYTES)
+            }
             Plain::Gen { .. } | Plain::Sweep { .. } | Plain::Decode { .. } | Plain::Show(_) => None,
         }
     }
@@ -192,6 +196,9 @@ fn of_one(word: &str) -> Option<Plain>
     }
     if word == "resume" {
         return Some(Plain::Resume);
+    }
+    if word == "compare" {
+        return Some(Plain::Compare);
     }
     match tool_of(word) {
         Some(tool) => Some(Plain::Tell(tool)),

@@ -25,9 +25,9 @@ fn tells_its_version(rt: HostRuntime) -> Result<(), Fail> {
 }
 
 // The words that play, read or make something.
-const WORDS: [&str; 14] = [
+const WORDS: [&str; 15] = [
     "serial", "play", "sum", "audit", "reports", "response", "watch", "why", "places", "messages",
-    "resume", "gen", "sweep", "decode",
+    "compare", "resume", "gen", "sweep", "decode",
 ];
 
 // Whether this is the first word of a line of a text.
