@@ -32,8 +32,8 @@ IsSameCycle count journal another cycle = (own other : ℕ) → own < count → 
 abbrev pub AreSameCells : ℕ → ℕ → List Entry → List Entry → Type 0
 AreSameCells cycles count journal another = (cycle : ℕ) → 1 ≤ cycle → cycle ≤ cycles → IsSameCycle count journal another cycle
 
--- The cell at this place differs. All before it are the same: those of earlier cycles; in its cycle those of aircraft with lower
--- indices; and in its commit those for aircraft with lower indices.
+-- The cell at this place differs. All before it are the same: those of earlier cycles; in its cycle those of aircraft
+-- with lower indices; and in its commit those for aircraft with lower indices.
 pub record IsFirstCell (cycles count : ℕ) (journal another : List Entry) (place : CellPlace) : Type 0 where
   pub first : 1 ≤ place.cycle
   pub last : place.cycle ≤ cycles
@@ -69,7 +69,8 @@ abbrev pub found_text : Option Cell → List ℕ
 found_text None = []
 found_text (Some cell) = cell_text cell
 
--- The cycle, the aircraft and the one that the cell is for; then the position of the commit and the cell, for both journals.
+-- The cycle, the aircraft and the one that the cell is for; then the position of the commit and the cell, for both
+-- journals.
 abbrev pub cell_line : Parts → List Entry → List Entry → CellPlace → List ℕ
 cell_line e journal another place = line_of (
     codes "cell"

@@ -7,7 +7,8 @@ use Rattle.acas_base.specs.declared.craft.CraftSpec.{CraftSpec}
 abbrev pub without_ceiling : CraftSpec → CraftSpec
 without_ceiling craft = record craft { ceiling = None }
 
--- The lines `run` and `craft` of both say the same. So both have as many cycles and the same aircraft, in the same order.
+-- The lines `run` and `craft` of both say the same. So both have as many cycles and the same aircraft, in the same
+-- order.
 pub record AreAlike (e f : Parts) : Type 0 where
   pub cycles : e.cycles ≡ f.cycles
   pub elevation : e.elevation ≡ f.elevation

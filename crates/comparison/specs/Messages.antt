@@ -19,8 +19,8 @@ abbrev pub is_message : Option Sent → ℕ → ℕ → ℕ → Bool
 is_message None sender receiver of_number = false
 is_message (Some sent) sender receiver of_number = sent.sender == sender && (sent.receiver == receiver && sent.number == of_number)
 
--- Whether a copy of a message was good, by the entries that took it; none where it wasn't taken. A take names a send by its
--- position, at which `at` says what was sent.
+-- Whether a copy of a message was good, by the entries that took it; none where it wasn't taken. A take names a send by
+-- its position, at which `at` says what was sent.
 abbrev pub result_by : (ℕ → Option Sent) → List Entry → ℕ → ℕ → ℕ → ℕ → Option Bool
 result_by at [] sender receiver of_number of_copy = None
 result_by at (Commit own cycle cells ∷ earlier) sender receiver of_number of_copy = result_by at earlier sender receiver of_number of_copy

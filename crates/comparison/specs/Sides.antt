@@ -9,6 +9,7 @@ abbrev pub side_text : Side → List ℕ
 side_text One = codes "one,"
 side_text Other = codes "other,"
 
--- Lines that a side has, each behind the word of the side.
+-- Lines that a side has, each behind the word of the side. The word is a part of its own, without a line feed, so both
+-- make one line of the text.
 abbrev pub told : Side → List (List ℕ) → List (List ℕ)
 told side lines = flat_map (λ line. side_text side ∷ line ∷ []) lines

@@ -1,7 +1,8 @@
 //! What differs between two recordings, wherever their entries stand.
 //!
-//! The encounters are compared by their texts, the cells by cycle and aircraft, the reports commit by commit, and the messages
-//! by sender, receiver and number. So two orders of entries of one run are told apart only where something else differs.
+//! The encounters are compared by their texts, the cells by cycle and aircraft, the reports commit by commit, and the
+//! messages by sender, receiver and number. So two orders of entries of one run are told apart only where something
+//! else differs.
 #![tactic(auto)]
 
 mod alike;

@@ -17,8 +17,8 @@ const NUMBERS: usize = 600;
 // The most copies of a message.
 const COPIES: usize = 3;
 
-// What a journal says of each message that an encounter can have: its word, where it was sent; and of each copy whether it was
-// good, where it was taken.
+// What a journal says of each message that an encounter can have: its word, where it was sent; and of each copy whether
+// it was good, where it was taken.
 #[derive(Drop)]
 struct Tables {
     words: Vec<Option<u64>>,
@@ -133,7 +133,8 @@ fn no_results(alloc: Global, count: usize) -> Result<Vec<Option<bool>>, AllocErr
     Ok(results)
 }
 
-// The tables of a journal. They take memory by the messages that an encounter can have, and none by the number of entries.
+// The tables of a journal. They take memory by the messages that an encounter can have, and none by the number of
+// entries.
 fn tables_of(alloc: Global, state: &AirState) -> Result<Tables, AllocError>
     ensures { IfOk result (λ tables. AreTables (sent_at state.now.journal) state.now.journal tables.words.items tables.results.items) }
 {

@@ -84,8 +84,8 @@ fn address_of(encounter: &Encounter, index: u8) -> u32
     }
 }
 
-/// The line of a cell that differs: the cycle, the aircraft and the one that the cell is for, and then the position of the commit
-/// and the cell in each journal.
+/// The line of a cell that differs: the cycle, the aircraft and the one that the cell is for, and then the position of
+/// the commit and the cell in each journal.
 pub(crate) fn cell_line(one: &AirState, other: &AirState, place: CellPlace) -> Line
     ensures { result ≡ cell_line one.now.encounter one.now.journal other.now.journal place }
 {
