@@ -103,8 +103,8 @@ fn first_in(text: &[u8], other: &Encounter) -> Option<usize>
     None
 }
 
-/// How many lines stand before the first one that differs in the canonical texts of two encounters; none where none does.
-/// It takes memory for one of these texts.
+/// How many lines stand before the first one that differs in the canonical texts of two encounters; none where none
+/// does. It takes memory for one of these texts.
 pub(crate) fn first_difference(
     alloc: Global,
     one: &Encounter,

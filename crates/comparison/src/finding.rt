@@ -76,8 +76,8 @@ fn compare_where_alike(
 
 /// Compares two states of the air, whose journals may have their entries in any order.
 ///
-/// It takes memory for the text of one of the encounters, and for as many messages as an encounter can have; and none by
-/// the number of entries. It takes time linear in the two recordings.
+/// It takes memory for the text of one of the encounters, and for as many messages as an encounter can have; and none
+/// by the number of entries. It takes time linear in the two recordings.
 pub fn compare(alloc: Global, one: &AirState, other: &AirState) -> Result<Found, AllocError>
     ensures { IfOk result (IsFound one.now other.now) }
 {

@@ -6,8 +6,8 @@ ghost use Rattle.comparison.specs.declared.finding.Found.{Found};
 
 use air_journal::AirState;
 
-/// A law: what is found says that nothing differs exactly where the encounters are equal, all cells, the reports commit by
-/// commit and all messages.
+/// A law: what is found says that nothing differs exactly where the encounters are equal, all cells, the reports commit
+/// by commit and all messages.
 pub fn equal_law(one: &AirState, other: &AirState)
     ensures { (found : Found) → IsFound one.now other.now found → IsTrue (is_equal found) ↔ AreEqual one.now other.now }
 {

@@ -7,8 +7,8 @@ use crate::sides::{Side, put_told};
 use acas_lines::{LineSink, Text};
 use acas_text::Line;
 
-// Hands on one of the lines that it takes, behind the word of a side: the one before which so many stand. None is looked
-// for any more once it was there.
+// Hands on one of the lines that it takes, behind the word of a side: the one before which so many stand. None is
+// looked for any more once it was there.
 #[derive(Drop)]
 struct Picking<'a, S: LineSink> {
     sink: &'a mut S,

@@ -12,7 +12,8 @@ const RUN: &[u8] = b"recording,1\nencounter,1\nrun,3,0\n";
 
 const HIGHER_GROUND: &[u8] = b"recording,1\nencounter,1\nrun,3,1\n";
 
-const TWO: &[u8] = b"gains,683,256,512,128\ncraft,400A01,RA,0,0,35000\ncraft,400B02,RA,40000,0,35000\nleg,400A01,1,760,0,0\nleg,400B02,1,-760,0,0\n";
+const TWO: &[u8] =
+    b"gains,683,256,512,128\ncraft,400A01,RA,0,0,35000\ncraft,400B02,RA,40000,0,35000\nleg,400A01,1,760,0,0\nleg,400B02,1,-760,0,0\n";
 
 const END: &[u8] = b"end\njournal,14\nc,0,1,-,-\nc,1,1,-,-\n";
 
@@ -22,50 +23,90 @@ const FIRST_LOST: &[u8] = b"fate,400A01,400B02,1\nend\njournal,13\nc,0,1,-,-\nc,
 const SECOND_LOST: &[u8] = b"fate,400A01,400B02,2\nend\njournal,13\nc,0,1,-,-\nc,1,1,-,-\n";
 
 // The cycles 2 and 3.
-const SERIAL: &[u8] = b"c,0,2,-,U5.1c\nc,1,2,U5.1c,-\ns,0,1,1,30080007400A01\ns,1,0,1,30080007400B02\nt,0,5,0,g\nt,1,4,0,g\nc,0,3,-,U6.2c\nc,1,3,D5.2cx,-\ns,0,1,2,30080007400A01\ns,1,0,2,30240003400B02\nt,0,11,0,g\nt,1,10,0,g\n";
+const SERIAL: &[u8] =
+    b"c,0,2,-,U5.1c\nc,1,2,U5.1c,-\ns,0,1,1,30080007400A01\ns,1,0,1,30080007400B02\nt,0,5,0,g\nt,1,4,0,g\nc,0,3,-,U6.2c\nc,1,3,D5.2cx,-\ns,0,1,2,30080007400A01\ns,1,0,2,30240003400B02\nt,0,11,0,g\nt,1,10,0,g\n";
 
 // The commits of cycle 2 and the first two sends change places.
-const OTHER_ORDER: &[u8] = b"c,1,2,U5.1c,-\nc,0,2,-,U5.1c\ns,1,0,1,30080007400B02\ns,0,1,1,30080007400A01\nt,0,4,0,g\nt,1,5,0,g\nc,0,3,-,U6.2c\nc,1,3,D5.2cx,-\ns,0,1,2,30080007400A01\ns,1,0,2,30240003400B02\nt,0,11,0,g\nt,1,10,0,g\n";
+const OTHER_ORDER: &[u8] =
+    b"c,1,2,U5.1c,-\nc,0,2,-,U5.1c\ns,1,0,1,30080007400B02\ns,0,1,1,30080007400A01\nt,0,4,0,g\nt,1,5,0,g\nc,0,3,-,U6.2c\nc,1,3,D5.2cx,-\ns,0,1,2,30080007400A01\ns,1,0,2,30240003400B02\nt,0,11,0,g\nt,1,10,0,g\n";
 
-const UNTOLD_FIRST: &[u8] = b"c,0,2,-,U5.1c\nc,1,2,U5.1c,-\ns,0,1,1,30080007400A01\ns,1,0,1,30080007400B02\nt,0,5,0,g\nc,0,3,-,U6.2c\nc,1,3,U6.2c,-\ns,0,1,2,30080007400A01\ns,1,0,2,30080007400B02\nt,0,10,0,g\nt,1,9,0,g\n";
+const UNTOLD_FIRST: &[u8] =
+    b"c,0,2,-,U5.1c\nc,1,2,U5.1c,-\ns,0,1,1,30080007400A01\ns,1,0,1,30080007400B02\nt,0,5,0,g\nc,0,3,-,U6.2c\nc,1,3,U6.2c,-\ns,0,1,2,30080007400A01\ns,1,0,2,30080007400B02\nt,0,10,0,g\nt,1,9,0,g\n";
 
-const UNTOLD_LAST: &[u8] = b"c,0,2,-,U5.1c\nc,1,2,U5.1c,-\ns,0,1,1,30080007400A01\ns,1,0,1,30080007400B02\nt,0,5,0,g\nt,1,4,0,g\nc,0,3,-,U6.2c\nc,1,3,D5.2cx,-\ns,0,1,2,30080007400A01\ns,1,0,2,30240003400B02\nt,0,11,0,g\n";
+const UNTOLD_LAST: &[u8] =
+    b"c,0,2,-,U5.1c\nc,1,2,U5.1c,-\ns,0,1,1,30080007400A01\ns,1,0,1,30080007400B02\nt,0,5,0,g\nt,1,4,0,g\nc,0,3,-,U6.2c\nc,1,3,D5.2cx,-\ns,0,1,2,30080007400A01\ns,1,0,2,30240003400B02\nt,0,11,0,g\n";
 
-const REPORT: &[u8] = b"report,4\nr,2,400A01,UP-CLIMB,Climb climb\nr,2,400B02,UP-CLIMB,Climb climb\nr,3,400A01,UP-INCREASE,Increase climb\nr,3,400B02,DOWN-DESCEND,Descend descend NOW\nclose\n";
+const REPORT: &[u8] =
+    b"report,4\nr,2,400A01,UP-CLIMB,Climb climb\nr,2,400B02,UP-CLIMB,Climb climb\nr,3,400A01,UP-INCREASE,Increase climb\nr,3,400B02,DOWN-DESCEND,Descend descend NOW\nclose\n";
 
-const REPORT_OF_BOTH_UP: &[u8] = b"report,4\nr,2,400A01,UP-CLIMB,Climb climb\nr,2,400B02,UP-CLIMB,Climb climb\nr,3,400A01,UP-INCREASE,Increase climb\nr,3,400B02,UP-INCREASE,Increase climb\nclose\n";
+const REPORT_OF_BOTH_UP: &[u8] =
+    b"report,4\nr,2,400A01,UP-CLIMB,Climb climb\nr,2,400B02,UP-CLIMB,Climb climb\nr,3,400A01,UP-INCREASE,Increase climb\nr,3,400B02,UP-INCREASE,Increase climb\nclose\n";
 
 // The parts of two recordings, and what differs between them.
 type Compared = ([&'static [u8]; 10], &'static [u8]);
 
 const COMPARED: [Compared; 5] = [
     (
+        [RUN, TWO, END, SERIAL, REPORT, RUN, TWO, END, SERIAL, REPORT],
+        b"compare,equal\n",
+    ),
+    (
         [
-            RUN, TWO, END, SERIAL, REPORT, RUN, TWO, END, SERIAL, REPORT,
+            RUN,
+            TWO,
+            END,
+            SERIAL,
+            REPORT,
+            RUN,
+            TWO,
+            END,
+            OTHER_ORDER,
+            REPORT,
         ],
         b"compare,equal\n",
     ),
     (
         [
-            RUN, TWO, END, SERIAL, REPORT, RUN, TWO, END, OTHER_ORDER, REPORT,
-        ],
-        b"compare,equal\n",
-    ),
-    (
-        [
-            RUN, TWO, END, SERIAL, REPORT, HIGHER_GROUND, TWO, END, SERIAL, REPORT,
+            RUN,
+            TWO,
+            END,
+            SERIAL,
+            REPORT,
+            HIGHER_GROUND,
+            TWO,
+            END,
+            SERIAL,
+            REPORT,
         ],
         b"compare,different\nencounter,different\none,run,3,0\nother,run,3,1\n",
     ),
     (
         [
-            RUN, TWO, END, SERIAL, REPORT, RUN, TWO, SECOND_LOST, UNTOLD_LAST, REPORT,
+            RUN,
+            TWO,
+            END,
+            SERIAL,
+            REPORT,
+            RUN,
+            TWO,
+            SECOND_LOST,
+            UNTOLD_LAST,
+            REPORT,
         ],
         b"compare,different\nencounter,different\none,end\nother,fate,400A01,400B02,2\ncells,equal\nreport,equal\nmessages,different\n",
     ),
     (
         [
-            RUN, TWO, END, SERIAL, REPORT, RUN, TWO, FIRST_LOST, UNTOLD_FIRST, REPORT_OF_BOTH_UP,
+            RUN,
+            TWO,
+            END,
+            SERIAL,
+            REPORT,
+            RUN,
+            TWO,
+            FIRST_LOST,
+            UNTOLD_FIRST,
+            REPORT_OF_BOTH_UP,
         ],
         b"compare,different\nencounter,different\none,end\nother,fate,400A01,400B02,1\ncells,different\nreport,different\nmessages,different\ncell,3,400B02,400A01,9,D5.2cx,8,U6.2c\none,r,3,400B02,DOWN-DESCEND,Descend descend NOW\nother,r,3,400B02,UP-INCREASE,Increase climb\n",
     ),
