@@ -1,5 +1,5 @@
 -- The line that is told of a wrong recording is one of its lines, or the next one after them.
-use Rattle.std.proofs.Common.{◌≡◌, ℕ, ◌+◌, ◌<◌, ◌≤◌, List, [], ◌∷◌, ◌++◌, length, length-append, map, take, reverse, sym, ap, ◌∙◌, arith, inl, inr}
+use Rattle.std.proofs.Common.{◌≡◌, ℕ, ◌+◌, ◌≤◌, List, ◌∷◌, length, length-append, take, reverse, sym, ap, ◌∙◌, arith, inl, inr}
 use Rattle.std.proofs.lemmas.Bool.{cases_lt}
 use Rattle.std.proofs.lemmas.List.{length-map, length-reverse, length-take, take_all}
 use Rattle.std.proofs.lemmas.Option.{slice_get_past}
@@ -12,9 +12,10 @@ use Rattle.enc_file.specs.Canonical.{canonical_lines}
 use Rattle.rec_audit.specs.Differing.{DifferAt}
 use Rattle.rec_audit.specs.Judging.{IsWrong, IsWrongAfter, after_opening, at_opening, incomplete, other_end, too_few, wrong_entry}
 use Rattle.rec_audit.specs.Opening.{IsCut, IsWrongAfterHead, IsWrongOpening, IsWrongPart, Opens, no_count, no_end, no_head, not_canonical, refused, wrong_after_head, wrong_part}
-use Rattle.rec_audit.specs.Replays.{Replays, StopsAt}
+use Rattle.rec_audit.specs.Replays.{Replays}
 use Rattle.rec_audit.specs.declared.verdict.Reason.{Reason}
 use Rattle.rec_text.specs.Entries.{entry_line, entry_lines}
+use Rattle.rec_text.specs.Recording.{journal_line}
 
 long : (count : ℕ) (journal : List Entry) → length (entry_lines count journal) ≡ length journal
 long count journal = length-map (reverse journal) (entry_line count) ∙ length-reverse journal
@@ -31,23 +32,25 @@ differ-within same one two d = elim (cases_lt (length one) same) [
   | inr within ↦ omega (arith, within)
 ]
 
+opened : (e : Parts) (count : ℕ) (lines rest : List (List ℕ)) → Opens e count lines rest → length lines ≡ length (canonical_lines e) + length rest + 2
+opened e count lines rest o =
+    let all = ap length o.begins in
+    let parts = length-append (canonical_lines e) (journal_line count ∷ rest) in
+    omega (arith, all, parts)
+
 after-within : (e : Parts) (count : ℕ) (lines rest : List (List ℕ)) (line : ℕ) (reason : Reason) → Opens e count lines rest → IsWrongAfter e count rest line reason → line ≤ length lines + 1
 after-within e count lines rest line reason o (wrong_entry s before) =
-    let opened = ap length o.begins ∙ ap (λ n. 1 + n) (length-append (canonical_lines e) _) in
     let here = replayed (air_of e) rest _ _ s.replays in
-    omega (arith, opened, here, s.after)
+    omega (arith, opened e count lines rest o, here, s.after)
 after-within e count lines rest line reason o (too_few r few) =
-    let opened = ap length o.begins ∙ ap (λ n. 1 + n) (length-append (canonical_lines e) _) in
     let here = replayed (air_of e) rest _ _ r in
-    omega (arith, opened, here)
+    omega (arith, opened e count lines rest o, here)
 after-within e count lines rest line reason o (incomplete r is not) =
-    let opened = ap length o.begins ∙ ap (λ n. 1 + n) (length-append (canonical_lines e) _) in
     let here = replayed (air_of e) rest _ _ r in
-    omega (arith, opened, here, is)
+    omega (arith, opened e count lines rest o, here, is)
 after-within e count lines rest line reason o (other_end r is whole differ) =
-    let opened = ap length o.begins ∙ ap (λ n. 1 + n) (length-append (canonical_lines e) _) in
     let here = replayed (air_of e) rest _ _ r in
-    omega (arith, opened, here, is, differ-within _ _ _ differ)
+    omega (arith, opened e count lines rest o, here, is, differ-within _ _ _ differ)
 
 part-within : (lines part rest : List (List ℕ)) (line : ℕ) (reason : Reason) → IsCut lines part rest → IsWrongPart part rest line reason → line ≤ length lines + 2
 part-within lines part rest line reason cut (refused refusal is) = omega arith
