@@ -1,5 +1,6 @@
 // Whole runs, and what their tests share.
 mod answered;
+mod compared;
 mod faults;
 mod judged;
 mod pages;

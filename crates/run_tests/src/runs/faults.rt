@@ -116,7 +116,7 @@ fn tells_faults(rt: HostRuntime) -> Result<(), Fail> {
 }
 
 // Words that are no command, by their number, by a word, or by a number out of its range.
-const NO_COMMANDS: [&str; 22] = [
+const NO_COMMANDS: [&str; 25] = [
     "",
     "serial now",
     "play 1",
@@ -135,6 +135,9 @@ const NO_COMMANDS: [&str; 22] = [
     "sweep 7 1 1 121",
     "sweep 4294967296 1 1 1",
     "sweep 7 01 1 1",
+    "decode",
+    "decode 30240003400b02",
+    "compare compare",
     "--help serial",
     "--version 1",
     "-v",
