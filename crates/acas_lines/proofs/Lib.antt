@@ -1,3 +1,4 @@
 pub mod Splitting
 pub mod Counted
 pub mod Ranges
+pub mod FirstLine

@@ -1,5 +1,5 @@
 -- Lines that are put together, and texts that are split.
-use Rattle.std.proofs.Common.{◌≡◌, ◌≢◌, ℕ, Bool, true, false, cond, eqb, List, [], ◌∷◌, ◌++◌, refl, sym, ap, ◌∙◌, append_assoc, eqb-true, ◌⊎◌, inl, inr}
+use Rattle.std.proofs.Common.{◌≡◌, ◌≢◌, ℕ, ◌≤◌, Bool, true, false, cond, eqb, List, [], ◌∷◌, ◌++◌, length, refl, sym, ap, ◌∙◌, append_assoc, arith, eqb-true, ◌⊎◌, inl, inr}
 use Rattle.std.specs.List.{AllByRecursion, onto_first}
 use Rattle.acas_lines.specs.Split.{lines_of, IsLine}
 use Rattle.acas_lines.specs.Lines.{joined}
@@ -44,3 +44,29 @@ joined-split (c ∷ cs) = elim (cond-cases (eqb c 10) ((10 ∷ []) ∷ lines_of 
   | inl e ↦ ap joined (e.1) ∙ ap (λ d. d ∷ joined (lines_of cs)) (sym (eqb-true c 10 e.0)) ∙ ap (λ t. c ∷ t) (joined-split cs)
   | inr e ↦ ap joined e ∙ joined-onto c (lines_of cs) ∙ ap (λ t. c ∷ t) (joined-split cs)
 ]
+
+onto-few : (c : ℕ) (cs : List ℕ) (lines : List (List ℕ)) → length lines ≤ length cs → length (onto_first c lines) ≤ length (c ∷ cs)
+onto-few c cs [] h = omega arith
+onto-few c cs (l ∷ ls) h = omega arith
+
+cond-few : (b : Bool) (c : ℕ) (cs : List ℕ) (lines : List (List ℕ)) → length lines ≤ length cs → length (cond b ((10 ∷ []) ∷ lines) (onto_first c lines)) ≤ length (c ∷ cs)
+cond-few true c cs lines h = omega arith
+cond-few false c cs lines h = onto-few c cs lines h
+
+-- Each line has a byte.
+pub few-lines : (bytes : List ℕ) → length (lines_of bytes) ≤ length bytes
+few-lines [] = omega arith
+few-lines (c ∷ cs) = cond-few (eqb c 10) c cs (lines_of cs) (few-lines cs)
+
+-- A text with a byte has a line.
+some-onto : (c : ℕ) (lines : List (List ℕ)) → onto_first c lines ≢ []
+some-onto c [] = λ e. absurd cc
+some-onto c (l ∷ ls) = λ e. absurd cc
+
+pub some-cond : (b : Bool) (c : ℕ) (lines : List (List ℕ)) → cond b ((10 ∷ []) ∷ lines) (onto_first c lines) ≢ []
+some-cond true c lines = λ e. absurd cc
+some-cond false c lines = some-onto c lines
+
+pub some-line : (bytes : List ℕ) → lines_of bytes ≡ [] → bytes ≡ []
+some-line [] e = refl
+some-line (c ∷ cs) e = absurd (some-cond (eqb c 10) c (lines_of cs) e)

@@ -3,3 +3,4 @@ pub mod Split
 pub mod Gathering
 pub mod Gathered
 pub mod Counting
+pub mod Differing

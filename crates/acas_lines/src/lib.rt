@@ -11,5 +11,5 @@ mod writer;
 pub use counting::count_lines;
 pub use lines::{LineSink, Text};
 pub use plain::{count_line, fixed_line};
-pub use split::split_law;
+pub use split::{first_line_len, split_law};
 pub use writer::write_text;

@@ -11,4 +11,4 @@ mod line;
 
 pub use decimal::{parse, parse_within};
 pub use hexadecimal::parse_hex;
-pub use line::{ADDRESS_BYTES, I32_BYTES, LINE_BYTES, Line, U16_BYTES, U32_BYTES};
+pub use line::{ADDRESS_BYTES, I32_BYTES, LINE_BYTES, Line, TENTHS_BYTES, U16_BYTES, U32_BYTES};

@@ -2,6 +2,7 @@
 ghost use Rattle.std.specs.Prelude.{◌≡◌, ◌+◌, ◌≤◌, ◌<◌, ◌^◌, ◌∷◌, ◌++◌, [], length};
 ghost use Rattle.std.specs.Fmt.{decimal, signed_decimal};
 ghost use Rattle.std.specs.Str.Parse.{digits_value};
+ghost use Rattle.acas_text.specs.Fields.{if_any, mark, with_point};
 ghost use Rattle.acas_text.specs.Hex.{hex};
 
 use crate::decimal::count_digits;
@@ -20,6 +21,9 @@ pub const U32_BYTES: usize = 10;
 
 /// The most bytes that `Line::i32` adds.
 pub const I32_BYTES: usize = 11;
+
+/// The most bytes that `Line::tenths` adds: a sign, a number, the point and a digit.
+pub const TENTHS_BYTES: usize = 2 + U32_BYTES + U16_BYTES;
 
 /// The bytes that `Line::address` adds.
 pub const ADDRESS_BYTES: usize = 6;
@@ -90,6 +94,21 @@ impl Line {
         self.number(u64::from(value.unsigned_abs()));
     }
 
+    /// Adds a number of tenths, with one digit after the point.
+    pub fn tenths(&mut self, tenths: i32)
+        requires { length self.old + TENTHS_BYTES ≤ LINE_BYTES }
+        ensures added { self.new ≡ self.old ++ with_point tenths }
+        ensures short { length self.new ≤ length self.old + TENTHS_BYTES }
+    {
+        if tenths < 0 {
+            self.text("-");
+        }
+        let size = tenths.unsigned_abs();
+        self.u32(size / 10);
+        self.text(".");
+        self.u16((size % 10) as u16);
+    }
+
     /// Adds the number of an address, in six hexadecimal digits 0-9A-F.
     pub fn address(&mut self, value: u32)
         requires fits { value < 2 ^ 24 }
@@ -155,6 +174,37 @@ impl Line {
     {
         self.push(b',');
         self.i32(value);
+    }
+
+    /// Adds a comma and a number of tenths, with one digit after the point.
+    pub fn tenths_field(&mut self, tenths: i32)
+        requires { length self.old + 1 + TENTHS_BYTES ≤ LINE_BYTES }
+        ensures added { self.new ≡ self.old ++ 44 ∷ with_point tenths }
+        ensures short { length self.new ≤ length self.old + 1 + TENTHS_BYTES }
+    {
+        self.push(b',');
+        self.tenths(tenths);
+    }
+
+    /// Adds a comma, and a number of tenths where there is one.
+    pub fn tenths_field_if_any(&mut self, tenths: Option<i32>)
+        requires { length self.old + 1 + TENTHS_BYTES ≤ LINE_BYTES }
+        ensures added { self.new ≡ self.old ++ 44 ∷ if_any with_point tenths }
+        ensures short { length self.new ≤ length self.old + 1 + TENTHS_BYTES }
+    {
+        match tenths {
+            Some(tenths) => self.tenths_field(tenths),
+            None => self.text(","),
+        }
+    }
+
+    /// Adds a comma, and 1 where something holds, else 0.
+    pub fn mark_field(&mut self, holds: bool)
+        requires { length self.old + 2 ≤ LINE_BYTES }
+        ensures added { self.new ≡ self.old ++ 44 ∷ mark holds }
+        ensures longer { length self.new ≡ length self.old + 2 }
+    {
+        self.text_field(if holds { "1" } else { "0" });
     }
 
     /// Adds a comma and the number of an address, in six hexadecimal digits 0-9A-F.

@@ -9,7 +9,7 @@ use Rattle.acas_base.specs.declared.entry.Entry.{Entry}
 use Rattle.air_journal.specs.Airs.{air_of}
 use Rattle.air_rules.specs.Air.{Air}
 use Rattle.enc_file.specs.Canonical.{canonical_lines}
-use Rattle.rec_audit.specs.Differing.{DifferAt}
+use Rattle.acas_lines.specs.Differing.{DifferAt}
 use Rattle.rec_audit.specs.Judging.{IsWrong, IsWrongAfter, after_opening, at_opening, incomplete, other_end, too_few, wrong_entry}
 use Rattle.rec_audit.specs.Opening.{IsCut, IsWrongAfterHead, IsWrongOpening, IsWrongPart, Opens, no_count, no_end, no_head, not_canonical, refused, wrong_after_head, wrong_part}
 use Rattle.rec_audit.specs.Replays.{Replays}

@@ -3,3 +3,4 @@ pub mod Composite
 pub mod Phrases
 pub mod Report
 pub mod Stretches
+pub mod Words

@@ -3,11 +3,12 @@ use Rattle.std.proofs.Common.{◌≡◌, ◌≢◌, ℕ, ◌+◌, ◌-◌, ◌<�
 use Rattle.std.specs.List.{AllByRecursion}
 use Rattle.std.proofs.lemmas.List.{append-nil, length-drop, length-take-le, take_all}
 use Rattle.std.proofs.Math.Seq.{drop-append_seam, take-append_seam}
-use Rattle.acas_lines.specs.Split.{IsLine, lines_of}
+use Rattle.acas_lines.specs.Split.{IsFirstLine, IsLine, lines_of}
 use Rattle.acas_lines.specs.Lines.{joined}
+use Rattle.acas_lines.proofs.Splitting.{few-lines, split-joined}
 use Rattle.rec_text.specs.Recording.{close_line}
-use Rattle.comparison.proofs.Fronts.{each-append, few-lines, joined-append, lines-joined}
-use Rattle.comparison.specs.Splitting.{HasNoClose, IsFirstLine, IsSplit}
+use Rattle.comparison.proofs.Fronts.{each-append, joined-append}
+use Rattle.comparison.specs.Splitting.{HasNoClose, IsSplit}
 
 -- The bytes up to a place are lines of which none is the close.
 pub record IsRead (bytes : List ℕ) (at lines : ℕ) : Type 0 where
@@ -115,7 +116,7 @@ cut-here bytes at lines line r is =
     let one : take at bytes ≡ joined all = ap (λ (n : ℕ). take n bytes) r.at_is ∙ ap (take (length (joined all))) r.bytes_are ∙ take-append_seam (joined all) r.rest in
     let other : drop at bytes ≡ r.rest = ap (λ (n : ℕ). drop n bytes) r.at_is ∙ ap (drop (length (joined all))) r.bytes_are ∙ drop-append_seam (joined all) r.rest in
     let line_whole : IsLine line = subst IsLine (sym is) close-whole in
-    let lines_are : lines_of (take at bytes) ≡ all = ap lines_of one ∙ lines-joined all (each-append IsLine r.front (line ∷ []) r.before (line_whole, tt)) in
+    let lines_are : lines_of (take at bytes) ≡ all = ap lines_of one ∙ split-joined all (each-append IsLine r.front (line ∷ []) r.before (line_whole, tt)) in
     record {
       split = record {
         bytes_are = r.bytes_are ∙ ap (λ t. t ++ r.rest) (sym one) ∙ ap (λ t. take at bytes ++ t) (sym other);

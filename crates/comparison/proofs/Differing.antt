@@ -4,11 +4,12 @@ use Rattle.std.specs.Prelude.{slice_get}
 use Rattle.std.specs.List.{AllByRecursion, count_by}
 use Rattle.std.proofs.lemmas.List.{append-nil}
 use Rattle.std.proofs.Math.Seq.{take-append_seam}
-use Rattle.acas_lines.proofs.Splitting.{joined-split}
+use Rattle.acas_lines.specs.Differing.{DifferAt}
 use Rattle.acas_lines.specs.Split.{IsLine, lines_of}
 use Rattle.acas_lines.specs.Lines.{joined}
-use Rattle.comparison.proofs.Fronts.{count-lines, each-front, is_feed, lines-behind, lines-joined, some-line}
-use Rattle.comparison.specs.Texts.{Compares, DifferAt, StoppedIn}
+use Rattle.acas_lines.proofs.Splitting.{joined-split, some-line, split-joined}
+use Rattle.comparison.proofs.Fronts.{count-lines, each-front, is_feed, lines-behind}
+use Rattle.comparison.specs.Texts.{Compares, StoppedIn}
 
 -- ---- one line
 
@@ -61,7 +62,7 @@ feeds text rest front whole e = ap (count_by is_feed) (read-is text (joined fron
 
 -- The lines of a text whose front is made of whole lines.
 lines-are : (text rest : List ℕ) (lines front : List (List ℕ)) → AllByRecursion IsLine lines → AllByRecursion IsLine front → text ≡ joined lines → text ≡ joined front ++ rest → lines ≡ front ++ lines_of rest
-lines-are text rest lines front whole some is e = sym (lines-joined lines whole) ∙ ap lines_of (sym is ∙ e) ∙ lines-behind front rest some
+lines-are text rest lines front whole some is e = sym (split-joined lines whole) ∙ ap lines_of (sym is ∙ e) ∙ lines-behind front rest some
 
 pub differ-stopped : (text rest : List ℕ) (one other : List (List ℕ)) → AllByRecursion IsLine one → AllByRecursion IsLine other → text ≡ joined one → StoppedIn text rest other → DifferAt (count_by is_feed (read_of text rest)) one other
 differ-stopped text rest one other whole also is s =

@@ -1,16 +1,8 @@
 -- Two recordings, one after the other.
-use Rattle.std.specs.Prelude.{◌≡◌, ◌≢◌, ◌⊎◌, ℕ, ◌<◌, List, [], ◌∷◌, ◌++◌, length}
+use Rattle.std.specs.Prelude.{◌≡◌, ◌≢◌, ◌⊎◌, ℕ, List, [], ◌∷◌, ◌++◌}
 use Rattle.std.specs.List.{AllByRecursion}
-use Rattle.acas_lines.specs.Split.{IsLine, lines_of}
+use Rattle.acas_lines.specs.Split.{lines_of}
 use Rattle.rec_text.specs.Recording.{close_line}
-
--- The first line of a text. It ends with its line feed, or nothing stands behind it.
-pub record IsFirstLine (text line : List ℕ) : Type 0 where
-  pub some : 0 < length line
-  pub rest : List ℕ
-  pub text_is : text ≡ line ++ rest
-  pub lines_are : lines_of text ≡ line ∷ lines_of rest
-  pub whole : IsLine line ⊎ (rest ≡ [])
 
 -- No line is the close.
 abbrev pub HasNoClose : List (List ℕ) → Type 0

@@ -4,12 +4,8 @@ use Rattle.std.specs.Prelude.{MatchBool, MatchOption, Result, Ok, Err, MatchResu
 use Rattle.std.proofs.lemmas.Bool.{both_ways}
 use Rattle.std.proofs.lemmas.List.{append-nil}
 use Rattle.std.proofs.lemmas.List.Concat.{flat_map-append}
+use Rattle.acas_lines.specs.Differing.{DifferAt}
 use Rattle.acas_lines.specs.Lines.{joined}
-
--- The first so many lines are the same, and the next one differs, or stands in one text alone.
-pub record DifferAt (count : ℕ) (one other : List (List ℕ)) : Type 0 where
-  pub front : take count one ≡ take count other
-  pub here : slice_get one count ≢ slice_get other count
 
 -- How many lines stand before the first one that differs; none where none does.
 abbrev pub IsFirstDifference : List (List ℕ) → List (List ℕ) → Option ℕ → Type 0

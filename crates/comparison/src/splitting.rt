@@ -1,12 +1,10 @@
 // Two recordings, one after the other.
-ghost use Rattle.std.specs.Prelude.{◌≡◌, ◌≢◌, ◌-◌, ◌<◌, ◌≤◌, ◌^◌, MatchBool, length, take};
+ghost use Rattle.std.specs.Prelude.{◌≡◌, ◌≢◌, ◌-◌, ◌<◌, ◌^◌, MatchBool, length};
 ghost use Rattle.acas_lines.specs.Split.{lines_of};
-ghost use Rattle.comparison.specs.Splitting.{IsFirstLine, IsSplit};
+ghost use Rattle.comparison.specs.Splitting.{IsSplit};
 ghost use Rattle.rec_text.specs.Recording.{close_line};
 
-use memchr::memchr;
-
-const LINE_FEED: u8 = b'\n';
+use acas_lines::first_line_len;
 
 /// The bytes of two recordings.
 #[derive(Clone, Copy)]
@@ -17,19 +15,6 @@ pub struct Recordings<'a> {
     pub other: &'a [u8],
     /// How many lines the first one has.
     pub lines: u32,
-}
-
-// How long the first line of a text is.
-fn line_len(text: &[u8]) -> usize
-    requires { 0 < length text.now }
-    ensures some { 0 < result }
-    ensures within { result ≤ length text.now }
-    ensures first { IsFirstLine text.now (take result text.now) }
-{
-    match memchr(LINE_FEED, text) {
-        Some(at) => at + 1,
-        None => text.len(),
-    }
 }
 
 fn is_close(line: &[u8]) -> bool
@@ -48,7 +33,7 @@ pub fn split(bytes: &[u8]) -> Recordings<'_>
     let mut lines = 0;
     while at < bytes.len() {
         let rest = &bytes[at..];
-        let len = line_len(rest);
+        let len = first_line_len(rest);
         at += len;
         lines += 1;
         if is_close(&rest[..len]) {

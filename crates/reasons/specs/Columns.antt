@@ -3,15 +3,12 @@ use Rattle.std.specs.Prelude.{ℕ, List, [], ◌∷◌, ◌++◌, Option, codes,
 use Rattle.std.specs.Fmt.{decimal, signed_decimal}
 use Rattle.acas_base.specs.declared.advisory.Rank.{Rank}
 use Rattle.acas_base.specs.declared.advisory.Rank.TheVariants.{First, Second, Free}
-use Rattle.acas_base.specs.declared.advisory.Sense.{Sense}
-use Rattle.acas_base.specs.declared.advisory.Sense.TheVariants.{Up, Down}
-use Rattle.acas_base.specs.declared.advisory.Vrc.{Vrc}
-use Rattle.acas_base.specs.declared.advisory.Vrc.TheVariants.{Nil, NotBelow, NotAbove}
 use Rattle.acas_lines.specs.Lines.{line_of}
+use Rattle.acas_text.specs.Fields.{if_any, mark, with_point}
 use Rattle.acas_text.specs.Hex.{hex}
 use Rattle.advisory_report.specs.Cells.{cell_text, strength_digit}
+use Rattle.advisory_report.specs.Words.{complement_text, sense_text}
 use Rattle.flight.specs.declared.measuring.Meas.{Meas}
-use Rattle.reasons.specs.Fields.{if_any, mark, with_point}
 use Rattle.reasons.specs.declared.reason.Reason.{Reason}
 use Rattle.reasons.specs.declared.rules.Rule.{Rule}
 use Rattle.reasons.specs.declared.rules.Rule.TheVariants as rules
@@ -46,16 +43,6 @@ abbrev pub rank_text : Rank → List ℕ
 rank_text First = codes "first"
 rank_text Second = codes "second"
 rank_text Free = codes "free"
-
-abbrev pub sense_text : Sense → List ℕ
-sense_text Up = codes "up"
-sense_text Down = codes "down"
-
--- "Do not pass below" is `below`, "do not pass above" is `above`.
-abbrev pub complement_text : Vrc → List ℕ
-complement_text Nil = []
-complement_text NotBelow = codes "below"
-complement_text NotAbove = codes "above"
 
 abbrev pub rule_text : Rule → List ℕ
 rule_text rules.Untested = codes "untested"

@@ -1,20 +1,20 @@
 // The text of a reason, column by column.
 ghost use Rattle.std.specs.Prelude.{◌≡◌, ◌+◌, ◌≤◌, ◌∷◌, [], length, replicate};
 ghost use Rattle.acas_text.specs.declared.line.TheConstants.{LINE_BYTES};
+ghost use Rattle.acas_text.specs.Fields.{if_any, mark, with_point};
 ghost use Rattle.advisory_report.specs.Cells.{cell_text, strength_digit};
 ghost use Rattle.advisory_report.specs.declared.cells.TheConstants.{CELL_BYTES};
-ghost use Rattle.reasons.specs.Columns.{altitude_text, complement_text, continued_columns, decided_columns, named_columns, names_line, own_columns, position_column, projected_columns, range_text, rank_text, reason_line, reply_columns, rule_text, seconds_text, sense_text, tau_text, test_columns, tested_columns, texts, texts_if_any, told_columns, tracked_columns};
-ghost use Rattle.reasons.specs.Fields.{if_any, mark, nothing, with_field, with_fields, with_point};
+ghost use Rattle.reasons.specs.Columns.{altitude_text, continued_columns, decided_columns, named_columns, names_line, own_columns, position_column, projected_columns, range_text, rank_text, reason_line, reply_columns, rule_text, seconds_text, tau_text, test_columns, tested_columns, texts, texts_if_any, told_columns, tracked_columns};
+ghost use Rattle.reasons.specs.Fields.{nothing, with_field, with_fields};
 
 use crate::reason::Reason;
 use crate::rules::Rule;
 use crate::shown::{Best, Continued, Projected, TestSeconds, Tested};
-use crate::tenths::add_tenths;
 use crate::told::Told;
-use acas_base::{Cell, Rank, Sense, Vrc};
+use acas_base::{Cell, Rank};
 use acas_lines::fixed_line;
 use acas_text::Line;
-use advisory_report::{CELL_BYTES, add_cell, strength_digit};
+use advisory_report::{CELL_BYTES, add_cell, complement_text, sense_text, strength_digit};
 use flight::Meas;
 
 /// Adds a field with nothing in it for each of these commas.
@@ -27,22 +27,6 @@ fn add_nothing(line: &mut Line, commas: &str)
     line.text(commas);
 }
 
-fn mark(holds: bool) -> &'static str
-    ensures text { result.now ≡ mark holds }
-    ensures short { length result.now ≤ 1 }
-{
-    if holds { "1" } else { "0" }
-}
-
-// Adds a field that says whether something holds.
-fn add_mark(line: &mut Line, holds: bool)
-    requires { length line.old + 2 ≤ LINE_BYTES }
-    ensures added { line.new ≡ with_field line.old (mark holds) }
-    ensures short { length line.new ≤ length line.old + 2 }
-{
-    line.text_field(mark(holds));
-}
-
 fn rank_text(rank: Rank) -> &'static str
     ensures text { result.now ≡ rank_text rank }
     ensures short { length result.now ≤ 6 }
@@ -51,27 +35,6 @@ fn rank_text(rank: Rank) -> &'static str
         Rank::First => "first",
         Rank::Second => "second",
         Rank::Free => "free",
-    }
-}
-
-fn sense_text(sense: Sense) -> &'static str
-    ensures text { result.now ≡ sense_text sense }
-    ensures short { length result.now ≤ 4 }
-{
-    match sense {
-        Sense::Up => "up",
-        Sense::Down => "down",
-    }
-}
-
-fn complement_text(complement: Vrc) -> &'static str
-    ensures text { result.now ≡ complement_text complement }
-    ensures short { length result.now ≤ 5 }
-{
-    match complement {
-        Vrc::Nil => "",
-        Vrc::NotBelow => "below",
-        Vrc::NotAbove => "above",
     }
 }
 
@@ -134,7 +97,7 @@ fn add_own(line: &mut Line, reason: &Reason)
     line.i32_field(seen.altitude);
     line.i32_field(seen.height);
     line.u16_field(u16::from(seen.level));
-    add_mark(line, seen.climbs);
+    line.mark_field(seen.climbs);
 }
 
 // Adds what is tracked.
@@ -143,11 +106,11 @@ fn add_tracked(line: &mut Line, tested: &Tested)
     ensures added { line.new ≡ with_fields line.old (texts tracked_columns tested.now) }
     ensures short { length line.new ≤ length line.old + 90 }
 {
-    add_tenths(line, tested.range);
-    add_tenths(line, tested.range_rate);
-    add_tenths(line, tested.height);
-    add_tenths(line, tested.height_rate);
-    add_tenths(line, tested.own_rate);
+    line.tenths_field(tested.range);
+    line.tenths_field(tested.range_rate);
+    line.tenths_field(tested.height);
+    line.tenths_field(tested.height_rate);
+    line.tenths_field(tested.own_rate);
 }
 
 // Adds a number of seconds, where there is one.
@@ -200,8 +163,8 @@ fn add_tests(line: &mut Line, tested: &Tested)
     add_resolution_seconds(line, &tested.ra);
     line.u16_field(tested.ta.tau);
     add_resolution_tau(line, &tested.ra);
-    add_mark(line, tested.traffic);
-    add_mark(line, tested.threat);
+    line.mark_field(tested.traffic);
+    line.mark_field(tested.threat);
 }
 
 // Adds both, where the pair is tested.
@@ -226,7 +189,7 @@ fn add_best(line: &mut Line, best: &Best)
     ensures short { length line.new ≤ length line.old + 20 }
 {
     line.text_field(strength_digit(best.strength));
-    add_tenths(line, best.separation);
+    line.tenths_field(best.separation);
 }
 
 fn add_projection(line: &mut Line, projected: &Projected)
@@ -259,12 +222,12 @@ fn add_continuation(line: &mut Line, continued: &Continued)
     ensures added { line.new ≡ with_fields line.old (texts continued_columns continued.now) }
     ensures short { length line.new ≤ length line.old + 60 }
 {
-    add_mark(line, continued.fresh);
+    line.mark_field(continued.fresh);
     line.text_field(strength_digit(continued.need));
-    add_tenths(line, continued.separation);
-    add_tenths(line, continued.same_later);
-    add_tenths(line, continued.other_later);
-    add_mark(line, continued.has_alim);
+    line.tenths_field(continued.separation);
+    line.tenths_field(continued.same_later);
+    line.tenths_field(continued.other_later);
+    line.mark_field(continued.has_alim);
 }
 
 // Adds what an advisory may go on with, where there was one besides.

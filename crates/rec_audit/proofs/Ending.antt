@@ -7,7 +7,7 @@ use Rattle.acas_base.specs.declared.entry.Entry.{Entry}
 use Rattle.air_journal.specs.Airs.{air_of}
 use Rattle.air_rules.specs.Rules.{IsComplete}
 use Rattle.rec_audit.specs.Cursors.{Cursor, StoppedIn, Took}
-use Rattle.rec_audit.specs.Differing.{DifferAt}
+use Rattle.acas_lines.specs.Differing.{DifferAt}
 use Rattle.rec_audit.specs.Engine.{DiffersFrom, IsWrongIn, Replayed, StoppedAt}
 use Rattle.rec_audit.specs.Judging.{IsWrongAfter, IsWrongBeginning, incomplete, other_end, too_few, too_many, wrong_entry, wrong_line}
 use Rattle.rec_audit.specs.Opening.{first_entry}

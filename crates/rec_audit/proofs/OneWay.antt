@@ -9,7 +9,7 @@ use Rattle.air_journal.specs.Airs.{air_of}
 use Rattle.air_rules.specs.Air.{Air}
 use Rattle.air_rules.specs.Rules.{IsComplete}
 use Rattle.rec_audit.proofs.Once.{HasLines, one-journal, stops-there, wrong-once}
-use Rattle.rec_audit.specs.Differing.{DifferAt}
+use Rattle.acas_lines.specs.Differing.{DifferAt}
 use Rattle.rec_audit.specs.Engine.{ReplayedAll, ReplayedFirst}
 use Rattle.rec_audit.specs.Judging.{IsWrongAfter, IsWrongBeginning, incomplete, other_end, too_few, too_many, wrong_entry, wrong_line}
 use Rattle.rec_audit.specs.Opening.{first_entry}

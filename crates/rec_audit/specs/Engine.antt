@@ -10,7 +10,7 @@ use Rattle.enc_file.specs.Canonical.{canonical_lines}
 use Rattle.enc_file.specs.Reading.{Says}
 use Rattle.flight.specs.Inside.{IsInside}
 use Rattle.rec_audit.specs.Cursors.{Cursor, Took}
-use Rattle.rec_audit.specs.Differing.{DifferAt}
+use Rattle.acas_lines.specs.Differing.{DifferAt}
 use Rattle.rec_audit.specs.Judging.{IsLoaded, IsPartLoaded, IsWrongAfter, IsWrongBeginning}
 use Rattle.rec_audit.specs.Opening.{IsCut, Opens, first_entry}
 use Rattle.rec_audit.specs.Replays.{IsWrongLine, Replays, StopsAt}

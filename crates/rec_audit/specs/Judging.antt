@@ -8,7 +8,7 @@ use Rattle.air_journal.specs.Airs.{air_of}
 use Rattle.air_journal.specs.States.{IsJournalOf, State}
 use Rattle.air_rules.specs.Rules.{IsComplete}
 use Rattle.enc_file.specs.Canonical.{canonical_lines}
-use Rattle.rec_audit.specs.Differing.{DifferAt}
+use Rattle.acas_lines.specs.Differing.{DifferAt}
 use Rattle.rec_audit.specs.Opening.{IsWrongOpening, Opens, first_entry}
 use Rattle.rec_audit.specs.Replays.{Replays, StopsAt}
 use Rattle.rec_audit.specs.declared.opening.TheConstants.{MOST_TOLD}

@@ -4,7 +4,6 @@ pub mod Keys
 pub mod Reasons
 pub mod Replays
 pub mod Opening
-pub mod Differing
 pub mod Judging
 pub mod Cursors
 pub mod Asking

@@ -1,13 +1,11 @@
 // The lines of a text, read one after the other.
-ghost use Rattle.std.specs.Prelude.{◌≡◌, ◌≢◌, ◌∷◌, ◌+◌, ◌<◌, ◌≤◌, ◌-◌, ◌^◌, ◌↔◌, [], List, ℕ, IsTrue, MatchOption, length, take, drop};
+ghost use Rattle.std.specs.Prelude.{◌≡◌, ◌≢◌, ◌∷◌, ◌+◌, ◌<◌, ◌-◌, ◌^◌, ◌↔◌, [], List, ℕ, IsTrue, MatchOption, length};
 ghost use Rattle.acas_lines.specs.Split.{IsLine, lines_of};
 ghost use Rattle.acas_lines.specs.Lines.{joined};
 ghost use Rattle.rec_audit.specs.Cursors.{TakesLine, Took};
 
-use memchr::memchr;
+use acas_lines::first_line_len;
 use std::marker::Model;
-
-const LINE_FEED: u8 = b'\n';
 
 /// The lines of a text that are still to come, and how many were taken before them.
 #[derive(Drop)]
@@ -72,7 +70,7 @@ impl<'a> TextLines<'a> {
         if self.rest.is_empty() {
             return None;
         }
-        let (line, rest) = self.rest.split_at(line_len(self.rest));
+        let (line, rest) = self.rest.split_at(first_line_len(self.rest));
         self.rest = rest;
         self.taken += 1;
         Some(line)
@@ -125,16 +123,4 @@ fn behind<'a>(text: &'a [u8], line: &[u8]) -> Option<&'a [u8]>
     ensures { MatchOption result ((rest : List (List ℕ)) → lines_of text.now ≢ line.now ∷ rest) (λ after. lines_of text.now ≡ line.now ∷ lines_of after.now) }
 {
     text.strip_prefix(line)
-}
-
-// How long the first line is.
-fn line_len(text: &[u8]) -> usize
-    requires { 0 < length text.now }
-    ensures within { result ≤ length text.now }
-    ensures first { lines_of text.now ≡ take result text.now ∷ lines_of (drop result text.now) }
-{
-    match memchr(LINE_FEED, text) {
-        Some(at) => at + 1,
-        None => text.len(),
-    }
 }

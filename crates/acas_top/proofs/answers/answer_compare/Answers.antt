@@ -3,7 +3,7 @@ use Rattle.std.proofs.lemmas.List.{append-nil}
 use Rattle.std.proofs.lemmas.Result.{IfOk-weaker}
 use Rattle.acas_top.specs.Answers.{verdict_line}
 use Rattle.acas_top.specs.Comparing.{in_first}
-use Rattle.rec_audit.proofs.FirstLine.{few-lines}
+use Rattle.acas_lines.proofs.Splitting.{few-lines}
 use Rattle.rec_audit.specs.Judging.{IsRecordingOf}
 use Rattle.rec_audit.specs.declared.verdict.Verdict.TheVariants.{Wrong}
 use Rattle.acas_top.proofs.answers.answer_compare.Goals as goal

@@ -5,7 +5,7 @@ use Rattle.acas_lines.specs.Split.{lines_of}
 use Rattle.acas_top.proofs.Within.{wrong-within}
 use Rattle.acas_top.specs.Answers.{verdict_line}
 use Rattle.acas_top.specs.Comparing.{IsWrongOfTwo, in_second}
-use Rattle.rec_audit.proofs.FirstLine.{few-lines}
+use Rattle.acas_lines.proofs.Splitting.{few-lines}
 use Rattle.rec_audit.specs.Judging.{IsRecordingOf, IsWrong}
 use Rattle.rec_audit.specs.declared.verdict.Verdict.TheVariants.{Wrong}
 use Rattle.acas_top.proofs.answers.answer_second.Goals as goal

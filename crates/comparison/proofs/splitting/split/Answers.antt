@@ -10,18 +10,18 @@ overflow_add-lines c = (let few = read-few c.args.bytes.now c.loop-at.at c.loop-
 
 pub returns-then-is_close-clause-parts : goal.returns-then-is_close-clause-parts
 returns-then-is_close-clause-parts c =
-    (cut-at c.args.bytes.now (c.loop-at.at + c.line_len-len.result) (c.loop-at.lines + 1) (take c.line_len-len.result (tail c.args.bytes.now c.loop-at.at))
-    (read-next c.args.bytes.now c.loop-at.at c.loop-at.lines c.line_len-len.result c.loop-at-test.true c.line_len-len.ensures.within c.loop-at.invariant c.line_len-len.ensures.first) c.if-is_close.ensures).split
+    (cut-at c.args.bytes.now (c.loop-at.at + c.first_line_len-len.result) (c.loop-at.lines + 1) (take c.first_line_len-len.result (tail c.args.bytes.now c.loop-at.at))
+    (read-next c.args.bytes.now c.loop-at.at c.loop-at.lines c.first_line_len-len.result c.loop-at-test.true c.first_line_len-len.ensures.within c.loop-at.invariant c.first_line_len-len.ensures.first) c.if-is_close.ensures).split
 
 pub returns-then-is_close-clause-lines : goal.returns-then-is_close-clause-lines
 returns-then-is_close-clause-lines c =
-    (cut-at c.args.bytes.now (c.loop-at.at + c.line_len-len.result) (c.loop-at.lines + 1) (take c.line_len-len.result (tail c.args.bytes.now c.loop-at.at))
-    (read-next c.args.bytes.now c.loop-at.at c.loop-at.lines c.line_len-len.result c.loop-at-test.true c.line_len-len.ensures.within c.loop-at.invariant c.line_len-len.ensures.first) c.if-is_close.ensures).count
+    (cut-at c.args.bytes.now (c.loop-at.at + c.first_line_len-len.result) (c.loop-at.lines + 1) (take c.first_line_len-len.result (tail c.args.bytes.now c.loop-at.at))
+    (read-next c.args.bytes.now c.loop-at.at c.loop-at.lines c.first_line_len-len.result c.loop-at-test.true c.first_line_len-len.ensures.within c.loop-at.invariant c.first_line_len-len.ensures.first) c.if-is_close.ensures).count
 
 pub loop-at-preserved : goal.loop-at-preserved
 loop-at-preserved c =
-    read-other c.args.bytes.now (c.loop-at.at + c.line_len-len.result) (c.loop-at.lines + 1) (take c.line_len-len.result (tail c.args.bytes.now c.loop-at.at))
-    (read-next c.args.bytes.now c.loop-at.at c.loop-at.lines c.line_len-len.result c.loop-at-test.true c.line_len-len.ensures.within c.loop-at.invariant c.line_len-len.ensures.first) c.if-is_close.ensures
+    read-other c.args.bytes.now (c.loop-at.at + c.first_line_len-len.result) (c.loop-at.lines + 1) (take c.first_line_len-len.result (tail c.args.bytes.now c.loop-at.at))
+    (read-next c.args.bytes.now c.loop-at.at c.loop-at.lines c.first_line_len-len.result c.loop-at-test.true c.first_line_len-len.ensures.within c.loop-at.invariant c.first_line_len-len.ensures.first) c.if-is_close.ensures
 
 pub returns-clause-parts : goal.returns-clause-parts
 returns-clause-parts c = (cut-no c.args.bytes.now c.loop-at.at c.loop-at.lines c.loop-at.invariant c.loop-at-test.false).split

@@ -1,5 +1,5 @@
 use Rattle.std.proofs.Common.{arith}
-use Rattle.rec_audit.proofs.FirstLine.{few-lines}
+use Rattle.acas_lines.proofs.Splitting.{few-lines}
 use Rattle.rec_audit.proofs.lines.TextLines.of.Goals as goal
 
 pub invariant_of-result : goal.invariant_of-result
