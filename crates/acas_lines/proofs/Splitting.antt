@@ -63,7 +63,7 @@ some-onto : (c : ℕ) (lines : List (List ℕ)) → onto_first c lines ≢ []
 some-onto c [] = λ e. absurd cc
 some-onto c (l ∷ ls) = λ e. absurd cc
 
-pub some-cond : (b : Bool) (c : ℕ) (lines : List (List ℕ)) → cond b ((10 ∷ []) ∷ lines) (onto_first c lines) ≢ []
+some-cond : (b : Bool) (c : ℕ) (lines : List (List ℕ)) → cond b ((10 ∷ []) ∷ lines) (onto_first c lines) ≢ []
 some-cond true c lines = λ e. absurd cc
 some-cond false c lines = some-onto c lines
 
