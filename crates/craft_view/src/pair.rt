@@ -82,10 +82,21 @@ fn put_resolving(own: &OwnAircraft, motion: &Motion, row: &Row, asked: bool, vie
 {
     let threat = is_hit(motion, row);
     if asked || threat {
-        *view = resolving_view(own, motion, row, threat);
+        put_whole(own, motion, row, threat, view);
     } else {
         put_outline(own, motion, row, view);
     }
+}
+
+// Puts a view with its separations. It is a function of its own, since one clears its memory for a view at its start.
+fn put_whole(own: &OwnAircraft, motion: &Motion, row: &Row, threat: bool, view: &mut View)
+    requires own { AreRows own.now }
+    requires motion { IsMotion motion.now }
+    requires row { IsTableRow row.now }
+    requires threat { threat ≡ is_hit motion.now row.now }
+    ensures { view.new ≡ resolving_view own.now motion.now row.now }
+{
+    *view = resolving_view(own, motion, row, threat);
 }
 
 // Puts the view of what is no threat, with no separations, field by field.
