@@ -1,5 +1,5 @@
 -- The lines of the report (this project's profile).
-use Rattle.std.specs.Prelude.{ℕ, Bool, true, false, not, ◌||◌, ◌==◌, if◌then◌else◌, pos, List, [], ◌∷◌, ◌++◌, codes, Option, Some, None}
+use Rattle.std.specs.Prelude.{ℕ, Bool, true, false, not, ◌&&◌, ◌||◌, ◌==◌, if◌then◌else◌, pos, List, [], ◌∷◌, ◌++◌, codes, Option, Some, None}
 use Rattle.std.specs.Cmp.Lexicographic.{pointwise}
 use Rattle.std.specs.Fmt.{signed_decimal}
 use Rattle.std.specs.List.{join_with_byte}
@@ -21,6 +21,10 @@ is_silent _ = false
 abbrev pub line_text : ℕ → ℕ → Composite → Composite → List ℕ
 line_text cycle address before after =
     join_with_byte 44 (codes "r" ∷ signed_decimal (pos cycle) ∷ hex 6 address ∷ word_of after ∷ phrase_text (aural_of before after) ∷ []) ++ 10 ∷ []
+
+-- The word stays, and nothing is said.
+abbrev pub is_quiet : Composite → Composite → Bool
+is_quiet before after = is_same_word before after && is_silent (aural_of before after)
 
 -- A commit has a line where its word differs from the word before, or a phrase is said.
 unfoldable pub report_line : ℕ → ℕ → Composite → Composite → Option (List ℕ)

@@ -1,8 +1,8 @@
 // The lines of the report.
-ghost use Rattle.std.specs.Prelude.{◌≡◌, ◌↔◌, IsNone};
+ghost use Rattle.std.specs.Prelude.{◌≡◌, ◌↔◌, IsNone, IsTrue};
 ghost use Rattle.advisory_report.specs.Composite.{word_of};
 ghost use Rattle.advisory_report.specs.Phrases.{aural_of};
-ghost use Rattle.advisory_report.specs.Report.{is_same_word, is_silent, line_text, report_line};
+ghost use Rattle.advisory_report.specs.Report.{is_quiet, is_same_word, is_silent, line_text, report_line};
 
 use crate::aural::phrase;
 use crate::composite::word;
@@ -20,6 +20,15 @@ fn is_same_word(before: &Composite, after: &Composite) -> bool
     ensures { result ≡ is_same_word before.now after.now }
 {
     word(before) == word(after)
+}
+
+/// Whether the report has no line for a commit, from the composite before it to its own one: the word stays, and nothing
+/// is said (this project's profile). A caller that asks this first makes only the lines that are there.
+pub fn is_quiet(before: &Composite, after: &Composite) -> bool
+    ensures value { result ≡ is_quiet before.now after.now }
+    ensures quiet { IsTrue result ↔ ((word_of before.now ≡ word_of after.now) × (aural_of before.now after.now ≡ Aural.Silent)) }
+{
+    is_same_word(before, after) && is_silent(aural_of(before, after))
 }
 
 // The line of a commit after which the crew hears this.
@@ -45,7 +54,7 @@ pub fn line(cycle: u16, own: Address, before: &Composite, after: &Composite) -> 
     ensures line { result ≡ report_line cycle own before.now after.now }
     ensures none { IsNone result ↔ ((word_of before.now ≡ word_of after.now) × (aural_of before.now after.now ≡ Aural.Silent)) }
 {
-    if is_same_word(before, after) && is_silent(aural_of(before, after)) {
+    if is_quiet(before, after) {
         return None;
     }
     Some(line_text(cycle, own, before, after))

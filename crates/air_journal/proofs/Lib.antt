@@ -15,6 +15,7 @@ pub mod Telling
 pub mod Adding
 pub mod Places
 pub mod Seeing
+pub mod Showing
 pub mod Worlds
 pub mod Alike
 pub mod WellFormed

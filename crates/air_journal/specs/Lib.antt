@@ -2,6 +2,7 @@ pub mod Airs
 pub mod Pinned
 pub mod States
 pub mod Calls
+pub mod Pictures
 pub mod Cells
 pub mod Queues
 pub mod Orders

@@ -2,10 +2,12 @@
 ghost use Rattle.std.specs.Prelude.{◌≡◌, ◌+◌, ◌<◌, MatchOption};
 ghost use Rattle.air_journal.specs.Airs.{air_of};
 ghost use Rattle.air_journal.specs.Calls.{Commits, Committed, Hinders, IsFree};
+ghost use Rattle.air_journal.specs.Cells.{commit_cells};
+ghost use Rattle.air_journal.specs.Pictures.{Suffices};
 ghost use Rattle.air_rules.specs.Journal.{commits};
 ghost use Rattle.air_rules.specs.Rules.{IsLegal};
 ghost use Rattle.craft_view.specs.Kept.{IsActive};
-ghost use Rattle.craft_view.specs.Views.{picture_of};
+ghost use Rattle.craft_view.specs.Views.{picture_after, picture_of};
 
 use crate::answers::Commit;
 use crate::crafts::count_of;
@@ -43,7 +45,7 @@ impl AirState {
     fn add_commit(&mut self, own: u8, pic: &Picture) -> u32
         requires active { IsActive self.old.encounter own }
         requires free { IsFree (air_of self.old.encounter) self.old.journal own }
-        requires picture { pic.now ≡ picture_of self.old.encounter own (commits self.old.journal own + 1) }
+        requires picture { Suffices self.old.encounter self.old.journal own pic.now }
         ensures encounter { self.new.encounter ≡ self.old.encounter }
         ensures commits { Committed (air_of self.old.encounter) self.old.journal own self.new.journal result }
         ensures legal { IsLegal (air_of self.new.encounter) self.new.journal }
@@ -63,6 +65,22 @@ impl AirState {
     pub fn commit(&mut self, own: u8, pic: &Picture) -> Commit
         requires active { IsActive self.old.encounter own }
         requires picture { commits self.old.journal own < self.old.encounter.cycles → pic.now ≡ picture_of self.old.encounter own (commits self.old.journal own + 1) }
+        ensures encounter { self.new.encounter ≡ self.old.encounter }
+        ensures commits { Commits (air_of self.old.encounter) self.old.journal own self.new.journal result }
+        ensures legal { IsLegal (air_of self.new.encounter) self.new.journal }
+    {
+        self.legal_law();
+        match self.hindrance(own) {
+            Some(answer) => answer,
+            None => Commit::Done(self.add_commit(own, pic)),
+        }
+    }
+
+    /// Commits an active aircraft's next cycle, as [`AirState::commit`] does, by a picture that only has the separations
+    /// that the rules ask for after the cells of the aircraft's last commit.
+    pub fn commit_after(&mut self, own: u8, pic: &Picture) -> Commit
+        requires active { IsActive self.old.encounter own }
+        requires picture { commits self.old.journal own < self.old.encounter.cycles → pic.now ≡ picture_after (commit_cells self.old.journal own (commits self.old.journal own)) self.old.encounter own (commits self.old.journal own + 1) }
         ensures encounter { self.new.encounter ≡ self.old.encounter }
         ensures commits { Commits (air_of self.old.encounter) self.old.journal own self.new.journal result }
         ensures legal { IsLegal (air_of self.new.encounter) self.new.journal }

@@ -1,13 +1,15 @@
 // The cells of the next commit, by what is kept.
-ghost use Rattle.std.specs.Prelude.{◌≡◌, ℕ, ◌+◌, ◌<◌, ◌≤◌, length};
+ghost use Rattle.std.specs.Prelude.{◌≡◌, ℕ, ◌+◌, ◌<◌, ◌≤◌, length, slice_index_or};
 ghost use Rattle.acas_base.specs.Messages.{has_many};
 ghost use Rattle.acas_base.specs.declared.TheConstants.{CRAFTS};
 ghost use Rattle.acas_base.specs.declared.advisory.Cell.TheVariants as cell_kinds;
 ghost use Rattle.acas_base.specs.declared.advisory.Intent.{Intent};
+ghost use Rattle.acas_base.specs.declared.view.View.{View};
 ghost use Rattle.air_journal.specs.Airs.{air_of};
 ghost use Rattle.air_journal.specs.Found.{AreNext, kept_in_force, next_in};
 ghost use Rattle.air_journal.specs.Kept.{link_at, made_at};
-ghost use Rattle.craft_view.specs.Views.{picture_of, view_of};
+ghost use Rattle.air_journal.specs.Pictures.{IsEnough};
+ghost use Rattle.craft_view.specs.Views.{view_of};
 
 use crate::crafts::{count_of, rank};
 use crate::kept::Complement;
@@ -31,7 +33,7 @@ fn next_for(encounter: &Encounter, tables: &Tables, own: u8, target: u8, view: &
     requires target { target < length encounter.now.crafts }
     requires few { length encounter.now.crafts ≤ CRAFTS }
     requires made { (made_at tables.now own).commits < 600 }
-    requires view { view.now ≡ view_of encounter.now own target ((made_at tables.now own).commits + 1) }
+    requires view { IsEnough (link_at tables.now own target).cell (view_of encounter.now own target ((made_at tables.now own).commits + 1)) view.now }
     requires age { (intent : Intent) → (link_at tables.now own target).cell ≡ cell_kinds.Ra intent → intent.age < 600 }
     ensures { result ≡ next_in (air_of encounter.now) tables.now own target }
 {
@@ -56,7 +58,7 @@ pub(crate) fn next_cells(
 ) -> Cells
     requires own { own < length encounter.now.crafts }
     requires made { (made_at tables.now own).commits < 600 }
-    requires picture { picture.now ≡ picture_of encounter.now own ((made_at tables.now own).commits + 1) }
+    requires picture { (target : ℕ) (d : View) → target < CRAFTS → IsEnough (link_at tables.now own target).cell (view_of encounter.now own target ((made_at tables.now own).commits + 1)) (slice_index_or picture.now.views target d) }
     requires age { (target : ℕ) (intent : Intent) → target < CRAFTS → (link_at tables.now own target).cell ≡ cell_kinds.Ra intent → intent.age < 600 }
     ensures { AreNext (air_of encounter.now) tables.now own result }
 {

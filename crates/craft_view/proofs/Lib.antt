@@ -5,4 +5,5 @@ pub mod Keeping
 pub mod Alike
 pub mod Looking
 pub mod Past
+pub mod Showing
 pub mod Limits

@@ -1,10 +1,13 @@
 -- The view of another aircraft, from what may be known alone (FAA, Introduction to TCAS II v7.1; the details are this
 -- project's profile).
-use Rattle.std.specs.Prelude.{◌≡◌, ℕ, ◌<◌, ◌≤◌, if◌then◌else◌, Bool, true, false, pos, ◌-ℤ◌, int_le, is_some, List, map, slice_index_or}
+use Rattle.std.specs.Prelude.{◌≡◌, ℕ, ◌<◌, ◌≤◌, ◌||◌, if◌then◌else◌, Bool, true, false, pos, ◌-ℤ◌, int_le, is_some, List, Option, None, Some, map, slice_index_or}
 use Rattle.std.specs.List.{range_with_len}
 use Rattle.std.specs.Option.{option_map_or}
 use Rattle.acas_base.specs.Encounter.{Parts}
+use Rattle.acas_base.specs.Messages.{has_advisory}
 use Rattle.acas_base.specs.declared.TheConstants.{CRAFTS}
+use Rattle.acas_base.specs.declared.advisory.Cell.TheVariants.{Clear}
+use Rattle.acas_base.specs.declared.advisory.Cells.{Cells}
 use Rattle.acas_base.specs.declared.advisory.Sense.TheVariants.{Up, Down}
 use Rattle.acas_base.specs.declared.level.Row.{Row}
 use Rattle.acas_base.specs.declared.view.Picture.{Picture}
@@ -85,4 +88,26 @@ picture_of e own cycle = record {
   own = own;
   cycle = cycle;
   views = map (λ target. view_of e own target cycle) (range_with_len 0 CRAFTS);
+}
+
+-- All of a view but its separations.
+abbrev pub outline_of : View → View
+outline_of view = record view { first = zeros; later = zeros }
+
+-- What is shown of a view: its separations too, where they are asked for or there is a threat.
+abbrev pub shown : Bool → View → View
+shown asked view = if asked || view.threat then view else outline_of view
+
+-- After these cells the separations to the aircraft at an index are asked for, whether it is a threat or not: an advisory
+-- against it stands. Without cells all separations are asked for.
+abbrev pub asks_for : Option Cells → ℕ → Bool
+asks_for None target = true
+asks_for (Some before) target = has_advisory (slice_index_or before.list target Clear)
+
+-- What an aircraft sees in a cycle, with the separations that are asked for after these cells.
+unfoldable pub picture_after : Option Cells → Parts → ℕ → ℕ → Picture
+picture_after before e own cycle = record {
+  own = own;
+  cycle = cycle;
+  views = map (λ target. shown (asks_for before target) (view_of e own target cycle)) (range_with_len 0 CRAFTS);
 }

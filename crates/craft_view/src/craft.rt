@@ -1,20 +1,20 @@
 // An aircraft that looks at the others, second by second.
-ghost use Rattle.std.specs.Prelude.{◌≡◌, ℕ, ◌+◌, ◌<◌, ◌≤◌, length, IfSome, map};
+ghost use Rattle.std.specs.Prelude.{◌≡◌, ℕ, ◌+◌, ◌<◌, ◌≤◌, length, option_copied, IfSome, map};
 ghost use Rattle.std.specs.List.{range_with_len};
 ghost use Rattle.acas_base.specs.declared.TheConstants.{CRAFTS};
 ghost use Rattle.craft_view.specs.Kept.{Belongs, Kept, IsActive, altitude_kept, kept_of};
 ghost use Rattle.craft_view.specs.KnownTracks.{IsMotion, motion_of};
 ghost use Rattle.craft_view.specs.Own.{own_of, AreRows};
 ghost use Rattle.craft_view.specs.Sight.{sight_of};
-ghost use Rattle.craft_view.specs.Views.{SayNothingFrom, picture_of, view_of};
+ghost use Rattle.craft_view.specs.Views.{SayNothingFrom, asks_for, picture_after, picture_of, shown, view_of};
 ghost use Rattle.flight.specs.Inside.{IsInside};
 
 use crate::motion::{Motion, motion_of};
 use crate::others::{is_other, step_tracks};
 use crate::own::{OwnAircraft, own_of};
-use crate::pair::{no_picture, put_no_view, put_view};
+use crate::pair::{asks_for, no_picture, put_no_view, put_view};
 use crate::tracks::Tracks;
-use acas_base::{CRAFTS, Encounter, Picture, View};
+use acas_base::{CRAFTS, Cells, Encounter, Picture, View};
 use acas_num::TrackState;
 use alt_track::AltTrack;
 use flight::Places;
@@ -98,24 +98,28 @@ impl Craft {
         ensures belongs { Belongs places.now.encounter self.new }
     {
         let mut picture = no_picture();
-        self.look_into(places, &mut picture);
+        self.look_into(places, None, &mut picture);
         picture
     }
 
     /// Does the same as [`Craft::look_among`], and puts each view where an earlier one was, so that none is moved. Past
     /// the last aircraft the views have to say nothing already, as those of each picture of the same encounter do.
-    pub fn look_into(&mut self, places: &Places, picture: &mut Picture)
+    ///
+    /// `before` has the cells of the aircraft's last commit, where the picture is for its next one alone. Then the
+    /// separations in a view are zeros, unless there is a threat or these cells have an advisory against that aircraft:
+    /// no rule asks for them.
+    pub fn look_into(&mut self, places: &Places, before: Option<&Cells>, picture: &mut Picture)
         requires belongs { Belongs places.now.encounter self.old }
         requires left { self.old.cycle < places.now.encounter.cycles }
         requires next { places.now.cycle ≡ self.old.cycle + 1 }
         requires rest { SayNothingFrom (length places.now.encounter.crafts) picture.old.views }
-        ensures picture { picture.new ≡ picture_of places.now.encounter self.old.own (self.old.cycle + 1) }
+        ensures picture { picture.new ≡ picture_after (option_copied before.entry) places.now.encounter self.old.own (self.old.cycle + 1) }
         ensures own { self.new.own ≡ self.old.own }
         ensures cycle { self.new.cycle ≡ self.old.cycle + 1 }
         ensures belongs { Belongs places.now.encounter self.new }
     {
         self.step(places);
-        self.put_picture(places, picture);
+        self.put_picture(places, before, picture);
     }
 
     // Each track goes on by what is measured in the next cycle.
@@ -139,46 +143,66 @@ impl Craft {
     }
 
     // Puts the picture of the present cycle.
-    #[tactic(auto, unfolding(crate::specs::Views::picture_of))]
-    fn put_picture(&self, places: &Places, picture: &mut Picture)
+    #[tactic(auto, unfolding(crate::specs::Views::picture_after))]
+    fn put_picture(&self, places: &Places, before: Option<&Cells>, picture: &mut Picture)
         requires belongs { Belongs places.now.encounter self.now }
         requires begun { 1 ≤ self.now.cycle }
         requires present { places.now.cycle ≡ self.now.cycle }
         requires rest { SayNothingFrom (length places.now.encounter.crafts) picture.old.views }
-        ensures { picture.new ≡ picture_of places.now.encounter self.now.own self.now.cycle }
+        ensures { picture.new ≡ picture_after (option_copied before.entry) places.now.encounter self.now.own self.now.cycle }
     {
         let own = own_of(places, self.own);
         picture.own = self.own;
         picture.cycle = self.cycle;
-        self.put_views(places.encounter(), &own, &mut picture.views);
+        self.put_views(places.encounter(), &own, before, &mut picture.views);
     }
 
     // Puts the view of each aircraft in the present cycle at its place. Past the last one the views say nothing
     // already.
-    fn put_views(&self, encounter: &Encounter, own: &OwnAircraft, views: &mut [View; CRAFTS])
+    fn put_views(
+        &self,
+        encounter: &Encounter,
+        own: &OwnAircraft,
+        before: Option<&Cells>,
+        views: &mut [View; CRAFTS],
+    )
         requires belongs { Belongs encounter.now self.now }
         requires own { own.now ≡ own_of (sight_of encounter.now self.now.own self.now.cycle) }
         requires rows { AreRows own.now }
         requires rest { SayNothingFrom (length encounter.now.crafts) views.old }
-        ensures { views.new ≡ map (λ target. view_of encounter.now self.now.own target self.now.cycle) (range_with_len 0 CRAFTS) }
+        ensures { views.new ≡ map (λ target. shown (asks_for (option_copied before.entry) target) (view_of encounter.now self.now.own target self.now.cycle)) (range_with_len 0 CRAFTS) }
     {
         // No encounter has more than 16 aircraft.
         encounter.valid_law();
         for target in 0..encounter.crafts().len() {
-            self.put_view(encounter, own, target as u8, &mut views[target]);
+            let asked = asks_for(before, target as u8);
+            self.put_view(encounter, own, target as u8, asked, &mut views[target]);
         }
     }
 
     // Puts the view of the aircraft at an index in the present cycle.
-    fn put_view(&self, encounter: &Encounter, own: &OwnAircraft, target: u8, view: &mut View)
+    fn put_view(
+        &self,
+        encounter: &Encounter,
+        own: &OwnAircraft,
+        target: u8,
+        asked: bool,
+        view: &mut View,
+    )
         requires belongs { Belongs encounter.now self.now }
         requires own { own.now ≡ own_of (sight_of encounter.now self.now.own self.now.cycle) }
         requires rows { AreRows own.now }
         requires target { target < CRAFTS }
-        ensures { view.new ≡ view_of encounter.now self.now.own target self.now.cycle }
+        ensures { view.new ≡ shown asked (view_of encounter.now self.now.own target self.now.cycle) }
     {
         if is_other(encounter, self.own, target) {
-            put_view(own, &self.altitude, &self.tracks[usize::from(target)], view);
+            put_view(
+                own,
+                &self.altitude,
+                &self.tracks[usize::from(target)],
+                asked,
+                view,
+            );
         } else {
             put_no_view(view);
         }

@@ -1,28 +1,46 @@
 // The view of one other aircraft.
-ghost use Rattle.std.specs.Prelude.{◌≡◌, if◌then◌else◌, int_le, replicate};
+ghost use Rattle.std.specs.Prelude.{◌≡◌, ◌<◌, false, if◌then◌else◌, int_le, option_copied, replicate};
 ghost use Rattle.acas_base.specs.declared.TheConstants.{CRAFTS};
+ghost use Rattle.craft_view.specs.Hits.{is_hit};
 ghost use Rattle.craft_view.specs.Own.{AreRows};
 ghost use Rattle.craft_view.specs.KnownTracks.{IsMotion};
-ghost use Rattle.craft_view.specs.Views.{no_view, plain_view, resolving_view, tested_view, view_by};
+ghost use Rattle.craft_view.specs.Views.{asks_for, no_view, outline_of, plain_view, resolving_view, shown, tested_view, view_by};
 ghost use Rattle.sens_table.specs.Levels.{IsTableRow};
 
 use crate::hits::is_hit;
 use crate::motion::{Motion, difference, motion_of};
 use crate::own::OwnAircraft;
-use crate::separations::{FIRST_RESPONSE, LATER_RESPONSE, approach_of, separations};
+use crate::separations::{FIRST_RESPONSE, LATER_RESPONSE, approach_of, halves_to, separations};
 use crate::tracks::Tracks;
-use acas_base::{CRAFTS, Picture, Row, Sense, Seps, View};
+use acas_base::{CRAFTS, Cells, Picture, Row, Sense, Seps, View};
 use alt_track::AltTrack;
+
+// Whether the separations to an aircraft are asked for after these cells.
+pub(crate) fn asks_for(before: Option<&Cells>, target: u8) -> bool
+    requires { target < CRAFTS }
+    ensures { result ≡ asks_for (option_copied before.entry) target }
+{
+    match before {
+        Some(cells) => cells.list[usize::from(target)].has_advisory(),
+        None => true,
+    }
+}
 
 // Puts the view of an aircraft by its tracks and the track of own altitude. Each case puts its own view, since a view
 // that the cases share is moved once more.
 #[tactic(auto, unfolding(crate::specs::Views::view_by))]
-pub(crate) fn put_view(own: &OwnAircraft, altitude: &AltTrack, tracks: &Tracks, view: &mut View)
+pub(crate) fn put_view(
+    own: &OwnAircraft,
+    altitude: &AltTrack,
+    tracks: &Tracks,
+    asked: bool,
+    view: &mut View,
+)
     requires { AreRows own.now }
-    ensures { view.new ≡ view_by own.now altitude.now tracks.now }
+    ensures { view.new ≡ shown asked (view_by own.now altitude.now tracks.now) }
 {
     match motion_of(altitude, tracks) {
-        Some(motion) => put_tested(own, &motion, view),
+        Some(motion) => put_tested(own, &motion, asked, view),
         None => put_plain(view, false, false, own.resolution.is_some()),
     }
 }
@@ -45,21 +63,65 @@ pub fn no_picture() -> Picture
     }
 }
 
-fn put_tested(own: &OwnAircraft, motion: &Motion, view: &mut View)
+fn put_tested(own: &OwnAircraft, motion: &Motion, asked: bool, view: &mut View)
     requires own { AreRows own.now }
     requires motion { IsMotion motion.now }
-    ensures { view.new ≡ tested_view own.now motion.now }
+    ensures { view.new ≡ shown asked (tested_view own.now motion.now) }
 {
     match own.resolution {
-        Some(row) => *view = resolving_view(own, motion, &row),
+        Some(row) => put_resolving(own, motion, &row, asked, view),
         None => put_plain(view, true, is_hit(motion, &own.traffic), false),
     }
 }
 
-fn resolving_view(own: &OwnAircraft, motion: &Motion, row: &Row) -> View
+fn put_resolving(own: &OwnAircraft, motion: &Motion, row: &Row, asked: bool, view: &mut View)
     requires own { AreRows own.now }
     requires motion { IsMotion motion.now }
     requires row { IsTableRow row.now }
+    ensures { view.new ≡ shown asked (resolving_view own.now motion.now row.now) }
+{
+    let threat = is_hit(motion, row);
+    if asked || threat {
+        put_whole(own, motion, row, threat, view);
+    } else {
+        put_outline(own, motion, row, view);
+    }
+}
+
+// Puts a view with its separations. It is a function of its own, since one clears its memory for a view at its start.
+fn put_whole(own: &OwnAircraft, motion: &Motion, row: &Row, threat: bool, view: &mut View)
+    requires own { AreRows own.now }
+    requires motion { IsMotion motion.now }
+    requires row { IsTableRow row.now }
+    requires threat { threat ≡ is_hit motion.now row.now }
+    ensures { view.new ≡ resolving_view own.now motion.now row.now }
+{
+    *view = resolving_view(own, motion, row, threat);
+}
+
+// Puts the view of what is no threat, with no separations, field by field.
+fn put_outline(own: &OwnAircraft, motion: &Motion, row: &Row, view: &mut View)
+    requires own { AreRows own.now }
+    requires motion { IsMotion motion.now }
+    requires row { IsTableRow row.now }
+    requires no_threat { is_hit motion.now row.now ≡ false }
+    ensures { view.new ≡ outline_of (resolving_view own.now motion.now row.now) }
+{
+    put_plain(view, true, is_hit(motion, &own.traffic), true);
+    view.climbs = own.climbs;
+    view.side = side_of(motion);
+    view.halves = halves_to(&motion.range, row);
+    view.alim = own.alim;
+    view.gap = difference(motion.own.est, motion.target.est);
+    view.rate = motion.own.rate;
+    view.agl = own.height;
+}
+
+fn resolving_view(own: &OwnAircraft, motion: &Motion, row: &Row, threat: bool) -> View
+    requires own { AreRows own.now }
+    requires motion { IsMotion motion.now }
+    requires row { IsTableRow row.now }
+    requires threat { threat ≡ is_hit motion.now row.now }
     ensures { result ≡ resolving_view own.now motion.now row.now }
 {
     let approach = approach_of(motion, row);
@@ -67,7 +129,7 @@ fn resolving_view(own: &OwnAircraft, motion: &Motion, row: &Row) -> View
         tested: true,
         traffic: is_hit(motion, &own.traffic),
         resolves: true,
-        threat: is_hit(motion, row),
+        threat,
         climbs: own.climbs,
         side: side_of(motion),
         halves: approach.halves,

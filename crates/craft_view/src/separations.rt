@@ -32,7 +32,7 @@ pub const LATER_RESPONSE: Response = Response {
 
 // The half-seconds to closest approach.
 #[tactic(auto, unfolding(crate::specs::Separations::halves_to))]
-fn halves_to(range: &Estimate, row: &Row) -> u16
+pub(crate) fn halves_to(range: &Estimate, row: &Row) -> u16
     requires range { IsRangeEstimate range.now }
     requires row { IsTableRow row.now }
     ensures value { result ≡ halves_to range.now row.now }

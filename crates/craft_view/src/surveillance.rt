@@ -1,14 +1,14 @@
 // The aircraft of an encounter look at each other.
-ghost use Rattle.std.specs.Prelude.{◌≡◌, ◌<◌, ◌≤◌, None, IsSome, slice_index_or};
+ghost use Rattle.std.specs.Prelude.{◌≡◌, ◌<◌, ◌≤◌, None, IsSome, option_copied, slice_index_or};
 ghost use Rattle.acas_base.specs.declared.TheConstants.{CRAFTS};
 ghost use Rattle.craft_view.specs.Looking.{AreReady, IsReady, LookedOn, MayLook};
-ghost use Rattle.craft_view.specs.Views.{SayNothingFrom};
+ghost use Rattle.craft_view.specs.Views.{SayNothingFrom, picture_after, picture_of};
 ghost use Rattle.flight.specs.Inside.{IsInside};
 
 use crate::craft::Craft;
 use crate::own::is_active;
 use crate::pair::no_picture;
-use acas_base::{CRAFTS, Encounter, Picture};
+use acas_base::{CRAFTS, Cells, Encounter, Picture};
 use flight::Places;
 use std::array::from_fn;
 
@@ -51,11 +51,25 @@ impl Surveillance {
         requires ready { MayLook places.now own (slice_index_or self.old.crafts own None) }
         ensures { LookedOn places.now own self.old.crafts self.new.crafts self.new.picture }
     {
+        self.look_after(own, places, None);
+    }
+
+    /// The aircraft at an index looks, as in [`Surveillance::look`], after the cells of its last commit. The picture
+    /// only serves its next commit: a view has no separations where there is neither a threat nor an advisory of these
+    /// cells. Without cells it has them.
+    pub fn look_after(&mut self, own: u8, places: &Places, before: Option<&Cells>)
+        requires own { own < CRAFTS }
+        requires there { IsSome (slice_index_or self.old.crafts own None) }
+        requires left { places.now.cycle ≤ places.now.encounter.cycles }
+        requires ready { MayLook places.now own (slice_index_or self.old.crafts own None) }
+        ensures looked { LookedOn places.now own self.old.crafts self.new.crafts (picture_of places.now.encounter own places.now.cycle) }
+        ensures picture { self.new.picture ≡ picture_after (option_copied before.entry) places.now.encounter own places.now.cycle }
+    {
         let count = places.encounter().crafts().len();
         clear_past(&mut self.picture, self.seen, count);
         self.seen = count;
         match &mut self.crafts[usize::from(own)] {
-            Some(craft) => craft.look_into(places, &mut self.picture),
+            Some(craft) => craft.look_into(places, before, &mut self.picture),
             None => unreachable!(),
         }
     }

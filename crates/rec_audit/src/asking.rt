@@ -52,8 +52,8 @@ fn commit_like(
         return false;
     }
     move_to(places, cycle);
-    surveillance.look(own, places);
-    match state.commit(own, &surveillance.picture) {
+    surveillance.look_after(own, places, state.cells(own, cycle - 1));
+    match state.commit_after(own, &surveillance.picture) {
         Commit::Done(_) => true,
         _ => false,
     }

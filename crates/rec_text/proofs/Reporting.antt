@@ -1,12 +1,15 @@
 -- The report, commit by commit.
-use Rattle.std.proofs.Common.{◌≡◌, ℕ, ◌-◌, ◌*◌, ◌≤◌, List, length, Option, Some, None, refl, ap, ◌∙◌, arith, inl}
+use Rattle.std.proofs.Common.{◌≡◌, ℕ, ◌-◌, ◌*◌, ◌≤◌, ◌||◌, Bool, true, false, not, if◌then◌else◌, List, length, Option, Some, None, refl, ap, ◌∙◌, arith, inl}
 use Rattle.std.specs.Prelude.{option_to_list}
 use Rattle.std.proofs.Math.Nat.{mul-le-mul}
+use Rattle.std.proofs.lemmas.Bool.{and_parts}
 use Rattle.acas_base.specs.Encounter.{IsEncounter, Parts}
 use Rattle.acas_base.specs.declared.advisory.Cells.{Cells}
 use Rattle.acas_base.specs.declared.entry.Entry.{Entry}
 use Rattle.acas_lines.proofs.Ranges.{length-flat}
 use Rattle.advisory_report.specs.Composite.{clear, shown}
+use Rattle.advisory_report.specs.Phrases.{aural_of}
+use Rattle.advisory_report.specs.Report.{is_quiet, is_same_word, is_silent, report_line}
 use Rattle.advisory_report.specs.declared.composite.Composite.{Composite}
 use Rattle.air_journal.proofs.Adding.{no-cells}
 use Rattle.air_journal.proofs.Bounds.{few-crafts}
@@ -18,6 +21,18 @@ use Rattle.rec_text.specs.Report.{commit_report, report_in, report_lines, report
 -- Before its first commit an aircraft shows nothing.
 pub shown-first : (e : Parts) (journal : List Entry) → IsLegal (air_of e) journal → (own : ℕ) → shown_in journal 0 own ≡ clear
 shown-first e journal legal own = ap shown (no-cells (air_of e) journal legal own 0 (inl refl))
+
+none-where : (same silent : Bool) (line : List ℕ) → same ≡ true → silent ≡ true → (if not same || not silent then Some line else None) ≡ None
+none-where true true line a b = refl
+none-where true false line a b = absurd (cc)
+none-where false silent line a b = absurd (cc)
+
+-- Where the word stays and nothing is said there is no line.
+pub quiet-none : (cycle address : ℕ) (before after : Composite) → is_quiet before after ≡ true → report_line cycle address before after ≡ None
+unfolding report_line
+quiet-none cycle address before after quiet =
+    let both = and_parts (is_same_word before after) (is_silent (aural_of before after)) quiet in
+    none-where (is_same_word before after) (is_silent (aural_of before after)) _ both.0 both.1
 
 -- The line for an aircraft's commit of a cycle, from what was read of it.
 pub report-is : (e : Parts) (journal : List Entry) (cycle own address : ℕ) (before : Composite) (cells : Option Cells) →

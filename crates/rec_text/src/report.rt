@@ -1,14 +1,47 @@
 // The lines of the report.
-ghost use Rattle.std.specs.Prelude.{◌≡◌, ◌-◌, ◌<◌, ◌≤◌, ℕ, length, option_copied, slice_index_or};
+ghost use Rattle.std.specs.Prelude.{◌≡◌, ◌-◌, ◌<◌, ◌≤◌, ℕ, length, option_copied, option_to_list, slice_index_or};
 ghost use Rattle.acas_base.specs.declared.TheConstants.{CRAFTS};
 ghost use Rattle.advisory_report.specs.Composite.{clear, shown};
+ghost use Rattle.advisory_report.specs.Report.{report_line};
 ghost use Rattle.air_journal.specs.Cells.{commit_cells};
 ghost use Rattle.rec_text.specs.Report.{AreShown, commit_report, report_in, report_lines};
 
 use acas_base::{Address, CRAFTS, Cells};
 use acas_lines::{LineSink, Text, count_lines};
-use advisory_report::{Composite, composite_of, line};
+use advisory_report::{Composite, composite_of, is_quiet, line};
 use air_journal::AirState;
+
+// Puts the line of a commit, where the report has one. A function clears its memory for a line at its start: so it is
+// only called for a commit that may have one.
+fn put_line<S: LineSink>(
+    cycle: u16,
+    address: Address,
+    before: &Composite,
+    after: &Composite,
+    sink: &mut S,
+)
+    ensures { S.took sink.old sink.new (option_to_list (report_line cycle address before.now after.now)) }
+{
+    if let Some(line) = line(cycle, address, before, after) {
+        sink.line(&line);
+    }
+}
+
+// Does the same sooner, since most commits have no line.
+fn put_change<S: LineSink>(
+    cycle: u16,
+    address: Address,
+    before: &Composite,
+    after: &Composite,
+    sink: &mut S,
+)
+    ensures { S.took sink.old sink.new (option_to_list (report_line cycle address before.now after.now)) }
+{
+    if is_quiet(before, after) {
+        return;
+    }
+    put_line(cycle, address, before, after, sink);
+}
 
 // Puts the line of a commit, where the report has one, and gives what the aircraft shows after it.
 fn put_commit<S: LineSink>(
@@ -25,9 +58,7 @@ fn put_commit<S: LineSink>(
         return Composite::clear();
     };
     let after = composite_of(cells);
-    if let Some(line) = line(cycle, address, before, &after) {
-        sink.line(&line);
-    }
+    put_change(cycle, address, before, &after, sink);
     after
 }
 

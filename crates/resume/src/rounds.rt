@@ -35,8 +35,8 @@ fn commit_of(
     if !is_active(enc, own) {
         return;
     }
-    surveillance.look(own, places);
-    let _ = state.commit(own, &surveillance.picture);
+    surveillance.look_after(own, places, state.cells(own, done));
+    let _ = state.commit_after(own, &surveillance.picture);
 }
 
 // Sends all that an aircraft owes.

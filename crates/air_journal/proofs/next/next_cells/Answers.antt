@@ -5,15 +5,13 @@ use Rattle.acas_base.specs.declared.TheConstants.{CRAFTS}
 use Rattle.acas_base.specs.declared.advisory.Cell.{Cell}
 use Rattle.acas_base.specs.declared.advisory.Cell.TheVariants.{Clear}
 use Rattle.air_journal.proofs.Past.{next-past}
-use Rattle.air_journal.proofs.Seeing.{seen}
 use Rattle.air_journal.proofs.next.next_cells.Goals as goal
 use Rattle.air_journal.specs.Airs.{air_of}
 use Rattle.air_journal.specs.Found.{next_in}
-use Rattle.air_journal.specs.Kept.{made_at}
 
 pub next_for-requires-clause-view : goal.next_for-requires-clause-view
 next_for-requires-clause-view c =
-    rw c.from.ensures (seen c.args.encounter.now c.args.own ((made_at c.args.tables.now c.args.own).commits + 1) c.args.picture.now c.requires.picture c.loop-target.target (omega arith) _)
+    rw c.from.ensures (c.requires.picture c.loop-target.target _ (omega arith))
 
 pub loop-target-preserved : goal.loop-target-preserved
 loop-target-preserved c =

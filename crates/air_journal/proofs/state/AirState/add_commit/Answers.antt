@@ -1,4 +1,4 @@
-use Rattle.std.proofs.Common.{◌≡◌, ℕ, ◌+◌, ◌<◌, ◌≤◌, true, sym, ap, ◌∙◌, subst, arith}
+use Rattle.std.proofs.Common.{◌≡◌, ℕ, ◌+◌, ◌<◌, ◌≤◌, true, get_or, sym, ap, ◌∙◌, subst, arith}
 use Rattle.acas_base.specs.declared.TheConstants.{CRAFTS}
 use Rattle.air_journal.proofs.Adding.{CommitFits, commit-fits, committed-whole, may-commit}
 use Rattle.air_journal.proofs.Bounds.{active-is, below, below-all}
@@ -6,14 +6,17 @@ use Rattle.air_journal.proofs.Past.{same-past}
 use Rattle.air_journal.proofs.Telling.{ages, count-is}
 use Rattle.air_journal.specs.Airs.{air_of}
 use Rattle.air_journal.specs.Calls.{Committed, IsFree}
-use Rattle.air_journal.specs.Kept.{IsSamePast, made_at}
+use Rattle.acas_base.specs.declared.advisory.Cell.{Cell}
+use Rattle.air_journal.specs.Kept.{IsSamePast, link_at, made_at}
+use Rattle.air_journal.specs.Pictures.{IsEnough, Suffices}
+use Rattle.air_journal.specs.declared.kept.Link.{Link}
 use Rattle.air_journal.specs.States.{IsWhole, State}
 use Rattle.air_rules.specs.Air.{is_active}
 use Rattle.air_rules.specs.Journal.{commits}
 use Rattle.craft_view.specs.Kept.{IsActive}
 use Rattle.air_journal.proofs.state.AirState.add_commit.Goals as goal
 use Rattle.air_journal.proofs.state.AirState.add_commit.Goals.{After-commit, After-len-position, After-next_cells-cells}
-use Rattle.craft_view.specs.Views.{picture_of}
+use Rattle.craft_view.specs.Views.{view_of}
 use Rattle.air_journal.proofs.Bounds.{fits, most-few}
 
 active : (c : After-len-position) → is_active (air_of c.self.inside.encounter) c.args.own ≡ true
@@ -56,9 +59,13 @@ pub next_cells-cells-requires-clause-made : goal.next_cells-cells-requires-claus
 next_cells-cells-requires-clause-made c = few (goal.at.next_cells-cells-requires-clause-made c).After-len-position
 
 pub next_cells-cells-requires-clause-picture : goal.next_cells-cells-requires-clause-picture
-next_cells-cells-requires-clause-picture c =
-    subst (λ (s : State). c.args.pic.now ≡ picture_of s.encounter c.args.own (commits s.journal c.args.own + 1)) (sym c.self.view_is) c.requires.picture
-    ∙ ap (λ (n : ℕ). picture_of c.self.inside.encounter c.args.own (n + 1)) (sym (count (goal.at.next_cells-cells-requires-clause-picture c).After-len-position))
+next_cells-cells-requires-clause-picture c = λ other d few.
+    let p = (goal.at.next_cells-cells-requires-clause-picture c).After-len-position in
+    let e = c.self.inside.encounter in
+    let enough = subst (λ (s : State). Suffices s.encounter s.journal c.args.own c.args.pic.now) (sym c.self.view_is) c.requires.picture other d few in
+    subst (λ (n : ℕ). IsEnough (link_at c.self.inside.tables c.args.own other).cell (view_of e c.args.own other (n + 1)) (get_or c.args.pic.now.views other d)) (sym (count p))
+    (subst (λ (b : Cell). IsEnough b (view_of e c.args.own other (commits c.self.inside.journal.entries c.args.own + 1)) (get_or c.args.pic.now.views other d))
+    (sym (ap (λ (l : Link). l.cell) (c.self.invariant.whole.kept.link c.args.own other (own p) few))) enough)
 
 pub next_cells-cells-requires-clause-age : goal.next_cells-cells-requires-clause-age
 next_cells-cells-requires-clause-age c =

@@ -1,0 +1,36 @@
+-- What is shown of a view.
+use Rattle.std.proofs.Common.{◌≡◌, ℕ, Bool, true, false, Some, None, refl, sym}
+use Rattle.std.specs.Prelude.{is_some}
+use Rattle.acas_base.specs.Encounter.{Parts}
+use Rattle.acas_base.specs.declared.level.Row.{Row}
+use Rattle.acas_num.specs.declared.track.TrackState.{TrackState}
+use Rattle.craft_view.specs.Hits.{is_hit}
+use Rattle.craft_view.specs.KnownTracks.{motion_of}
+use Rattle.craft_view.specs.Views.{picture_after, picture_of, plain_view, resolving_view, shown, tested_view, view_by}
+use Rattle.craft_view.specs.declared.motion.Motion.{Motion}
+use Rattle.craft_view.specs.declared.own.OwnAircraft.{OwnAircraft}
+use Rattle.craft_view.specs.declared.tracks.Tracks.{Tracks}
+
+-- A view that isn't tested or doesn't resolve has no separations.
+pub shown-plain : (asked tested traffic resolves : Bool) → shown asked (plain_view tested traffic resolves) ≡ plain_view tested traffic resolves
+shown-plain true tested traffic resolves = refl
+shown-plain false tested traffic resolves = refl
+
+pub shown-untested : (asked : Bool) (own : OwnAircraft) (mine : TrackState) (tracks : Tracks) → motion_of mine tracks ≡ None → plain_view false false (is_some own.resolution) ≡ shown asked (view_by own mine tracks)
+unfolding view_by
+shown-untested asked own mine tracks none = rw none (sym (shown-plain asked false false (is_some own.resolution)))
+
+pub shown-tested : (asked : Bool) (own : OwnAircraft) (mine : TrackState) (tracks : Tracks) (m : Motion) → motion_of mine tracks ≡ Some m → shown asked (tested_view own m) ≡ shown asked (view_by own mine tracks)
+unfolding view_by
+shown-tested asked own mine tracks m is = rw is refl
+
+pub shown-unresolved : (asked : Bool) (own : OwnAircraft) (m : Motion) → own.resolution ≡ None → plain_view true (is_hit m own.traffic) false ≡ shown asked (tested_view own m)
+shown-unresolved asked own m none = rw none (sym (shown-plain asked true (is_hit m own.traffic) false))
+
+pub shown-resolving : (asked : Bool) (own : OwnAircraft) (m : Motion) (row : Row) → own.resolution ≡ Some row → shown asked (resolving_view own m row) ≡ shown asked (tested_view own m)
+shown-resolving asked own m row is = rw is refl
+
+-- Without cells before, all is shown.
+pub whole-picture : (e : Parts) (own cycle : ℕ) → picture_after None e own cycle ≡ picture_of e own cycle
+unfolding picture_after picture_of
+whole-picture e own cycle = refl
