@@ -2,6 +2,8 @@
 #![tactic(auto)]
 
 #[cfg(test)]
+mod deliveries_tests;
+#[cfg(test)]
 mod journal_tables_tests;
 #[cfg(test)]
 mod pair_watch_tests;

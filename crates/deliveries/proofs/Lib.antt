@@ -1,0 +1,5 @@
+pub mod Reading
+pub mod Marking
+pub mod Slots
+pub mod Befalling
+pub mod Telling

@@ -1,0 +1,7 @@
+pub mod Rows
+pub mod Mishaps
+pub mod Misses
+pub mod Noted
+pub mod Laws
+pub mod Text
+pub mod Told

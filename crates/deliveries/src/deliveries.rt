@@ -1,0 +1,217 @@
+// What became of the messages of a journal.
+ghost use Rattle.std.specs.Prelude.{◌≡◌, ◌≤◌, ◌<◌, IfOk, is_some, length};
+ghost use Rattle.acas_base.specs.Encounter.{IsEncounter};
+ghost use Rattle.acas_base.specs.Fates.{copies_of};
+ghost use Rattle.acas_base.specs.Ranges.{IsCycle};
+ghost use Rattle.air_journal.specs.Airs.{air_of};
+ghost use Rattle.air_journal.specs.EntryRefs.{entry_of};
+ghost use Rattle.air_journal.specs.Ranges.{IsEntry};
+ghost use Rattle.air_rules.specs.Journal.{as_sent, sends, sent_at};
+ghost use Rattle.air_rules.specs.Rules.{IsLegal};
+ghost use Rattle.deliveries.specs.Mishaps.{befallen, befallen_of, befalls, befalls_sent, is_held_back, is_lost, is_repeated};
+ghost use Rattle.deliveries.specs.Noted.{takes_by};
+ghost use Rattle.deliveries.specs.Text.{sent_count};
+
+use crate::mishap::Mishap;
+use crate::noting::Notes;
+use crate::rows::Numbers;
+use crate::takes::Takes;
+use acas_base::{CRAFTS, Fate, pair_of};
+use air_journal::{AirState, EntryRef};
+use std::alloc::{AllocError, Global};
+use std::marker::Model;
+
+/// What became of the messages of a journal. Aircraft are named by their indices, and an aircraft numbers its messages to
+/// another one from 1 on.
+#[derive(Drop)]
+pub struct Deliveries<'a> {
+    state: &'a AirState,
+    notes: Notes,
+}
+
+impl<'a> Model for Deliveries<'a> {
+    ghost use Rattle.std.specs.Prelude.{length};
+    ghost use Rattle.air_journal.specs.States.{State};
+    ghost use Rattle.deliveries.specs.Noted.{AreNotes};
+
+    ghost Value = { State };
+
+    ghost view = { λ d. d.state.now };
+
+    ghost invariant = { λ d. AreNotes d.state.now.encounter d.state.now.journal (length d.state.now.journal) d.notes.takes.items d.notes.sent };
+}
+
+fn is_lost(fate: &Fate) -> bool
+    ensures { result ≡ is_lost (copies_of fate.now) }
+{
+    fate.copies == 0
+}
+
+fn is_repeated(fate: &Fate) -> bool
+    ensures { result ≡ is_repeated (copies_of fate.now) }
+{
+    fate.copies > 1
+}
+
+fn is_held_back(fate: &Fate) -> bool
+    ensures { result ≡ is_held_back (copies_of fate.now) }
+{
+    if fate.copies >= 1 && fate.first.hold > 0 {
+        return true;
+    }
+    if fate.copies >= 2 && fate.second.hold > 0 {
+        return true;
+    }
+    fate.copies >= 3 && fate.third.hold > 0
+}
+
+// Whether an entry sends a message.
+fn is_send(entry: &EntryRef<'_>) -> bool
+    ensures { result ≡ is_some (as_sent (entry_of entry.now)) }
+{
+    match *entry {
+        EntryRef::Send { .. } => true,
+        EntryRef::Commit { .. } | EntryRef::Take { .. } => false,
+    }
+}
+
+impl<'a> Deliveries<'a> {
+    /// Those of a state. They take memory by the pairs of its aircraft: 38,400 bytes for each aircraft. Want of memory is
+    /// the only error.
+    pub fn new(alloc: Global, state: &'a AirState) -> Result<Deliveries<'a>, AllocError>
+        ensures { IfOk result (λ deliveries. deliveries ≡ state.now) }
+    {
+        let notes = Notes::new(alloc, state)?;
+        Ok(Deliveries { state, notes })
+    }
+
+    /// The state.
+    pub fn state(&self) -> &'a AirState
+        ensures { result.now ≡ self.now }
+    {
+        self.state
+    }
+
+    // The state's encounter is one, and its journal is legal.
+    fn legal_law(&self)
+        ensures valid { IsEncounter self.now.encounter }
+        ensures legal { IsLegal (air_of self.now.encounter) self.now.journal }
+    {
+        self.state.legal_law();
+    }
+
+    /// How many messages one aircraft sent to another one, at most 600.
+    pub fn sent(&self, sender: u8, receiver: u8) -> u16
+        requires sender { sender < length self.now.encounter.crafts }
+        requires receiver { receiver < length self.now.encounter.crafts }
+        ensures value { result ≡ sends self.now.journal sender receiver }
+        ensures few { result ≤ 600 }
+    {
+        self.state.legal_law();
+        self.notes.sent[pair_of(sender, receiver)]
+    }
+
+    // The takes of a message.
+    fn takes(&self, sender: u8, receiver: u8, number: u16) -> Takes
+        requires sender { sender < length self.now.encounter.crafts }
+        requires receiver { receiver < length self.now.encounter.crafts }
+        requires number { IsCycle number }
+        ensures { result ≡ takes_by (sent_at self.now.journal) self.now.journal sender receiver number }
+    {
+        self.state.legal_law();
+        self.notes.takes(sender, receiver, number)
+    }
+
+    /// Whether this befalls the message of a number, from 1 to how many were sent.
+    pub fn befalls(&self, mishap: Mishap, sender: u8, receiver: u8, number: u16) -> bool
+        requires sender { sender < length self.now.encounter.crafts }
+        requires receiver { receiver < length self.now.encounter.crafts }
+        requires number { IsCycle number }
+        ensures { result ≡ befalls self.now.encounter self.now.journal mishap sender receiver number }
+    {
+        self.legal_law();
+        let fate = self.state().enc().fate(sender, receiver, number);
+        match mishap {
+            Mishap::Lost => is_lost(&fate),
+            Mishap::Spoilt => self.takes(sender, receiver, number).is_spoilt(),
+            Mishap::HeldBack => is_held_back(&fate),
+            Mishap::Repeated => is_repeated(&fate),
+            Mishap::Untaken => self.takes(sender, receiver, number).some_left(fate.copies),
+        }
+    }
+
+    /// How many messages were sent.
+    pub fn sent_count(&self) -> u32
+        ensures { result ≡ sent_count self.now.journal }
+    {
+        count_sent(self.state)
+    }
+
+    /// How many of the messages that were sent this befalls.
+    pub fn befallen(&self, mishap: Mishap) -> u32
+        ensures { result ≡ befallen self.now.encounter self.now.journal mishap }
+    {
+        count_befallen(self, self.state, mishap)
+    }
+
+    /// Which of the messages that one aircraft sent to another one this befalls, by their numbers.
+    pub fn numbers(&self, mishap: Mishap, sender: u8, receiver: u8) -> Numbers
+        requires sender { sender < length self.now.encounter.crafts }
+        requires receiver { receiver < length self.now.encounter.crafts }
+        ensures { result ≡ befallen_of self.now.encounter self.now.journal mishap sender receiver }
+    {
+        let mut numbers = Numbers::new();
+        for before in 0..self.sent(sender, receiver) {
+            numbers.push(self.befalls(mishap, sender, receiver, before + 1));
+        }
+        numbers
+    }
+}
+
+// Whether an entry of the journal sends a message that this befalls.
+fn befalls_sent(deliveries: &Deliveries<'_>, mishap: Mishap, entry: &EntryRef<'_>) -> bool
+    requires { IsEntry (length deliveries.now.encounter.crafts) (entry_of entry.now) }
+    ensures { result ≡ befalls_sent deliveries.now.encounter deliveries.now.journal mishap (entry_of entry.now) }
+{
+    match *entry {
+        EntryRef::Send {
+            own,
+            target,
+            number,
+            ..
+        } => deliveries.befalls(mishap, own, target, number),
+        EntryRef::Commit { .. } | EntryRef::Take { .. } => false,
+    }
+}
+
+// How many messages were sent in the journal of a state.
+fn count_sent(state: &AirState) -> u32
+    ensures { result ≡ sent_count state.now.journal }
+{
+    let mut found = 0;
+    for at in 0..state.count() {
+        if let Some(entry) = state.entry_ref(at) {
+            if is_send(&entry) {
+                found += 1;
+            }
+        }
+    }
+    found
+}
+
+// How many of them this befalls.
+fn count_befallen(deliveries: &Deliveries<'_>, state: &AirState, mishap: Mishap) -> u32
+    requires { deliveries.now ≡ state.now }
+    ensures { result ≡ befallen state.now.encounter state.now.journal mishap }
+{
+    state.legal_law();
+    let mut found = 0;
+    for at in 0..state.count() {
+        if let Some(entry) = state.entry_ref(at) {
+            if befalls_sent(deliveries, mishap, &entry) {
+                found += 1;
+            }
+        }
+    }
+    found
+}
