@@ -1,21 +1,18 @@
 -- The replies that an encounter plans to be missed.
-use Rattle.std.specs.Prelude.{ℕ, Bool, ◌&&◌, ◌==◌, nat_le, List, map}
+use Rattle.std.specs.Prelude.{ℕ, Bool, ◌&&◌, nat_le, List, map}
 use Rattle.std.specs.List.{list_any, range_with_len}
 use Rattle.acas_base.specs.Encounter.{Parts, is_active_at}
 use Rattle.acas_base.specs.declared.craft.CraftSpec.{CraftSpec}
 use Rattle.acas_base.specs.declared.craft.Miss.{Miss}
-
--- A miss of one aircraft with another one has this cycle.
-abbrev pub is_miss_in : ℕ → ℕ → ℕ → Miss → Bool
-is_miss_in own target cycle miss = (miss.own == own && miss.target == target) && (nat_le miss.from cycle && nat_le cycle miss.to)
+use Rattle.flight.specs.Measurement.{is_missed}
 
 -- An active aircraft gets no reply from another one in a cycle.
-abbrev pub is_missed : Parts → ℕ → ℕ → ℕ → Bool
-is_missed e own target cycle = is_active_at e.crafts own && list_any (is_miss_in own target cycle) e.misses
+abbrev pub misses_reply : Parts → ℕ → ℕ → ℕ → Bool
+misses_reply e own target cycle = is_active_at e.crafts own && is_missed e own target cycle
 
 -- The flags say in which cycles of the run.
 abbrev pub missed_of : Parts → ℕ → ℕ → List Bool
-missed_of e own target = map (is_missed e own target) (range_with_len 1 e.cycles)
+missed_of e own target = map (misses_reply e own target) (range_with_len 1 e.cycles)
 
 -- A miss of an active aircraft begins within the run.
 abbrev pub is_miss_of_run : List CraftSpec → ℕ → Miss → Bool

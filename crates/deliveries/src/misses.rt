@@ -1,36 +1,16 @@
 // The replies that an encounter plans to be missed.
 ghost use Rattle.std.specs.Prelude.{◌≡◌};
 ghost use Rattle.std.specs.List.{list_any};
-ghost use Rattle.deliveries.specs.Misses.{has_misses, is_miss_in, is_miss_of_run, is_missed, missed_of};
+ghost use Rattle.deliveries.specs.Misses.{has_misses, is_miss_of_run, misses_reply, missed_of};
 
 use crate::rows::Numbers;
 use acas_base::{CraftSpec, Encounter, Miss, is_active_at};
+use flight::is_missed;
 
-fn is_miss_in(own: u8, target: u8, cycle: u16, miss: &Miss) -> bool
-    ensures { result ≡ is_miss_in own target cycle miss.now }
+fn misses_reply(encounter: &Encounter, own: u8, target: u8, cycle: u16) -> bool
+    ensures { result ≡ misses_reply encounter.now own target cycle }
 {
-    if miss.own != own {
-        return false;
-    }
-    if miss.target != target {
-        return false;
-    }
-    miss.from <= cycle && cycle <= miss.to
-}
-
-// Whether a miss of one aircraft with another one has this cycle.
-fn some_miss(misses: &[Miss], own: u8, target: u8, cycle: u16) -> bool
-    ensures { result ≡ list_any (is_miss_in own target cycle) misses.now }
-{
-    misses
-        .iter()
-        .any(|miss| is_miss_in(own, target, cycle, miss))
-}
-
-fn is_missed(encounter: &Encounter, own: u8, target: u8, cycle: u16) -> bool
-    ensures { result ≡ is_missed encounter.now own target cycle }
-{
-    is_active_at(encounter.crafts(), own) && some_miss(encounter.misses(), own, target, cycle)
+    is_active_at(encounter.crafts(), own) && is_missed(encounter, own, target, cycle)
 }
 
 /// In which cycles of the run an active aircraft gets no reply from another one, by the plan of an encounter.
@@ -40,7 +20,7 @@ pub fn missed(encounter: &Encounter, own: u8, target: u8) -> Numbers
     encounter.valid_law();
     let mut cycles = Numbers::new();
     for before in 0..encounter.cycles() {
-        cycles.push(is_missed(encounter, own, target, before + 1));
+        cycles.push(misses_reply(encounter, own, target, before + 1));
     }
     cycles
 }

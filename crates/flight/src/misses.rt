@@ -7,8 +7,8 @@ ghost use Rattle.flight.specs.Measurement.{covers, is_missed, lasts_in, misses_i
 
 use acas_base::{Encounter, Miss, Record};
 
-// Whether a record says that this own aircraft misses this target in a cycle.
-pub(crate) fn is_missed(encounter: &Encounter, own: u8, target: u8, cycle: u16) -> bool
+/// Whether a record says that this own aircraft misses the reply of this target in a cycle.
+pub fn is_missed(encounter: &Encounter, own: u8, target: u8, cycle: u16) -> bool
     ensures { result ≡ is_missed encounter.now own target cycle }
 {
     let misses = encounter.misses();
