@@ -1,23 +1,26 @@
 -- What befalls a message.
-use Rattle.std.proofs.Common.{◌≡◌, ℕ, zero, suc, ◌+◌, ◌<◌, ◌≤◌, Bool, true, false, not, ◌&&◌, ◌||◌, cond, eqb, List, [], ◌∷◌, length, take, Option, refl, sym, ap, ap₂, ◌∙◌, arith, inl, inr, lt-ltb, le-leb, eqb-true}
-use Rattle.std.specs.Prelude.{All, nat_le, nat_lt}
+use Rattle.std.proofs.Common.{◌≡◌, ℕ, zero, suc, ◌+◌, ◌<◌, ◌≤◌, Bool, true, false, not, ◌&&◌, ◌||◌, cond, eqb, List, [], ◌∷◌, length, take, Option, refl, sym, ap, ap₂, ◌∙◌, arith, inl, inr, lt-ltb, le-leb, eqb-true, eq-eqb, ne_eqb}
+use Rattle.std.specs.Prelude.{All, Some, nat_le, nat_lt, reverse, slice_get}
 use Rattle.std.specs.List.{list_any, range_with_len}
-use Rattle.std.proofs.lemmas.Bool.{cases_Bool, cases_eq, or_left, or_right}
+use Rattle.std.proofs.lemmas.Bool.{and_from, cases_Bool, cases_eq, or_left, or_right}
 use Rattle.std.proofs.lemmas.List.{take_all}
 use Rattle.std.proofs.lemmas.List.Elements.{All-head, All-tail}
+use Rattle.acas_base.specs.Encounter.{IsEncounter, Parts}
 use Rattle.acas_base.specs.declared.entry.Entry.{Entry}
 use Rattle.acas_base.specs.declared.entry.Entry.TheVariants.{Commit, Send, Take}
 use Rattle.acas_base.specs.declared.link.CopyPlan.{CopyPlan}
+use Rattle.air_journal.specs.Airs.{air_of}
 use Rattle.air_journal.specs.Ranges.{IsEntry}
 use Rattle.air_rules.proofs.Legal.{allowed, earlier}
 use Rattle.air_rules.proofs.Pace.{count-no, count-yes}
 use Rattle.air_rules.specs.Air.{Air}
-use Rattle.air_rules.specs.Journal.{Sent, is_send_of, sends, sent_at}
+use Rattle.air_rules.specs.Journal.{Begins, Sent, as_sent, is_send_of, more, sends, sent_at, whole}
 use Rattle.air_rules.specs.Rules.{IsLegal}
+use Rattle.deliveries.proofs.Reading.{follows}
 use Rattle.deliveries.proofs.Slots.{matches}
 use Rattle.deliveries.specs.Laws.{AreNumbered}
-use Rattle.deliveries.specs.Mishaps.{TakeTest, is_held_back, is_message, is_spoilt, is_take_by, is_untaken, was_copy_taken, was_sent}
-use Rattle.deliveries.specs.Noted.{no_takes, some_copy, some_left, takes_by, with_take}
+use Rattle.deliveries.specs.Mishaps.{TakeTest, is_held_back, is_lost, is_message, is_repeated, is_spoilt, is_take_by, is_untaken, was_copy_taken, was_sent}
+use Rattle.deliveries.specs.Noted.{IsEntryOf, no_takes, read_of, some_copy, some_left, takes_by, with_take}
 use Rattle.deliveries.specs.declared.takes.Takes.{Takes}
 
 -- ---- the numbers of messages
@@ -147,9 +150,36 @@ pub untaken-is : (J : List Entry) (s r n copies : ℕ) (a b d : CopyPlan) → so
 untaken-is J s r n copies a b d =
     left-is (takes_by (sent_at J) J s r n) (was_copy_taken J s r n) copies a b d (first-is (sent_at J) s r n J) (second-is (sent_at J) s r n J) (third-is (sent_at J) s r n J)
 
+-- ---- how many copies there are
+
+pub lost-is : (n : ℕ) (a b d : CopyPlan) → eqb n 0 ≡ is_lost (take n (a ∷ b ∷ d ∷ []))
+lost-is zero a b d = refl
+lost-is (suc n) a b d = ne_eqb (suc n) 0 (λ e. omega arith) ∙ sym (ne_eqb (length (take (suc n) (a ∷ b ∷ d ∷ []))) 0 (λ e. omega arith))
+
+pub repeated-is : (n : ℕ) (a b d : CopyPlan) → nat_lt 1 n ≡ is_repeated (take n (a ∷ b ∷ d ∷ []))
+repeated-is zero a b d = refl
+repeated-is (suc zero) a b d = refl
+repeated-is (suc (suc n)) a b d = lt-ltb 1 (suc (suc n)) (omega arith) ∙ sym (lt-ltb 1 (length (take (suc (suc n)) (a ∷ b ∷ d ∷ []))) (omega arith))
+
 -- ---- copies that are held back
 
 pub second-held : (n : ℕ) (a b d : CopyPlan) → 2 ≤ n → 0 < b.hold → true ≡ is_held_back (take n (a ∷ b ∷ d ∷ []))
 second-held zero a b d few held = absurd (omega arith)
 second-held (suc zero) a b d few held = absurd (omega arith)
 second-held (suc (suc n)) a b d few held = sym (or_right (nat_lt 0 a.hold) _ (or_left (nat_lt 0 b.hold) _ (lt-ltb 0 b.hold held)))
+
+-- ---- the messages of a journal
+
+-- What an entry of a journal sends was sent.
+there : (test : Entry → Bool) (x : Entry) (K J : List Entry) → Begins (x ∷ K) J → test x ≡ true → list_any test J ≡ true
+there test x K J whole is = or_left (test x) (list_any test K) is
+there test x K J (more {entry = y} {journal = L} b) is = or_right (test y) (list_any test L) (there test x K L b is)
+
+pub entry-of : (e : Parts) (J : List Entry) (at : ℕ) (x : Entry) → IsEncounter e → IsLegal (air_of e) J → slice_get (reverse J) at ≡ Some x → IsEntryOf e J x
+entry-of e J at (Commit own cycle cells) valid legal is = tt
+entry-of e J at (Take own send copy good) valid legal is = tt
+entry-of e J at (Send own target number word) valid legal is =
+    let f = follows e J at (Send own target number word) valid legal is in
+    let here : is_message (as_sent (Send own target number word)) own target number ≡ true = and_from (eqb own own) _ (eq-eqb own own refl) (and_from (eqb target target) _ (eq-eqb target target refl) (eq-eqb number number refl)) in
+    let sent = there (λ (entry : Entry). is_message (as_sent entry) own target number) (Send own target number word) (read_of J at) J f.begins here in
+    (f.fits.0, f.fits.1, f.fits.2.0, ((are-numbered (air_of e) J legal own target number).0 sent).1)

@@ -55,6 +55,7 @@ holds-next P entry K J (more {entry = x} {journal = L} b) all = holds-next P ent
 
 pub record Follows (e : Parts) (journal : List Entry) (at : ℕ) (entry : Entry) : Type 0 where
   pub grows : read_of journal (at + 1) ≡ entry ∷ read_of journal at
+  pub begins : Begins (entry ∷ read_of journal at) journal
   pub legal : IsLegal (air_of e) (entry ∷ read_of journal at)
   pub fits : IsEntry (length e.crafts) entry
 
@@ -65,6 +66,7 @@ follows e journal at entry is legal here =
     let begins : Begins (entry ∷ read_of journal at) journal = subst (λ (k : List Entry). Begins k journal) grows (read-begins journal (at + 1) (omega arith)) in
     record {
       grows = grows;
+      begins = begins;
       legal = legal-begins (air_of e) begins legal;
       fits = holds-next (IsEntry (length e.crafts)) entry (read_of journal at) journal begins (entries-fit e journal is legal);
     }

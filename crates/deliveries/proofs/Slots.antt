@@ -1,6 +1,6 @@
 -- The tables of the messages of a journal.
 use Rattle.std.proofs.Common.{◌≡◌, ℕ, ◌+◌, ◌*◌, ◌<◌, ◌≤◌, Bool, true, false, eqb, List, [], ◌∷◌, length, length-set, set, get_or, replicate, refl, sym, ap, ◌∙◌, subst, arith, inl, inr, ◌⊎◌, Option, Some, None, eq-eqb, ne_eqb}
-use Rattle.std.specs.Prelude.{◌&&◌, option_and_then, reverse, slice_get}
+use Rattle.std.specs.Prelude.{◌&&◌, ◌||◌, option_and_then, reverse, slice_get}
 use Rattle.std.proofs.lemmas.Bool.{cases_eq, cond-false, cond-true, and_from, and_left, and_right}
 use Rattle.std.proofs.lemmas.List.{get_or-replicate, get_or-set_other, get_or-set_same, length-replicate}
 use Rattle.acas_base.specs.Encounter.{IsEncounter, Parts}
@@ -19,8 +19,9 @@ use Rattle.air_rules.proofs.Pace.{count-no, count-yes}
 use Rattle.air_rules.specs.Journal.{Sent, as_sent, is_send_of, sends, sent_at}
 use Rattle.air_rules.specs.Rules.{IsLegal}
 use Rattle.deliveries.proofs.Reading.{follows, read-all, read-more, read-past}
-use Rattle.deliveries.specs.Mishaps.{is_message}
-use Rattle.deliveries.specs.Noted.{AreNotes, AreSent, AreTakes, IsSlotFound, IsSlotOf, message_slot, no_takes, read_of, takes_by, with_take}
+use Rattle.deliveries.specs.Mishaps.{is_message, was_sent}
+use Rattle.deliveries.specs.Noted.{AreCopies, AreNotes, AreSent, AreTakes, IsSlotFound, IsSlotOf, copies_for, message_slot, no_copies, no_takes, read_of, takes_by, with_take}
+use Rattle.deliveries.specs.declared.takes.Copies.{Copies}
 use Rattle.deliveries.specs.declared.takes.Takes.{Takes}
 
 -- ---- places
@@ -68,8 +69,11 @@ sent-none = record {
   each = λ s r hs hr. get_or-replicate 256 (s * 16 + r) nothing nothing (omega arith);
 }
 
-pub notes-none : (e : Parts) (J : List Entry) → AreNotes e J 0 (replicate (length e.crafts * 9600) no_takes) (replicate 256 nothing)
-notes-none e J = record { takes_are = takes-none (length e.crafts) (sent_at J); sent_are = sent-none }
+copies-none : (e : Parts) → AreCopies e [] (replicate (length e.crafts * 9600) no_copies)
+copies-none e = record { size = length-replicate (length e.crafts * 9600) no_copies; each = λ s r n hs hr hn sent. absurd cc }
+
+pub notes-none : (e : Parts) (J : List Entry) → AreNotes e J 0 (replicate (length e.crafts * 9600) no_copies) (replicate (length e.crafts * 9600) no_takes) (replicate 256 nothing)
+notes-none e J = record { copies_are = copies-none e; takes_are = takes-none (length e.crafts) (sent_at J); sent_are = sent-none }
 
 -- ---- an entry is noted
 
@@ -128,6 +132,25 @@ send-noted K sent own target number word place ho ht is next t = record {
     other s r hs hr differ apart =
         get_or-set_other sent place (s * 16 + r) number 0 (λ e. apart (sym e)) ∙ t.each s r hs hr ∙ sym (count-no (is_send_of s r) (Send own target number word) K differ)
 
+copies-noted : (e : Parts) (K : List Entry) (copies : List Copies) (own target number word : ℕ) → own < length e.crafts → target < CRAFTS → IsCycle number → AreCopies e K copies →
+    AreCopies e (Send own target number word ∷ K) (set copies (message_slot own target number) (copies_for e own target number))
+copies-noted e K copies own target number word ho ht hn t =
+    let slot = message_slot own target number in
+    let new = copies_for e own target number in
+    let small : slot < length copies = (let place = slot-small (length e.crafts) own target number ho ht hn in let size = t.size in omega arith) in
+    record {
+      size = length-set copies slot new ∙ t.size;
+      each = λ s r n hs hr hm sent. elim (matches own target number s r n) [
+        | inl same ↦
+            (let here : message_slot s r n ≡ slot = (let a = same.0 in let b = same.1 in let d = same.2 in sym (λ j. message_slot (a j) (b j) (d j))) in
+            ap (λ (k : ℕ). get_or (set copies slot new) k no_copies) here ∙ get_or-set_same copies slot new no_copies small
+            ∙ (let a = same.0 in let b = same.1 in let d = same.2 in λ j. copies_for e (a j) (b j) (d j)))
+        | inr apart ↦
+            get_or-set_other copies slot (message_slot s r n) new no_copies (λ q. apart.1 (slot-same own target number s r n ht hn hr hm (sym q)))
+            ∙ t.each s r n hs hr hm (sym (ap (λ (b : Bool). b || was_sent K s r n) apart.0) ∙ sent)
+      ];
+    }
+
 -- ---- what was sent
 
 -- The entry at a position of a journal, with its parts in their ranges.
@@ -140,7 +163,7 @@ sent-found count J at entry slot is h = subst (λ (o : Option Sent). IsSlotFound
 pub none-sent : (J : List Entry) (at : ℕ) → slice_get (reverse J) at ≡ None → sent_at J at ≡ None
 none-sent J at is = sent-at-index J at ∙ ap (option_and_then as_sent) is
 
-pub slot-within : (e : Parts) (J : List Entry) (K : List Entry) (takes : List Takes) (found : Option Sent) (slot : ℕ) → IsEncounter e → IsSlotOf (length e.crafts) found slot → AreTakes (length e.crafts) (sent_at J) K takes → slot < length takes
+pub slot-within : (e : Parts) (J K : List Entry) (takes : List Takes) (found : Option Sent) (slot : ℕ) → IsEncounter e → IsSlotOf (length e.crafts) found slot → AreTakes (length e.crafts) (sent_at J) K takes → slot < length takes
 slot-within e J K takes found slot valid f t =
     let few = few-crafts e valid in
     let place = slot-small (length e.crafts) f.sent.sender f.sent.receiver f.sent.number f.sender (let r = f.receiver in omega arith) f.number in
@@ -148,91 +171,102 @@ slot-within e J K takes found slot valid f t =
     let is = f.slot_is in
     omega arith
 
+pub copies-within : (e : Parts) (K : List Entry) (copies : List Copies) (own target number : ℕ) → IsEncounter e → own < length e.crafts → target < length e.crafts → IsCycle number → AreCopies e K copies → message_slot own target number < length copies
+copies-within e K copies own target number valid ho ht hn t =
+    let few = few-crafts e valid in
+    let place = slot-small (length e.crafts) own target number ho (omega arith) hn in
+    let size = t.size in
+    omega arith
+
 -- ---- one entry more of a journal
 
-module _ (e : Parts) (J : List Entry) (at : ℕ) (takes : List Takes) (sent : List ℕ) (valid : IsEncounter e) (legal : IsLegal (air_of e) J) (t : AreNotes e J at takes sent) where
-  pub commit-noted : (own cycle : ℕ) (cells : Cells) → slice_get (reverse J) at ≡ Some (Commit own cycle cells) → AreNotes e J (at + 1) takes sent
+-- What is noted of these entries, which are the first ones.
+notes-of : (e : Parts) (J K : List Entry) (at : ℕ) (copies : List Copies) (takes : List Takes) (sent : List ℕ) → read_of J at ≡ K → AreCopies e K copies → AreTakes (length e.crafts) (sent_at J) K takes → AreSent K sent → AreNotes e J at copies takes sent
+notes-of e J K at copies takes sent is cs ts ss = record {
+  copies_are = subst (λ (L : List Entry). AreCopies e L copies) (sym is) cs;
+  takes_are = subst (λ (L : List Entry). AreTakes (length e.crafts) (sent_at J) L takes) (sym is) ts;
+  sent_are = subst (λ (L : List Entry). AreSent L sent) (sym is) ss;
+}
+
+module _ (e : Parts) (J : List Entry) (at : ℕ) (copies : List Copies) (takes : List Takes) (sent : List ℕ) (valid : IsEncounter e) (legal : IsLegal (air_of e) J) (t : AreNotes e J at copies takes sent) where
+  pub commit-noted : (own cycle : ℕ) (cells : Cells) → slice_get (reverse J) at ≡ Some (Commit own cycle cells) → AreNotes e J (at + 1) copies takes sent
   commit-noted own cycle cells is =
-      let grows = sym (read-more J at (Commit own cycle cells) is) in
-      let ts : AreTakes (length e.crafts) (sent_at J) (Commit own cycle cells ∷ read_of J at) takes = record { size = t.takes_are.size; each = t.takes_are.each } in
-      let ss : AreSent (Commit own cycle cells ∷ read_of J at) sent = record { size = t.sent_are.size; each = t.sent_are.each } in
-      record {
-        takes_are = subst (λ (K : List Entry). AreTakes (length e.crafts) (sent_at J) K takes) grows ts;
-        sent_are = subst (λ (K : List Entry). AreSent K sent) grows ss;
-      }
+      let x = Commit own cycle cells in
+      let cs : AreCopies e (x ∷ read_of J at) copies = record { size = t.copies_are.size; each = t.copies_are.each } in
+      let ts : AreTakes (length e.crafts) (sent_at J) (x ∷ read_of J at) takes = record { size = t.takes_are.size; each = t.takes_are.each } in
+      let ss : AreSent (x ∷ read_of J at) sent = record { size = t.sent_are.size; each = t.sent_are.each } in
+      notes-of e J (x ∷ read_of J at) (at + 1) copies takes sent (read-more J at x is) cs ts ss
 
-  pub sent-noted : (own target number word : ℕ) → slice_get (reverse J) at ≡ Some (Send own target number word) → AreNotes e J (at + 1) takes (set sent (own * CRAFTS + target) number)
+  pub sent-noted : (own target number word : ℕ) → slice_get (reverse J) at ≡ Some (Send own target number word) →
+      AreNotes e J (at + 1) (set copies (message_slot own target number) (copies_for e own target number)) takes (set sent (own * CRAFTS + target) number)
   sent-noted own target number word is =
-      let f = follows e J at (Send own target number word) valid legal is in
+      let x = Send own target number word in
+      let f = follows e J at x valid legal is in
       let few : length e.crafts ≤ CRAFTS = few-crafts e valid in
-      let ts : AreTakes (length e.crafts) (sent_at J) (Send own target number word ∷ read_of J at) takes = record { size = t.takes_are.size; each = t.takes_are.each } in
-      let ss = send-noted (read_of J at) sent own target number word (own * CRAFTS + target) (let a = f.fits.0 in omega arith) (let a = f.fits.1 in omega arith) refl (allowed f.legal).number_is t.sent_are in
-      record {
-        takes_are = subst (λ (K : List Entry). AreTakes (length e.crafts) (sent_at J) K takes) (sym f.grows) ts;
-        sent_are = subst (λ (K : List Entry). AreSent K (set sent (own * CRAFTS + target) number)) (sym f.grows) ss;
-      }
-
-  unsent : (own send copy : ℕ) (good : Bool) → AreSent (Take own send copy good ∷ read_of J at) sent
-  unsent own send copy good = record { size = t.sent_are.size; each = t.sent_are.each }
+      let target_in : target < CRAFTS = (let a = f.fits.1 in omega arith) in
+      let ts : AreTakes (length e.crafts) (sent_at J) (x ∷ read_of J at) takes = record { size = t.takes_are.size; each = t.takes_are.each } in
+      let ss = send-noted (read_of J at) sent own target number word (own * CRAFTS + target) (let a = f.fits.0 in omega arith) target_in refl (allowed f.legal).number_is t.sent_are in
+      let cs = copies-noted e (read_of J at) copies own target number word f.fits.0 target_in f.fits.2 t.copies_are in
+      notes-of e J (x ∷ read_of J at) (at + 1) (set copies (message_slot own target number) (copies_for e own target number)) takes (set sent (own * CRAFTS + target) number) f.grows cs ts ss
 
   pub taken-noted : (own send copy slot : ℕ) (good : Bool) → slice_get (reverse J) at ≡ Some (Take own send copy good) → IsSlotOf (length e.crafts) (sent_at J send) slot →
-      AreNotes e J (at + 1) (set takes slot (with_take (get_or takes slot no_takes) copy good)) sent
+      AreNotes e J (at + 1) copies (set takes slot (with_take (get_or takes slot no_takes) copy good)) sent
   taken-noted own send copy slot good is found =
-      let grows = sym (read-more J at (Take own send copy good) is) in
+      let x = Take own send copy good in
+      let cs : AreCopies e (x ∷ read_of J at) copies = record { size = t.copies_are.size; each = t.copies_are.each } in
       let ts = take-noted (length e.crafts) (sent_at J) (read_of J at) takes own send copy slot good (few-crafts e valid) found t.takes_are in
-      record {
-        takes_are = subst (λ (K : List Entry). AreTakes (length e.crafts) (sent_at J) K (set takes slot (with_take (get_or takes slot no_takes) copy good))) grows ts;
-        sent_are = subst (λ (K : List Entry). AreSent K sent) grows (unsent own send copy good);
-      }
+      let ss : AreSent (x ∷ read_of J at) sent = record { size = t.sent_are.size; each = t.sent_are.each } in
+      notes-of e J (x ∷ read_of J at) (at + 1) copies (set takes slot (with_take (get_or takes slot no_takes) copy good)) sent (read-more J at x is) cs ts ss
 
-  pub none-noted : (own send copy : ℕ) (good : Bool) → slice_get (reverse J) at ≡ Some (Take own send copy good) → sent_at J send ≡ None → AreNotes e J (at + 1) takes sent
+  pub none-noted : (own send copy : ℕ) (good : Bool) → slice_get (reverse J) at ≡ Some (Take own send copy good) → sent_at J send ≡ None → AreNotes e J (at + 1) copies takes sent
   none-noted own send copy good is none =
-      let grows = sym (read-more J at (Take own send copy good) is) in
-      record {
-        takes_are = subst (λ (K : List Entry). AreTakes (length e.crafts) (sent_at J) K takes) grows (take-of-none (length e.crafts) (sent_at J) (read_of J at) takes own send copy good none t.takes_are);
-        sent_are = subst (λ (K : List Entry). AreSent K sent) grows (unsent own send copy good);
-      }
+      let x = Take own send copy good in
+      let cs : AreCopies e (x ∷ read_of J at) copies = record { size = t.copies_are.size; each = t.copies_are.each } in
+      let ts = take-of-none (length e.crafts) (sent_at J) (read_of J at) takes own send copy good none t.takes_are in
+      let ss : AreSent (x ∷ read_of J at) sent = record { size = t.sent_are.size; each = t.sent_are.each } in
+      notes-of e J (x ∷ read_of J at) (at + 1) copies takes sent (read-more J at x is) cs ts ss
+
+-- Past the end nothing is noted.
+pub notes-past : (e : Parts) (J : List Entry) (at : ℕ) (copies : List Copies) (takes : List Takes) (sent : List ℕ) → slice_get (reverse J) at ≡ None → AreNotes e J at copies takes sent → AreNotes e J (at + 1) copies takes sent
+notes-past e J at copies takes sent none t =
+    let past : length J ≤ at = read-past J at none in
+    let same : read_of J (at + 1) ≡ read_of J at = read-all J (at + 1) (omega arith) ∙ sym (read-all J at past) in
+    notes-of e J (read_of J at) (at + 1) copies takes sent same t.copies_are t.takes_are t.sent_are
+
+-- At the end all is noted.
+pub notes-end : (e : Parts) (J : List Entry) (at : ℕ) (copies : List Copies) (takes : List Takes) (sent : List ℕ) → length J ≤ at → AreNotes e J at copies takes sent → AreNotes e J (length J) copies takes sent
+notes-end e J at copies takes sent past t =
+    let same : read_of J (length J) ≡ read_of J at = read-all J (length J) (omega arith) ∙ sym (read-all J at past) in
+    notes-of e J (read_of J at) (length J) copies takes sent same t.copies_are t.takes_are t.sent_are
 
 -- ---- what is known at the end
 
 pub sends-few-by : (e : Parts) (J : List Entry) → IsEncounter e → IsLegal (air_of e) J → (sender receiver : ℕ) → sends J sender receiver ≤ 600
 sends-few-by e J valid legal sender receiver = (let a = sends-few (air_of e) J legal sender receiver in let b = few-commits e J valid legal sender in omega arith)
 
-pub sent-known : (e : Parts) (J : List Entry) (takes : List Takes) (sent : List ℕ) (sender receiver place : ℕ) → IsEncounter e → AreNotes e J (length J) takes sent → sender < length e.crafts → receiver < length e.crafts →
-    place ≡ sender * CRAFTS + receiver → get_or sent place 0 ≡ sends J sender receiver
-sent-known e J takes sent sender receiver place valid t hs hr is =
-    let few = few-crafts e valid in
-    ap (λ (k : ℕ). get_or sent k 0) is ∙ t.sent_are.each sender receiver (omega arith) (omega arith) ∙ ap (λ (K : List Entry). sends K sender receiver) (read-all J (length J) (omega arith))
+module _ (e : Parts) (J : List Entry) (copies : List Copies) (takes : List Takes) (sent : List ℕ) (sender receiver : ℕ) (valid : IsEncounter e) (t : AreNotes e J (length J) copies takes sent) (hs : sender < length e.crafts) (hr : receiver < length e.crafts) where
+  receiver-in : receiver < CRAFTS
+  receiver-in = (let few = few-crafts e valid in omega arith)
 
-pub takes-known : (e : Parts) (J : List Entry) (takes : List Takes) (sent : List ℕ) (sender receiver number : ℕ) → IsEncounter e → AreNotes e J (length J) takes sent → sender < length e.crafts → receiver < length e.crafts → IsCycle number →
-    get_or takes (message_slot sender receiver number) no_takes ≡ takes_by (sent_at J) J sender receiver number
-takes-known e J takes sent sender receiver number valid t hs hr hn =
-    let few = few-crafts e valid in
-    t.takes_are.each sender receiver number hs (omega arith) hn ∙ ap (λ (K : List Entry). takes_by (sent_at J) K sender receiver number) (read-all J (length J) (omega arith))
+  pub sent-known : (place : ℕ) → place ≡ sender * CRAFTS + receiver → get_or sent place 0 ≡ sends J sender receiver
+  sent-known place is =
+      let few = few-crafts e valid in
+      ap (λ (k : ℕ). get_or sent k 0) is ∙ t.sent_are.each sender receiver (omega arith) receiver-in ∙ ap (λ (K : List Entry). sends K sender receiver) (read-all J (length J) (omega arith))
 
-pub takes-there : (e : Parts) (J : List Entry) (takes : List Takes) (sent : List ℕ) (sender receiver number : ℕ) → IsEncounter e → AreNotes e J (length J) takes sent → sender < length e.crafts → receiver < length e.crafts → IsCycle number →
-    message_slot sender receiver number < length takes
-takes-there e J takes sent sender receiver number valid t hs hr hn =
-    let few = few-crafts e valid in
-    let small = slot-small (length e.crafts) sender receiver number hs (omega arith) hn in
-    let size = t.takes_are.size in
-    omega arith
+  pub takes-known : (number : ℕ) → IsCycle number → get_or takes (message_slot sender receiver number) no_takes ≡ takes_by (sent_at J) J sender receiver number
+  takes-known number hn = t.takes_are.each sender receiver number hs receiver-in hn ∙ ap (λ (K : List Entry). takes_by (sent_at J) K sender receiver number) (read-all J (length J) (omega arith))
 
--- Past the end nothing is noted.
-pub notes-past : (e : Parts) (J : List Entry) (at : ℕ) (takes : List Takes) (sent : List ℕ) → slice_get (reverse J) at ≡ None → AreNotes e J at takes sent → AreNotes e J (at + 1) takes sent
-notes-past e J at takes sent none t =
-    let past : length J ≤ at = read-past J at none in
-    let same : read_of J at ≡ read_of J (at + 1) = read-all J at past ∙ sym (read-all J (at + 1) (omega arith)) in
-    record {
-      takes_are = subst (λ (K : List Entry). AreTakes (length e.crafts) (sent_at J) K takes) same t.takes_are;
-      sent_are = subst (λ (K : List Entry). AreSent K sent) same t.sent_are;
-    }
+  pub takes-there : (number : ℕ) → IsCycle number → message_slot sender receiver number < length takes
+  takes-there number hn =
+      let small = slot-small (length e.crafts) sender receiver number hs receiver-in hn in
+      let size = t.takes_are.size in
+      omega arith
 
--- At the end all is noted.
-pub notes-end : (e : Parts) (J : List Entry) (at : ℕ) (takes : List Takes) (sent : List ℕ) → length J ≤ at → AreNotes e J at takes sent → AreNotes e J (length J) takes sent
-notes-end e J at takes sent past t =
-    let same : read_of J at ≡ read_of J (length J) = read-all J at past ∙ sym (read-all J (length J) (omega arith)) in
-    record {
-      takes_are = subst (λ (K : List Entry). AreTakes (length e.crafts) (sent_at J) K takes) same t.takes_are;
-      sent_are = subst (λ (K : List Entry). AreSent K sent) same t.sent_are;
-    }
+  pub copies-known : (number : ℕ) → IsCycle number → was_sent J sender receiver number ≡ true → get_or copies (message_slot sender receiver number) no_copies ≡ copies_for e sender receiver number
+  copies-known number hn is = t.copies_are.each sender receiver number hs receiver-in hn (ap (λ (K : List Entry). was_sent K sender receiver number) (read-all J (length J) (omega arith)) ∙ is)
+
+  pub copies-there : (number : ℕ) → IsCycle number → message_slot sender receiver number < length copies
+  copies-there number hn =
+      let small = slot-small (length e.crafts) sender receiver number hs receiver-in hn in
+      let size = t.copies_are.size in
+      omega arith

@@ -1,22 +1,20 @@
 // What became of the messages of a journal.
 ghost use Rattle.std.specs.Prelude.{◌≡◌, ◌≤◌, ◌<◌, IfOk, is_some, length};
 ghost use Rattle.acas_base.specs.Encounter.{IsEncounter};
-ghost use Rattle.acas_base.specs.Fates.{copies_of};
 ghost use Rattle.acas_base.specs.Ranges.{IsCycle};
 ghost use Rattle.air_journal.specs.Airs.{air_of};
 ghost use Rattle.air_journal.specs.EntryRefs.{entry_of};
-ghost use Rattle.air_journal.specs.Ranges.{IsEntry};
 ghost use Rattle.air_rules.specs.Journal.{as_sent, sends, sent_at};
 ghost use Rattle.air_rules.specs.Rules.{IsLegal};
-ghost use Rattle.deliveries.specs.Mishaps.{befallen, befallen_of, befalls, befalls_sent, is_held_back, is_lost, is_repeated};
-ghost use Rattle.deliveries.specs.Noted.{takes_by};
+ghost use Rattle.deliveries.specs.Mishaps.{befallen, befallen_of, befalls, befalls_sent};
+ghost use Rattle.deliveries.specs.Noted.{IsEntryOf, copies_for, takes_by};
 ghost use Rattle.deliveries.specs.Text.{sent_count};
 
 use crate::mishap::Mishap;
 use crate::noting::Notes;
 use crate::rows::Numbers;
-use crate::takes::Takes;
-use acas_base::{CRAFTS, Fate, pair_of};
+use crate::takes::{Copies, Takes};
+use acas_base::pair_of;
 use air_journal::{AirState, EntryRef};
 use std::alloc::{AllocError, Global};
 use std::marker::Model;
@@ -38,31 +36,7 @@ impl<'a> Model for Deliveries<'a> {
 
     ghost view = { λ d. d.state.now };
 
-    ghost invariant = { λ d. AreNotes d.state.now.encounter d.state.now.journal (length d.state.now.journal) d.notes.takes.items d.notes.sent };
-}
-
-fn is_lost(fate: &Fate) -> bool
-    ensures { result ≡ is_lost (copies_of fate.now) }
-{
-    fate.copies == 0
-}
-
-fn is_repeated(fate: &Fate) -> bool
-    ensures { result ≡ is_repeated (copies_of fate.now) }
-{
-    fate.copies > 1
-}
-
-fn is_held_back(fate: &Fate) -> bool
-    ensures { result ≡ is_held_back (copies_of fate.now) }
-{
-    if fate.copies >= 1 && fate.first.hold > 0 {
-        return true;
-    }
-    if fate.copies >= 2 && fate.second.hold > 0 {
-        return true;
-    }
-    fate.copies >= 3 && fate.third.hold > 0
+    ghost invariant = { λ d. AreNotes d.state.now.encounter d.state.now.journal (length d.state.now.journal) d.notes.copies.items d.notes.takes.items d.notes.sent };
 }
 
 // Whether an entry sends a message.
@@ -76,7 +50,7 @@ fn is_send(entry: &EntryRef<'_>) -> bool
 }
 
 impl<'a> Deliveries<'a> {
-    /// Those of a state. They take memory by the pairs of its aircraft: 38,400 bytes for each aircraft. Want of memory is
+    /// Those of a state. They take memory by the pairs of its aircraft: 57,600 bytes for each aircraft. Want of memory is
     /// the only error.
     pub fn new(alloc: Global, state: &'a AirState) -> Result<Deliveries<'a>, AllocError>
         ensures { IfOk result (λ deliveries. deliveries ≡ state.now) }
@@ -111,6 +85,18 @@ impl<'a> Deliveries<'a> {
         self.notes.sent[pair_of(sender, receiver)]
     }
 
+    // The copies of a message that was sent.
+    fn copies(&self, sender: u8, receiver: u8, number: u16) -> Copies
+        requires sender { sender < length self.now.encounter.crafts }
+        requires receiver { receiver < length self.now.encounter.crafts }
+        requires first { 1 ≤ number }
+        requires last { number ≤ sends self.now.journal sender receiver }
+        ensures { result ≡ copies_for self.now.encounter sender receiver number }
+    {
+        self.state.legal_law();
+        self.notes.copies(sender, receiver, number)
+    }
+
     // The takes of a message.
     fn takes(&self, sender: u8, receiver: u8, number: u16) -> Takes
         requires sender { sender < length self.now.encounter.crafts }
@@ -126,17 +112,19 @@ impl<'a> Deliveries<'a> {
     pub fn befalls(&self, mishap: Mishap, sender: u8, receiver: u8, number: u16) -> bool
         requires sender { sender < length self.now.encounter.crafts }
         requires receiver { receiver < length self.now.encounter.crafts }
-        requires number { IsCycle number }
+        requires first { 1 ≤ number }
+        requires last { number ≤ sends self.now.journal sender receiver }
         ensures { result ≡ befalls self.now.encounter self.now.journal mishap sender receiver number }
     {
         self.legal_law();
-        let fate = self.state().enc().fate(sender, receiver, number);
+        let copies = self.copies(sender, receiver, number);
+        let takes = self.takes(sender, receiver, number);
         match mishap {
-            Mishap::Lost => is_lost(&fate),
-            Mishap::Spoilt => self.takes(sender, receiver, number).is_spoilt(),
-            Mishap::HeldBack => is_held_back(&fate),
-            Mishap::Repeated => is_repeated(&fate),
-            Mishap::Untaken => self.takes(sender, receiver, number).some_left(fate.copies),
+            Mishap::Lost => copies.count == 0,
+            Mishap::Spoilt => takes.is_spoilt(),
+            Mishap::HeldBack => copies.held,
+            Mishap::Repeated => copies.count > 1,
+            Mishap::Untaken => takes.some_left(copies.count),
         }
     }
 
@@ -170,7 +158,7 @@ impl<'a> Deliveries<'a> {
 
 // Whether an entry of the journal sends a message that this befalls.
 fn befalls_sent(deliveries: &Deliveries<'_>, mishap: Mishap, entry: &EntryRef<'_>) -> bool
-    requires { IsEntry (length deliveries.now.encounter.crafts) (entry_of entry.now) }
+    requires { IsEntryOf deliveries.now.encounter deliveries.now.journal (entry_of entry.now) }
     ensures { result ≡ befalls_sent deliveries.now.encounter deliveries.now.journal mishap (entry_of entry.now) }
 {
     match *entry {

@@ -4,18 +4,19 @@ ghost use Rattle.acas_base.specs.declared.TheConstants.{CRAFTS};
 ghost use Rattle.air_journal.specs.EntryRefs.{entry_of};
 ghost use Rattle.air_journal.specs.Ranges.{IsEntry};
 ghost use Rattle.air_rules.specs.Journal.{as_sent, sent_at};
-ghost use Rattle.deliveries.specs.Noted.{AreNotes, IsSlotFound, message_slot, no_takes, with_take};
+ghost use Rattle.deliveries.specs.Noted.{AreNotes, IsSlotFound, copies_for, message_slot, no_copies, no_takes, with_take};
 
 use crate::rows::NUMBERS;
-use crate::takes::Takes;
-use acas_base::{CRAFTS, PAIRS, pair_of};
+use crate::takes::{Copies, Takes};
+use acas_base::{CRAFTS, Encounter, PAIRS, pair_of};
 use air_journal::{AirState, EntryRef};
 use std::alloc::{AllocError, Global};
 
-/// What is noted of a journal: the takes of each message that the aircraft can send, and how many messages were sent, by
-/// pair.
+/// What is noted of a journal: the copies and the takes of each message that the aircraft can send, and how many messages
+/// were sent, by pair.
 #[derive(Drop)]
 pub(crate) struct Notes {
+    pub copies: Vec<Copies>,
     pub takes: Vec<Takes>,
     pub sent: [u16; PAIRS],
 }
@@ -61,6 +62,20 @@ fn note_send(sent: &mut [u16; PAIRS], sender: u8, receiver: u8, number: u16)
     sent[pair_of(sender, receiver)] = number;
 }
 
+fn note_copies(
+    encounter: &Encounter,
+    copies: &mut Vec<Copies>,
+    sender: u8,
+    receiver: u8,
+    number: u16,
+)
+    requires { message_slot sender receiver number < length copies.old.items }
+    ensures { copies.new.items ≡ slice_set copies.old.items (message_slot sender receiver number) (copies_for encounter.now sender receiver number) }
+{
+    copies[message_slot(sender, receiver, number)] =
+        Copies::planned(encounter, sender, receiver, number);
+}
+
 fn note_take(takes: &mut Vec<Takes>, slot: usize, copy: u8, good: bool)
     requires { slot < length takes.old.items }
     ensures { takes.new.items ≡ slice_set takes.old.items slot (with_take (slice_index_or takes.old.items slot no_takes) copy good) }
@@ -71,8 +86,8 @@ fn note_take(takes: &mut Vec<Takes>, slot: usize, copy: u8, good: bool)
 // Notes what the entry at a position says.
 fn note(state: &AirState, at: u32, entry: &EntryRef<'_>, notes: &mut Notes)
     requires entry { slice_get (reverse state.now.journal) at ≡ Some (entry_of entry.now) }
-    requires noted { AreNotes state.now.encounter state.now.journal at notes.old.takes.items notes.old.sent }
-    ensures { AreNotes state.now.encounter state.now.journal (at + 1) notes.new.takes.items notes.new.sent }
+    requires noted { AreNotes state.now.encounter state.now.journal at notes.old.copies.items notes.old.takes.items notes.old.sent }
+    ensures { AreNotes state.now.encounter state.now.journal (at + 1) notes.new.copies.items notes.new.takes.items notes.new.sent }
 {
     state.legal_law();
     match *entry {
@@ -82,7 +97,10 @@ fn note(state: &AirState, at: u32, entry: &EntryRef<'_>, notes: &mut Notes)
             target,
             number,
             ..
-        } => note_send(&mut notes.sent, own, target, number),
+        } => {
+            note_send(&mut notes.sent, own, target, number);
+            note_copies(state.enc(), &mut notes.copies, own, target, number);
+        }
         EntryRef::Take {
             send,
             copy,
@@ -98,12 +116,24 @@ fn note(state: &AirState, at: u32, entry: &EntryRef<'_>, notes: &mut Notes)
 
 // Notes what the entry at a position says, where there is one.
 fn note_at(state: &AirState, at: u32, notes: &mut Notes)
-    requires { AreNotes state.now.encounter state.now.journal at notes.old.takes.items notes.old.sent }
-    ensures { AreNotes state.now.encounter state.now.journal (at + 1) notes.new.takes.items notes.new.sent }
+    requires { AreNotes state.now.encounter state.now.journal at notes.old.copies.items notes.old.takes.items notes.old.sent }
+    ensures { AreNotes state.now.encounter state.now.journal (at + 1) notes.new.copies.items notes.new.takes.items notes.new.sent }
 {
     if let Some(entry) = state.entry_ref(at) {
         note(state, at, &entry, notes);
     }
+}
+
+// No copies yet, of the messages of so many aircraft.
+fn no_copies(alloc: Global, crafts: usize) -> Result<Vec<Copies>, AllocError>
+    requires { crafts ≤ CRAFTS }
+    ensures { IfOk result (λ copies. copies.items ≡ replicate (crafts * 9600) no_copies) }
+{
+    let mut copies = Vec::with_capacity(alloc, crafts * CRAFTS * NUMBERS)?;
+    for _slot in 0..crafts * CRAFTS * NUMBERS {
+        copies.push(Copies::none())?;
+    }
+    Ok(copies)
 }
 
 // No takes yet, of the messages of so many aircraft.
@@ -121,11 +151,14 @@ fn no_takes(alloc: Global, crafts: usize) -> Result<Vec<Takes>, AllocError>
 impl Notes {
     /// Those of the journal of a state. They take memory by the pairs of its aircraft, and none by the number of entries.
     pub fn new(alloc: Global, state: &AirState) -> Result<Notes, AllocError>
-        ensures { IfOk result (λ notes. AreNotes state.now.encounter state.now.journal (length state.now.journal) notes.takes.items notes.sent) }
+        ensures { IfOk result (λ notes. AreNotes state.now.encounter state.now.journal (length state.now.journal) notes.copies.items notes.takes.items notes.sent) }
     {
         state.legal_law();
-        let takes = no_takes(alloc, state.enc().crafts().len())?;
+        let count = state.enc().crafts().len();
+        let copies = no_copies(alloc, count)?;
+        let takes = no_takes(alloc, count)?;
         let mut notes = Notes {
+            copies,
             takes,
             sent: [0; PAIRS],
         };
@@ -134,6 +167,14 @@ impl Notes {
         }
         Ok(notes)
     }
+    /// The copies of a message that was sent.
+    pub fn copies(&self, sender: u8, receiver: u8, number: u16) -> Copies
+        requires { message_slot sender receiver number < length self.now.copies.items }
+        ensures { result ≡ slice_index_or self.now.copies.items (message_slot sender receiver number) no_copies }
+    {
+        self.copies[message_slot(sender, receiver, number)]
+    }
+
     /// The takes of a message.
     pub fn takes(&self, sender: u8, receiver: u8, number: u16) -> Takes
         requires { message_slot sender receiver number < length self.now.takes.items }

@@ -1,12 +1,12 @@
 use Rattle.std.proofs.Common.{◌+◌, ◌≤◌, length, option_map, sym, ap, ◌∙◌, subst, arith}
 use Rattle.air_journal.specs.EntryRefs.{entry_of}
-use Rattle.air_journal.specs.Ranges.{IsEntry}
 use Rattle.air_journal.specs.States.{State}
 use Rattle.air_rules.proofs.Pace.{count-no, count-yes}
 use Rattle.air_rules.specs.Journal.{count_of}
-use Rattle.deliveries.proofs.Reading.{count-more, count-past, follows, read-all}
+use Rattle.deliveries.proofs.Befalling.{entry-of}
+use Rattle.deliveries.proofs.Reading.{count-more, count-past, read-all}
 use Rattle.deliveries.specs.Mishaps.{befalls_sent}
-use Rattle.deliveries.specs.Noted.{read_of}
+use Rattle.deliveries.specs.Noted.{IsEntryOf, read_of}
 use Rattle.deliveries.proofs.deliveries.count_befallen.Goals as goal
 use Rattle.deliveries.proofs.deliveries.count_befallen.Goals.{in-Some+then-befalls_sent, in-Some+else-befalls_sent, in_default}
 
@@ -14,8 +14,8 @@ pub befalls_sent-requires : goal.befalls_sent-requires
 befalls_sent-requires c =
     let s = c.args.state.now in
     let is = sym c.entry_ref.ensures ∙ ap (option_map entry_of) c.in-Some.is in
-    subst (λ (t : State). IsEntry (length t.encounter.crafts) (entry_of c.in-Some.entry)) (sym c.requires)
-    (follows s.encounter s.journal c.loop-at.at (entry_of c.in-Some.entry) c.legal_law.ensures.valid c.legal_law.ensures.legal is).fits
+    subst (λ (t : State). IsEntryOf t.encounter t.journal (entry_of c.in-Some.entry)) (sym c.requires)
+    (entry-of s.encounter s.journal c.loop-at.at (entry_of c.in-Some.entry) c.legal_law.ensures.valid c.legal_law.ensures.legal is)
 
 pub loop-at-preserved : goal.loop-at-preserved
 loop-at-preserved c =

@@ -8,4 +8,4 @@ note-requires-clause-entry c = sym c.entry_ref.ensures ∙ ap (option_map entry_
 
 pub returns-in_default : goal.returns-in_default
 returns-in_default c =
-    notes-past c.args.state.now.encounter c.args.state.now.journal c.args.at c.args.notes.now.takes.items c.args.notes.now.sent (sym c.entry_ref.ensures ∙ ap (option_map entry_of) c.in_default.is) c.requires
+    notes-past c.args.state.now.encounter c.args.state.now.journal c.args.at c.args.notes.now.copies.items c.args.notes.now.takes.items c.args.notes.now.sent (sym c.entry_ref.ensures ∙ ap (option_map entry_of) c.in_default.is) c.requires

@@ -12,6 +12,12 @@ push-requires c =
     let t = c.loop-before-test.true in
     omega arith
 
+pub befalls-requires-clause-last : goal.befalls-requires-clause-last
+befalls-requires-clause-last c =
+    let n = c.sent-before-end.ensures.value in
+    let t = c.loop-before-test.true in
+    omega arith
+
 pub loop-before-preserved : goal.loop-before-preserved
 loop-before-preserved c =
     let f = befalls c.args.self.now.encounter c.args.self.now.journal c.args.mishap c.args.sender c.args.receiver in
