@@ -17,8 +17,8 @@ fn distance(a: i64, b: i64) -> u64
     (a - b).unsigned_abs()
 }
 
-// How far their planned altitudes are apart, in ft.
-pub(crate) fn planned_apart(encounter: &Encounter, a: u8, b: u8, cycle: u16) -> u32
+/// How far the planned altitudes of two aircraft are apart in a cycle, in ft, rounded down (this project's profile).
+pub fn planned_apart(encounter: &Encounter, a: u8, b: u8, cycle: u16) -> u32
     requires a { a < length encounter.now.crafts }
     requires b { b < length encounter.now.crafts }
     requires cycle { IsCycle cycle }
@@ -31,8 +31,9 @@ pub(crate) fn planned_apart(encounter: &Encounter, a: u8, b: u8, cycle: u16) -> 
     (apart / 60) as u32
 }
 
-// How far the altitudes are apart at which they would have flown, in ft.
-pub(crate) fn flown_apart(state: &AirState, a: u8, b: u8, cycle: u16) -> u32
+/// How far the altitudes are apart at which two aircraft would have flown with the modelled response, in ft, rounded
+/// down (this project's profile).
+pub fn flown_apart(state: &AirState, a: u8, b: u8, cycle: u16) -> u32
     requires a { a < length state.now.encounter.crafts }
     requires b { b < length state.now.encounter.crafts }
     requires begun { 1 ≤ cycle }

@@ -13,8 +13,8 @@ use air_journal::{AirState, is_ra};
 use flight::position;
 use std::marker::Model;
 
-// An altitude in 1/60 ft, in 1/2048 ft and rounded down.
-pub(crate) fn altitude_units(z: i64) -> i64
+/// An altitude in 1/60 ft, in 1/2048 ft and rounded down.
+pub fn altitude_units(z: i64) -> i64
     requires { unsigned_abs z ≤ 9590000 }
     ensures value { result ≡ altitude_units z }
     ensures bound { unsigned_abs result ≤ 2 ^ 29 }

@@ -12,6 +12,8 @@ mod motion;
 mod pairs;
 mod response;
 
+pub use approach::{flown_apart, planned_apart};
+pub use flier::altitude_units;
 pub use flying::flown;
 pub use modelled::ModelledFlight;
 pub use pairs::ever_advises_against;

@@ -16,6 +16,8 @@ mod response_tests;
 #[cfg(test)]
 mod serial_runs;
 #[cfg(test)]
+mod summary_tests;
+#[cfg(test)]
 mod sweep_tests;
 #[cfg(test)]
 mod word_text_tests;

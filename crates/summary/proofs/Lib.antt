@@ -1,0 +1,11 @@
+pub mod Counting
+pub mod Far
+pub mod Lasting
+pub mod Noting
+pub mod Numbers
+pub mod Reading
+pub mod Rowing
+pub mod Standings
+pub mod Starting
+pub mod Stretching
+pub mod Telling

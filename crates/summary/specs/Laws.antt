@@ -1,0 +1,39 @@
+-- What the stretches are in a legal journal, without the recursion that finds them.
+use Rattle.std.specs.Prelude.{◌≡◌, ℕ, ◌+◌, ◌-◌, ◌<◌, ◌≤◌, Bool, true, false, List, ◌∷◌, Option, Some, filter, map, slice_get}
+use Rattle.std.specs.List.{range_with_len}
+use Rattle.acas_base.specs.declared.advisory.Cells.{Cells}
+use Rattle.acas_base.specs.declared.entry.Entry.{Entry}
+use Rattle.acas_base.specs.declared.entry.Entry.TheVariants.{Commit}
+use Rattle.air_rules.specs.Air.{Air}
+use Rattle.air_rules.specs.Journal.{Begins, commits}
+use Rattle.summary.specs.Stretches.{begins, cell_in, is_kept, last_of, starts_of, told_of}
+use Rattle.summary.specs.declared.rows.Start.{Start}
+
+-- A cycle shows something, and not the same as the cycle before it.
+abbrev pub begins_in : List Entry → ℕ → ℕ → ℕ → Bool
+begins_in journal own other cycle = begins (cell_in journal own other (cycle - 1)) (cell_in journal own other cycle)
+
+abbrev pub first_cycle : Start → ℕ
+first_cycle start = start.cycle
+
+-- The stretches begin with all such cycles, in order.
+abbrev pub AreAll : List Entry → ℕ → ℕ → List Start → Type 0
+AreAll journal own other starts = map first_cycle starts ≡ filter (begins_in journal own other) (range_with_len 1 (commits journal own))
+
+-- A stretch shows the same from its first cycle to its last one, and the cycle after that shows something else.
+pub record IsLongest (journal : List Entry) (cycles own other first last : ℕ) : Type 0 where
+  pub in_order : first ≤ last
+  pub same : (cycle : ℕ) → first ≤ cycle → cycle < last → is_kept journal own other cycle ≡ true
+  pub ends : last < cycles → is_kept journal own other last ≡ false
+
+-- The commit with which a stretch begins. The message that it names was in force just before that commit.
+pub record HasCommit (air : Air) (journal : List Entry) (own other : ℕ) (start : Start) : Type 0 where
+  pub before : List Entry
+  pub cells : Cells
+  pub there : Begins (Commit own start.cycle cells ∷ before) journal
+  pub told : start.told ≡ told_of air before own other
+
+pub record AreStretches (air : Air) (journal : List Entry) (own other : ℕ) : Type 0 where
+  pub all : AreAll journal own other (starts_of air journal own other)
+  pub longest : (first : ℕ) → first ≤ air.cycles → IsLongest journal air.cycles own other first (last_of journal air.cycles own other first)
+  pub commit : (place : ℕ) (start : Start) → slice_get (starts_of air journal own other) place ≡ Some start → HasCommit air journal own other start
