@@ -1,36 +1,67 @@
 // The replies that an encounter plans to be missed.
-ghost use Rattle.std.specs.Prelude.{◌≡◌};
+ghost use Rattle.std.specs.Prelude.{◌≡◌, ◌+◌, ◌-◌, ◌≤◌, ◌&&◌, ◌==◌, false, true, replicate, slice_set};
 ghost use Rattle.std.specs.List.{list_any};
-ghost use Rattle.deliveries.specs.Misses.{has_misses, is_miss_in, is_miss_of_run, is_missed, missed_of};
+ghost use Rattle.deliveries.specs.Misses.{AreFilled, AreFound, has_misses, is_miss_of_run, missed_of};
+ghost use Rattle.deliveries.specs.Rows.{is_marked};
 
-use crate::rows::Numbers;
+use crate::rows::{NUMBERS, Numbers};
 use acas_base::{CraftSpec, Encounter, Miss, is_active_at};
 
-fn is_miss_in(own: u8, target: u8, cycle: u16, miss: &Miss) -> bool
-    ensures { result ≡ is_miss_in own target cycle miss.now }
+fn is_marked(flags: &[bool; NUMBERS], cycle: u16) -> bool
+    requires first { 1 ≤ cycle }
+    requires last { cycle ≤ 600 }
+    ensures { result ≡ is_marked flags.now cycle }
 {
-    if miss.own != own {
-        return false;
-    }
-    if miss.target != target {
-        return false;
-    }
-    miss.from <= cycle && cycle <= miss.to
+    flags[usize::from(cycle - 1)]
 }
 
-// Whether a miss of one aircraft with another one has this cycle.
-fn some_miss(misses: &[Miss], own: u8, target: u8, cycle: u16) -> bool
-    ensures { result ≡ list_any (is_miss_in own target cycle) misses.now }
+fn mark(flags: &mut [bool; NUMBERS], cycle: u16)
+    requires first { 1 ≤ cycle }
+    requires last { cycle ≤ 600 }
+    ensures { flags.new ≡ slice_set flags.old (cycle - 1) true }
 {
-    misses
-        .iter()
-        .any(|miss| is_miss_in(own, target, cycle, miss))
+    flags[usize::from(cycle - 1)] = true;
 }
 
-fn is_missed(encounter: &Encounter, own: u8, target: u8, cycle: u16) -> bool
-    ensures { result ≡ is_missed encounter.now own target cycle }
+// Marks the cycles of a miss.
+fn mark_miss(flags: &mut [bool; NUMBERS], miss: Miss)
+    requires first { 1 ≤ miss.from }
+    requires order { miss.from ≤ miss.to }
+    requires last { miss.to ≤ 600 }
+    ensures { AreFilled flags.old flags.new miss.from (miss.to + 1) }
 {
-    is_active_at(encounter.crafts(), own) && some_miss(encounter.misses(), own, target, cycle)
+    for cycle in miss.from..miss.to + 1 {
+        mark(flags, cycle);
+    }
+}
+
+// Whether a miss is of this pair.
+fn is_of(miss: Miss, own: u8, target: u8) -> bool
+    ensures { result ≡ (miss.own == own && miss.target == target) }
+{
+    miss.own == own && miss.target == target
+}
+
+fn no_marks() -> [bool; NUMBERS]
+    ensures { result ≡ replicate 600 false }
+{
+    [false; NUMBERS]
+}
+
+// The cycles that misses of a pair have, by the plan of an encounter. It goes through the misses once.
+fn found(encounter: &Encounter, own: u8, target: u8) -> [bool; NUMBERS]
+    ensures { AreFound encounter.now.misses own target result }
+{
+    encounter.valid_law();
+    let misses = encounter.misses();
+    let mut flags = no_marks();
+    for at in 0..misses.len() {
+        let miss = misses[at];
+        if is_of(miss, own, target) {
+            mark_miss(&mut flags, miss);
+        }
+    }
+    flags
 }
 
 /// In which cycles of the run an active aircraft gets no reply from another one, by the plan of an encounter.
@@ -38,9 +69,11 @@ pub fn missed(encounter: &Encounter, own: u8, target: u8) -> Numbers
     ensures { result ≡ missed_of encounter.now own target }
 {
     encounter.valid_law();
+    let active = is_active_at(encounter.crafts(), own);
+    let flags = found(encounter, own, target);
     let mut cycles = Numbers::new();
     for before in 0..encounter.cycles() {
-        cycles.push(is_missed(encounter, own, target, before + 1));
+        cycles.push(active && is_marked(&flags, before + 1));
     }
     cycles
 }

@@ -72,8 +72,9 @@ fn note_copies(
     requires { message_slot sender receiver number < length copies.old.items }
     ensures { copies.new.items ≡ slice_set copies.old.items (message_slot sender receiver number) (copies_for encounter.now sender receiver number) }
 {
-    copies[message_slot(sender, receiver, number)] =
-        Copies::planned(encounter, sender, receiver, number);
+    copies[message_slot(sender, receiver, number)] = Copies::planned(
+        encounter, sender, receiver, number,
+    );
 }
 
 fn note_take(takes: &mut Vec<Takes>, slot: usize, copy: u8, good: bool)
