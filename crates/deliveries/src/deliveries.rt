@@ -22,21 +22,21 @@ use std::marker::Model;
 /// What became of the messages of a journal. Aircraft are named by their indices, and an aircraft numbers its messages to
 /// another one from 1 on.
 #[derive(Drop)]
-pub struct Deliveries<'a> {
-    state: &'a AirState,
+pub struct Deliveries {
+    state: AirState,
     notes: Notes,
 }
 
-impl<'a> Model for Deliveries<'a> {
+impl Model for Deliveries {
     ghost use Rattle.std.specs.Prelude.{length};
     ghost use Rattle.air_journal.specs.States.{State};
     ghost use Rattle.deliveries.specs.Noted.{AreNotes};
 
     ghost Value = { State };
 
-    ghost view = { λ d. d.state.now };
+    ghost view = { λ d. d.state };
 
-    ghost invariant = { λ d. AreNotes d.state.now.encounter d.state.now.journal (length d.state.now.journal) d.notes.copies.items d.notes.takes.items d.notes.sent };
+    ghost invariant = { λ d. AreNotes d.state.encounter d.state.journal (length d.state.journal) d.notes.copies.items d.notes.takes.items d.notes.sent };
 }
 
 // Whether an entry sends a message.
@@ -49,21 +49,21 @@ fn is_send(entry: &EntryRef<'_>) -> bool
     }
 }
 
-impl<'a> Deliveries<'a> {
+impl Deliveries {
     /// Those of a state. They take memory by the pairs of its aircraft: 57,600 bytes for each aircraft. Want of memory is
     /// the only error.
-    pub fn new(alloc: Global, state: &'a AirState) -> Result<Deliveries<'a>, AllocError>
-        ensures { IfOk result (λ deliveries. deliveries ≡ state.now) }
+    pub fn new(alloc: Global, state: AirState) -> Result<Deliveries, AllocError>
+        ensures { IfOk result (λ deliveries. deliveries ≡ state) }
     {
-        let notes = Notes::new(alloc, state)?;
+        let notes = Notes::new(alloc, &state)?;
         Ok(Deliveries { state, notes })
     }
 
     /// The state.
-    pub fn state(&self) -> &'a AirState
+    pub fn state(&self) -> &AirState
         ensures { result.now ≡ self.now }
     {
-        self.state
+        &self.state
     }
 
     // The state's encounter is one, and its journal is legal.
@@ -132,14 +132,14 @@ impl<'a> Deliveries<'a> {
     pub fn sent_count(&self) -> u32
         ensures { result ≡ sent_count self.now.journal }
     {
-        count_sent(self.state)
+        count_sent(&self.state)
     }
 
     /// How many of the messages that were sent this befalls.
     pub fn befallen(&self, mishap: Mishap) -> u32
         ensures { result ≡ befallen self.now.encounter self.now.journal mishap }
     {
-        count_befallen(self, self.state, mishap)
+        count_befallen(self, &self.state, mishap)
     }
 
     /// Which of the messages that one aircraft sent to another one this befalls, by their numbers.
@@ -157,7 +157,7 @@ impl<'a> Deliveries<'a> {
 }
 
 // Whether an entry of the journal sends a message that this befalls.
-fn befalls_sent(deliveries: &Deliveries<'_>, mishap: Mishap, entry: &EntryRef<'_>) -> bool
+fn befalls_sent(deliveries: &Deliveries, mishap: Mishap, entry: &EntryRef<'_>) -> bool
     requires { IsEntryOf deliveries.now.encounter deliveries.now.journal (entry_of entry.now) }
     ensures { result ≡ befalls_sent deliveries.now.encounter deliveries.now.journal mishap (entry_of entry.now) }
 {
@@ -188,7 +188,7 @@ fn count_sent(state: &AirState) -> u32
 }
 
 // How many of them this befalls.
-fn count_befallen(deliveries: &Deliveries<'_>, state: &AirState, mishap: Mishap) -> u32
+fn count_befallen(deliveries: &Deliveries, state: &AirState, mishap: Mishap) -> u32
     requires { deliveries.now ≡ state.now }
     ensures { result ≡ befallen state.now.encounter state.now.journal mishap }
 {

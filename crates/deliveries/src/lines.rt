@@ -39,7 +39,7 @@ fn craft_count(encounter: &Encounter) -> u8
 // ---- the counts
 
 // Adds how many messages this befalls.
-fn add_count(line: &mut Line, deliveries: &Deliveries<'_>, mishap: Mishap)
+fn add_count(line: &mut Line, deliveries: &Deliveries, mishap: Mishap)
     requires { length line.old + 33 ≤ LINE_BYTES }
     ensures added { line.new ≡ line.old ++ count_part deliveries.now.encounter deliveries.now.journal mishap }
     ensures short { length line.new ≤ length line.old + 33 }
@@ -50,7 +50,7 @@ fn add_count(line: &mut Line, deliveries: &Deliveries<'_>, mishap: Mishap)
     line.text(mishap_text(mishap));
 }
 
-fn add_counts(line: &mut Line, deliveries: &Deliveries<'_>)
+fn add_counts(line: &mut Line, deliveries: &Deliveries)
     requires { length line.old + 165 ≤ LINE_BYTES }
     ensures added { line.new ≡ line.old ++ flat_map (count_part deliveries.now.encounter deliveries.now.journal) mishaps }
     ensures short { length line.new ≤ length line.old + 165 }
@@ -73,7 +73,7 @@ fn counts_head(sent: u32) -> Line
     line
 }
 
-fn counts_line(deliveries: &Deliveries<'_>) -> Line
+fn counts_line(deliveries: &Deliveries) -> Line
     ensures { result ≡ counts_line deliveries.now.encounter deliveries.now.journal }
 {
     let mut line = counts_head(deliveries.sent_count());
@@ -85,7 +85,7 @@ fn counts_line(deliveries: &Deliveries<'_>) -> Line
 // ---- the messages from one aircraft to another one
 
 // Adds the rows of those that this befalls, where there are any.
-fn add_part(line: &mut Line, deliveries: &Deliveries<'_>, sender: u8, receiver: u8, mishap: Mishap)
+fn add_part(line: &mut Line, deliveries: &Deliveries, sender: u8, receiver: u8, mishap: Mishap)
     requires sender { sender < length deliveries.now.encounter.crafts }
     requires receiver { receiver < length deliveries.now.encounter.crafts }
     requires room { length line.old + 92 ≤ LINE_BYTES }
@@ -102,7 +102,7 @@ fn add_part(line: &mut Line, deliveries: &Deliveries<'_>, sender: u8, receiver: 
     add_rows(line, &numbers);
 }
 
-fn add_parts(line: &mut Line, deliveries: &Deliveries<'_>, sender: u8, receiver: u8)
+fn add_parts(line: &mut Line, deliveries: &Deliveries, sender: u8, receiver: u8)
     requires sender { sender < length deliveries.now.encounter.crafts }
     requires receiver { receiver < length deliveries.now.encounter.crafts }
     requires room { length line.old + 452 ≤ LINE_BYTES }
@@ -131,7 +131,7 @@ fn link_head(sender: Address, receiver: Address, sent: u16) -> Line
     line
 }
 
-fn link_line(deliveries: &Deliveries<'_>, sender: u8, receiver: u8) -> Line
+fn link_line(deliveries: &Deliveries, sender: u8, receiver: u8) -> Line
     requires sender { sender < length deliveries.now.encounter.crafts }
     requires receiver { receiver < length deliveries.now.encounter.crafts }
     ensures { result ≡ link_line deliveries.now.encounter deliveries.now.journal sender receiver }
@@ -148,7 +148,7 @@ fn link_line(deliveries: &Deliveries<'_>, sender: u8, receiver: u8) -> Line
 }
 
 // Whether this befalls some message.
-fn is_some(deliveries: &Deliveries<'_>, sender: u8, receiver: u8, mishap: Mishap) -> bool
+fn is_some(deliveries: &Deliveries, sender: u8, receiver: u8, mishap: Mishap) -> bool
     requires sender { sender < length deliveries.now.encounter.crafts }
     requires receiver { receiver < length deliveries.now.encounter.crafts }
     ensures { result ≡ some_flag (befallen_of deliveries.now.encounter deliveries.now.journal mishap sender receiver) }
@@ -156,7 +156,7 @@ fn is_some(deliveries: &Deliveries<'_>, sender: u8, receiver: u8, mishap: Mishap
     deliveries.numbers(mishap, sender, receiver).has_marks()
 }
 
-fn some_mishap(deliveries: &Deliveries<'_>, sender: u8, receiver: u8) -> bool
+fn some_mishap(deliveries: &Deliveries, sender: u8, receiver: u8) -> bool
     requires sender { sender < length deliveries.now.encounter.crafts }
     requires receiver { receiver < length deliveries.now.encounter.crafts }
     ensures { result ≡ some_mishap deliveries.now.encounter deliveries.now.journal sender receiver }
@@ -177,7 +177,7 @@ fn some_mishap(deliveries: &Deliveries<'_>, sender: u8, receiver: u8) -> bool
 }
 
 // Puts the line of two aircraft, where something befalls a message.
-fn put_link<S: LineSink>(deliveries: &Deliveries<'_>, sender: u8, receiver: u8, sink: &mut S)
+fn put_link<S: LineSink>(deliveries: &Deliveries, sender: u8, receiver: u8, sink: &mut S)
     requires sender { sender < length deliveries.now.encounter.crafts }
     requires receiver { receiver < length deliveries.now.encounter.crafts }
     ensures { S.took sink.old sink.new (link_lines deliveries.now.encounter deliveries.now.journal sender receiver) }
@@ -188,7 +188,7 @@ fn put_link<S: LineSink>(deliveries: &Deliveries<'_>, sender: u8, receiver: u8, 
 }
 
 // Puts those of one sender.
-fn put_from<S: LineSink>(deliveries: &Deliveries<'_>, sender: u8, sink: &mut S)
+fn put_from<S: LineSink>(deliveries: &Deliveries, sender: u8, sink: &mut S)
     requires { sender < length deliveries.now.encounter.crafts }
     ensures { S.took sink.old sink.new (lines_from deliveries.now.encounter deliveries.now.journal sender) }
 {
@@ -198,7 +198,7 @@ fn put_from<S: LineSink>(deliveries: &Deliveries<'_>, sender: u8, sink: &mut S)
     }
 }
 
-fn put_links<S: LineSink>(deliveries: &Deliveries<'_>, sink: &mut S)
+fn put_links<S: LineSink>(deliveries: &Deliveries, sink: &mut S)
     ensures { S.took sink.old sink.new (all_link_lines deliveries.now.encounter deliveries.now.journal) }
 {
     let count = craft_count(deliveries.state().enc());
@@ -277,7 +277,7 @@ fn put_replies<S: LineSink>(encounter: &Encounter, sink: &mut S)
 
 // ---- the text
 
-impl Text for Deliveries<'_> {
+impl Text for Deliveries {
     ghost use Rattle.deliveries.specs.Text.{delivery_lines};
 
     ghost lines = { λ d. delivery_lines d.encounter d.journal };
@@ -294,7 +294,7 @@ impl Text for Deliveries<'_> {
 /// numbers of the messages that something befell, and the replies that the plan makes missed. It takes no memory.
 ///
 /// `Failed` comes only where the sink's count of faults rose; what was written then is a front of the text.
-pub fn write<K: Sink>(deliveries: &Deliveries<'_>, sink: &mut K) -> Result<(), Failed>
+pub fn write<K: Sink>(deliveries: &Deliveries, sink: &mut K) -> Result<(), Failed>
     ensures { Puts (K.written sink.old) (K.written sink.new) (K.faults sink.old) (K.faults sink.new) (deliveries_text deliveries.now.encounter deliveries.now.journal) result }
 {
     write_text(deliveries, sink)

@@ -43,7 +43,7 @@ fn is_told(alloc: Global, enc: &Encounter, want: &[u8]) -> Result<bool, Fail>
     requires { IsInside enc.now }
 {
     let state = played(alloc, enc)?;
-    let deliveries = Deliveries::new(alloc, &state)?;
+    let deliveries = Deliveries::new(alloc, state)?;
     let mut sink = MemSink::new(Vec::with_capacity(alloc, 1_000)?, 1_000, Vec::new(alloc));
     Ok(write(&deliveries, &mut sink).is_ok() && sink.bytes() == want)
 }
@@ -233,8 +233,8 @@ fn are_rows(alloc: Global) -> Result<bool, Fail> {
     let lost = [lost(1), lost(2), lost(3)];
     let enc = meeting(alloc, 31, &[miss(1, 0, 30, 40)], &lost)?;
     let state = played(alloc, &enc)?;
-    let deliveries = Deliveries::new(alloc, &state)?;
-    if state.enc().crafts().len() < 2 {
+    let deliveries = Deliveries::new(alloc, state)?;
+    if deliveries.state().enc().crafts().len() < 2 {
         return Ok(false);
     }
     let cycles = missed(&enc, 1, 0);

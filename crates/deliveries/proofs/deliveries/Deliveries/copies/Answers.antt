@@ -10,7 +10,7 @@ use Rattle.deliveries.proofs.deliveries.Deliveries.copies.Goals as goal
 
 pub copies-requires : goal.copies-requires
 copies-requires c =
-    let s = c.self.inside.state.now in
+    let s = c.self.inside.state in
     let sender = subst (λ (t : State). c.args.sender < length t.encounter.crafts) (sym c.self.view_is) c.requires.sender in
     let receiver = subst (λ (t : State). c.args.receiver < length t.encounter.crafts) (sym c.self.view_is) c.requires.receiver in
     let last = subst (λ (t : State). c.args.number ≤ sends t.journal c.args.sender c.args.receiver) (sym c.self.view_is) c.requires.last in
@@ -20,7 +20,7 @@ copies-requires c =
 
 pub returns : goal.returns
 returns c =
-    let s = c.self.inside.state.now in
+    let s = c.self.inside.state in
     let sender = subst (λ (t : State). c.args.sender < length t.encounter.crafts) (sym c.self.view_is) c.requires.sender in
     let receiver = subst (λ (t : State). c.args.receiver < length t.encounter.crafts) (sym c.self.view_is) c.requires.receiver in
     let last = subst (λ (t : State). c.args.number ≤ sends t.journal c.args.sender c.args.receiver) (sym c.self.view_is) c.requires.last in
