@@ -224,10 +224,6 @@ head-is : (q : List Waiting) (h d : Waiting) → slice_get q 0 ≡ Some h → ge
 head-is [] h d e = absurd (cc)
 head-is (x ∷ q) h d e = let f : x ≡ h = cc in f
 
--- The first copy of that queue.
-pub first-is : (kept : Kept) (own sender : ℕ) (d : Waiting) (q : List Waiting) → WaitsFirst kept own sender → q ≡ queue_at kept sender own → slice_get (queue_at kept sender own) 0 ≡ Some (get_or q 0 d)
-first-is kept own sender d q f eq = f.here ∙ ap Some (sym (ap (λ (l : List Waiting). get_or l 0 d) eq ∙ head-is (queue_at kept sender own) f.head d f.here))
-
 -- A copy that waits first and is due is the first that is due.
 pub first-waits : (kept : Kept) (own made sender : ℕ) (d : Waiting) (q : List Waiting) → WaitsFirst kept own sender → q ≡ queue_at kept sender own → (get_or q 0 d).due ≤ made →
     IsLeast kept own made CRAFTS (let f : Found = record { sender = sender; place = 0; waiting = get_or q 0 d } in f)

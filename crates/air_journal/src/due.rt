@@ -1,5 +1,5 @@
 // The copies that are due, by the queues.
-ghost use Rattle.std.specs.Prelude.{◌≡◌, ℕ, ◌<◌, ◌≤◌, IfSome, MatchOption, MatchBool, length};
+ghost use Rattle.std.specs.Prelude.{◌≡◌, ℕ, ◌<◌, ◌≤◌, MatchOption, MatchBool, length};
 ghost use Rattle.acas_base.specs.declared.TheConstants.{CRAFTS};
 ghost use Rattle.air_journal.specs.Found.{IsDueIn, IsDueInOne, IsLeast, NoneOf, NotDueIn, NotDueInAny, earlier};
 ghost use Rattle.air_journal.specs.Kept.{queue_at};
@@ -118,44 +118,6 @@ fn is_this(waiting: Waiting, made: u16, send: u32, copy: u8) -> bool
     waiting.send == send && waiting.copy == copy && waiting.due <= made
 }
 
-// This copy, where it is the first that waits from the sender of the first message to an aircraft, and is due.
-fn find_first(
-    tables: &mut Tables,
-    own: u8,
-    made: u16,
-    send: u32,
-    copy: u8,
-    count: u8,
-) -> Option<Found>
-    requires own { own < CRAFTS }
-    requires ordered { (sender : ℕ) → sender < CRAFTS → AreOrdered (queue_at tables.old sender own) }
-    ensures same { tables.new ≡ tables.old }
-    ensures found { IfSome result (IsDueInOne tables.old own made send copy count) }
-{
-    // A message is passed over in each turn but the last.
-    for _turn in 0..MOST_TURNS {
-        match tables.front(own) {
-            Front::Waits(sender) => {
-                if sender >= count {
-                    return None;
-                }
-                let waiting = tables.queue(sender, own)[0];
-                if !is_this(waiting, made, send, copy) {
-                    return None;
-                }
-                return Some(Found {
-                    sender,
-                    place: 0,
-                    waiting,
-                });
-            }
-            Front::Passed => {}
-            Front::Unknown => return None,
-        }
-    }
-    None
-}
-
 // Where this copy stands in a queue, if it is due.
 fn find_in(queue: &[Waiting], made: u16, send: u32, copy: u8) -> Option<Due>
     ensures { MatchOption result (NotDueIn queue.now made send copy) (IsDueIn queue.now made send copy) }
@@ -169,8 +131,15 @@ fn find_in(queue: &[Waiting], made: u16, send: u32, copy: u8) -> Option<Due>
     None
 }
 
-// Where this copy stands, if it is due, by a search of all queues.
-fn find_copy(tables: &Tables, own: u8, made: u16, send: u32, copy: u8, count: u8) -> Option<Found>
+/// Where this copy stands, if it is due.
+pub(crate) fn find_copy(
+    tables: &Tables,
+    own: u8,
+    made: u16,
+    send: u32,
+    copy: u8,
+    count: u8,
+) -> Option<Found>
     requires own { own < CRAFTS }
     requires count { count ≤ CRAFTS }
     ensures { MatchOption result (NotDueInAny tables.now own made send copy count) (IsDueInOne tables.now own made send copy count) }
@@ -185,26 +154,4 @@ fn find_copy(tables: &Tables, own: u8, made: u16, send: u32, copy: u8, count: u8
         }
     }
     None
-}
-
-/// Where this copy stands, if it is due. Mostly it is a copy of the first message to the aircraft, and no search is
-/// needed.
-pub(crate) fn this_due(
-    tables: &mut Tables,
-    own: u8,
-    made: u16,
-    send: u32,
-    copy: u8,
-    count: u8,
-) -> Option<Found>
-    requires own { own < CRAFTS }
-    requires count { count ≤ CRAFTS }
-    requires ordered { (sender : ℕ) → sender < CRAFTS → AreOrdered (queue_at tables.old sender own) }
-    ensures same { tables.new ≡ tables.old }
-    ensures found { MatchOption result (NotDueInAny tables.old own made send copy count) (IsDueInOne tables.old own made send copy count) }
-{
-    match find_first(tables, own, made, send, copy, count) {
-        Some(found) => Some(found),
-        None => find_copy(tables, own, made, send, copy, count),
-    }
 }

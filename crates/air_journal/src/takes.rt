@@ -8,7 +8,7 @@ ghost use Rattle.craft_view.specs.Kept.{IsActive};
 
 use crate::answers::{Took, TookThis};
 use crate::crafts::count_of;
-use crate::due::{Found, next_due, this_due};
+use crate::due::{Found, find_copy, next_due};
 use crate::state::AirState;
 
 impl AirState {
@@ -56,7 +56,7 @@ impl AirState {
     {
         let count = count_of(&self.encounter);
         let made = self.tables.made(own).commits;
-        match this_due(&mut self.tables, own, made, send, copy, count) {
+        match find_copy(&self.tables, own, made, send, copy, count) {
             None => TookThis::NotDue,
             Some(found) => {
                 let (position, good) = self.take_found(own, found);

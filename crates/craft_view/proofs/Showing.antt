@@ -3,10 +3,11 @@ use Rattle.std.proofs.Common.{◌≡◌, ℕ, Bool, true, false, Some, None, ref
 use Rattle.std.specs.Prelude.{is_some}
 use Rattle.acas_base.specs.Encounter.{Parts}
 use Rattle.acas_base.specs.declared.level.Row.{Row}
+use Rattle.acas_base.specs.declared.view.View.{View}
 use Rattle.acas_num.specs.declared.track.TrackState.{TrackState}
 use Rattle.craft_view.specs.Hits.{is_hit}
 use Rattle.craft_view.specs.KnownTracks.{motion_of}
-use Rattle.craft_view.specs.Views.{picture_after, picture_of, plain_view, resolving_view, shown, tested_view, view_by}
+use Rattle.craft_view.specs.Views.{outline_of, picture_after, picture_of, plain_view, resolving_view, shown, tested_view, view_by}
 use Rattle.craft_view.specs.declared.motion.Motion.{Motion}
 use Rattle.craft_view.specs.declared.own.OwnAircraft.{OwnAircraft}
 use Rattle.craft_view.specs.declared.tracks.Tracks.{Tracks}
@@ -15,6 +16,18 @@ use Rattle.craft_view.specs.declared.tracks.Tracks.{Tracks}
 pub shown-plain : (asked tested traffic resolves : Bool) → shown asked (plain_view tested traffic resolves) ≡ plain_view tested traffic resolves
 shown-plain true tested traffic resolves = refl
 shown-plain false tested traffic resolves = refl
+
+-- A threat is shown whole.
+pub shown-threat : (asked : Bool) (view : View) → view.threat ≡ true → view ≡ shown asked view
+shown-threat true view threat = refl
+shown-threat false view threat = rw threat refl
+
+-- What isn't asked for and is no threat is shown in outline.
+pub shown-outline : (asked : Bool) (view : View) → asked ≡ false → view.threat ≡ false → outline_of view ≡ shown asked view
+shown-outline asked view unasked calm = rw (unasked, calm) refl
+
+pub shown-asked : (asked : Bool) (view : View) → asked ≡ true → view ≡ shown asked view
+shown-asked asked view is = rw is refl
 
 pub shown-untested : (asked : Bool) (own : OwnAircraft) (mine : TrackState) (tracks : Tracks) → motion_of mine tracks ≡ None → plain_view false false (is_some own.resolution) ≡ shown asked (view_by own mine tracks)
 unfolding view_by

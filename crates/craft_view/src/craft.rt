@@ -12,7 +12,7 @@ ghost use Rattle.flight.specs.Inside.{IsInside};
 use crate::motion::{Motion, motion_of};
 use crate::others::{is_other, step_tracks};
 use crate::own::{OwnAircraft, own_of};
-use crate::pair::{asks_for, no_picture, put_no_view, put_view};
+use crate::pair::{no_picture, put_no_view, put_view};
 use crate::tracks::Tracks;
 use acas_base::{CRAFTS, Cells, Encounter, Picture, View};
 use acas_num::TrackState;
@@ -175,8 +175,7 @@ impl Craft {
         // No encounter has more than 16 aircraft.
         encounter.valid_law();
         for target in 0..encounter.crafts().len() {
-            let asked = asks_for(before, target as u8);
-            self.put_view(encounter, own, target as u8, asked, &mut views[target]);
+            self.put_view(encounter, own, target as u8, before, &mut views[target]);
         }
     }
 
@@ -186,21 +185,22 @@ impl Craft {
         encounter: &Encounter,
         own: &OwnAircraft,
         target: u8,
-        asked: bool,
+        before: Option<&Cells>,
         view: &mut View,
     )
         requires belongs { Belongs encounter.now self.now }
         requires own { own.now ≡ own_of (sight_of encounter.now self.now.own self.now.cycle) }
         requires rows { AreRows own.now }
         requires target { target < CRAFTS }
-        ensures { view.new ≡ shown asked (view_of encounter.now self.now.own target self.now.cycle) }
+        ensures { view.new ≡ shown (asks_for (option_copied before.entry) target) (view_of encounter.now self.now.own target self.now.cycle) }
     {
         if is_other(encounter, self.own, target) {
             put_view(
                 own,
                 &self.altitude,
                 &self.tracks[usize::from(target)],
-                asked,
+                before,
+                target,
                 view,
             );
         } else {

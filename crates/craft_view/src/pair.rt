@@ -16,7 +16,7 @@ use acas_base::{CRAFTS, Cells, Picture, Row, Sense, Seps, View};
 use alt_track::AltTrack;
 
 // Whether the separations to an aircraft are asked for after these cells.
-pub(crate) fn asks_for(before: Option<&Cells>, target: u8) -> bool
+fn asks_for(before: Option<&Cells>, target: u8) -> bool
     requires { target < CRAFTS }
     ensures { result ≡ asks_for (option_copied before.entry) target }
 {
@@ -33,14 +33,16 @@ pub(crate) fn put_view(
     own: &OwnAircraft,
     altitude: &AltTrack,
     tracks: &Tracks,
-    asked: bool,
+    before: Option<&Cells>,
+    target: u8,
     view: &mut View,
 )
-    requires { AreRows own.now }
-    ensures { view.new ≡ shown asked (view_by own.now altitude.now tracks.now) }
+    requires rows { AreRows own.now }
+    requires target { target < CRAFTS }
+    ensures { view.new ≡ shown (asks_for (option_copied before.entry) target) (view_by own.now altitude.now tracks.now) }
 {
     match motion_of(altitude, tracks) {
-        Some(motion) => put_tested(own, &motion, asked, view),
+        Some(motion) => put_tested(own, &motion, before, target, view),
         None => put_plain(view, false, false, own.resolution.is_some()),
     }
 }
@@ -63,25 +65,44 @@ pub fn no_picture() -> Picture
     }
 }
 
-fn put_tested(own: &OwnAircraft, motion: &Motion, asked: bool, view: &mut View)
+fn put_tested(
+    own: &OwnAircraft,
+    motion: &Motion,
+    before: Option<&Cells>,
+    target: u8,
+    view: &mut View,
+)
     requires own { AreRows own.now }
     requires motion { IsMotion motion.now }
-    ensures { view.new ≡ shown asked (tested_view own.now motion.now) }
+    requires target { target < CRAFTS }
+    ensures { view.new ≡ shown (asks_for (option_copied before.entry) target) (tested_view own.now motion.now) }
 {
     match own.resolution {
-        Some(row) => put_resolving(own, motion, &row, asked, view),
+        Some(row) => put_resolving(own, motion, &row, before, target, view),
         None => put_plain(view, true, is_hit(motion, &own.traffic), false),
     }
 }
 
-fn put_resolving(own: &OwnAircraft, motion: &Motion, row: &Row, asked: bool, view: &mut View)
+fn put_resolving(
+    own: &OwnAircraft,
+    motion: &Motion,
+    row: &Row,
+    before: Option<&Cells>,
+    target: u8,
+    view: &mut View,
+)
     requires own { AreRows own.now }
     requires motion { IsMotion motion.now }
     requires row { IsTableRow row.now }
-    ensures { view.new ≡ shown asked (resolving_view own.now motion.now row.now) }
+    requires target { target < CRAFTS }
+    ensures { view.new ≡ shown (asks_for (option_copied before.entry) target) (resolving_view own.now motion.now row.now) }
 {
     let threat = is_hit(motion, row);
-    if asked || threat {
+    if threat {
+        put_whole(own, motion, row, threat, view);
+        return;
+    }
+    if asks_for(before, target) {
         put_whole(own, motion, row, threat, view);
     } else {
         put_outline(own, motion, row, view);

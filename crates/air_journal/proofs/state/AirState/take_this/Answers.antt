@@ -1,7 +1,7 @@
 use Rattle.std.proofs.Common.{◌≡◌, ℕ, ◌<◌, true, false, sym, ap, ◌∙◌, subst, refl}
 use Rattle.acas_base.specs.declared.TheConstants.{CRAFTS}
 use Rattle.air_journal.proofs.Bounds.{active-is, below-all}
-use Rattle.air_journal.proofs.Telling.{all-ordered, count-is, not-due, this-waits}
+use Rattle.air_journal.proofs.Telling.{count-is, not-due, this-waits}
 use Rattle.air_journal.specs.Airs.{air_of}
 use Rattle.air_journal.specs.Calls.{TookCopy}
 use Rattle.air_journal.specs.Found.{IsDueInOne, NotDueInAny, WaitsAt}
@@ -22,25 +22,20 @@ own c = below-all c.self.inside.encounter c.self.invariant.whole.is_journal.vali
 count : (c : After-made-made) → c.made-made.result.commits ≡ commits c.self.inside.journal.entries c.args.own
 count c = ap (λ m. m.commits) c.made-made.ensures ∙ count-is c.self.invariant.whole c.args.own (own c)
 
-pub this_due-requires-clause-ordered : goal.this_due-requires-clause-ordered
-this_due-requires-clause-ordered c = λ b hb. all-ordered c.self.invariant.whole c.args.own b (own (goal.at.this_due-requires-clause-ordered c).After-made-made) hb
-
 pub returns-in-None-clause-takes : goal.returns-in-None-clause-takes
 returns-in-None-clause-takes c =
     let a = (goal.at.returns-in-None-clause-takes c).After-made-made in
-    let n = subst (λ (k : ℕ). NotDueInAny c.self.inside.tables c.args.own c.made-made.result.commits c.args.send c.args.copy k) c.count_of-count.ensures.value c.in-None.ensures.found in
-    (subst (λ (s : State). is_due (air_of s.encounter) s.journal c.args.own c.args.send c.args.copy ≡ false) c.self.view_is (not-due c.self.invariant.whole c.args.own c.made-made.result.commits c.args.send c.args.copy (own a) (count a) n), ap (λ (s : State). s.journal) c.self.view_is)
+    let n = subst (λ (k : ℕ). NotDueInAny c.self.inside.tables c.args.own c.made-made.result.commits c.args.send c.args.copy k) c.count_of-count.ensures.value c.in-None.ensures in
+    (subst (λ (s : State). is_due (air_of s.encounter) s.journal c.args.own c.args.send c.args.copy ≡ false) c.self.view_is (not-due c.self.invariant.whole c.args.own c.made-made.result.commits c.args.send c.args.copy (own a) (count a) n), refl)
 
 pub take_found-position-requires-clause-waits : goal.take_found-position-requires-clause-waits
 take_found-position-requires-clause-waits c =
     let a = (goal.at.take_found-position-requires-clause-waits c).After-made-made in
-    let l = subst (λ (k : ℕ). IsDueInOne c.self.inside.tables c.args.own c.made-made.result.commits c.args.send c.args.copy k c.in-Some.found) c.count_of-count.ensures.value c.in-Some.ensures.found in
-    this-waits c.self.invariant.whole c.args.own c.made-made.result.commits c.args.send c.args.copy c.in-Some.found (own a) (count a) l
+    let l = subst (λ (k : ℕ). IsDueInOne c.self.inside.tables c.args.own c.made-made.result.commits c.args.send c.args.copy k c.in-Some.found) c.count_of-count.ensures.value c.in-Some.ensures in
+    subst (λ (s : State). WaitsAt (air_of s.encounter) s.journal c.args.own c.in-Some.found) c.self.view_is (this-waits c.self.invariant.whole c.args.own c.made-made.result.commits c.args.send c.args.copy c.in-Some.found (own a) (count a) l)
 
 pub returns-in-Some-clause-takes : goal.returns-in-Some-clause-takes
 returns-in-Some-clause-takes c =
-    let l = c.in-Some.ensures.found in
-    let t = c.take_found-position in
-    let took = subst (λ (s : State). TookCopy (air_of s.encounter) s.journal c.args.own c.in-Some.found.waiting.send c.in-Some.found.waiting.copy t.new.self.journal t.result.0 t.result.1) c.self.view_is t.ensures.took in
+    let l = c.in-Some.ensures in
     subst (λ (p : ℕ). TookCopy (air_of c.args.self.now.encounter) c.args.self.now.journal c.args.own p c.args.copy c.take_found-position.new.self.journal c.take_found-position.result.0 c.take_found-position.result.1) l.place.send_is
-    (subst (λ (d : ℕ). TookCopy (air_of c.args.self.now.encounter) c.args.self.now.journal c.args.own c.in-Some.found.waiting.send d c.take_found-position.new.self.journal c.take_found-position.result.0 c.take_found-position.result.1) l.place.copy_is took)
+    (subst (λ (d : ℕ). TookCopy (air_of c.args.self.now.encounter) c.args.self.now.journal c.args.own c.in-Some.found.waiting.send d c.take_found-position.new.self.journal c.take_found-position.result.0 c.take_found-position.result.1) l.place.copy_is c.take_found-position.ensures.took)

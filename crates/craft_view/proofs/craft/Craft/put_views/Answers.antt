@@ -1,4 +1,4 @@
-use Rattle.std.proofs.Common.{◌≡◌, ◌≢◌, ℕ, ◌<◌, ◌∙◌, Bool, length, get_or, sym, ap, arith, inl, inr, below_more, get_or-set_other, get_or-set_same, length-set, rules}
+use Rattle.std.proofs.Common.{◌≡◌, ◌≢◌, ℕ, ◌<◌, ◌∙◌, length, get_or, sym, ap, arith, inl, inr, below_more, get_or-set_other, get_or-set_same, length-set, rules}
 use Rattle.std.specs.Option.{option_copied}
 use Rattle.std.proofs.lemmas.Bool.{cases_lt}
 use Rattle.std.proofs.lemmas.List.{same_lists}
@@ -29,8 +29,7 @@ loop-target-preserved c =
       size = length-set views t view ∙ i.size;
       done = λ k d. below_more _ _
           (λ j h. let ne : j ≢ t = omega arith in get_or-set_other views t j view d ne ∙ i.done j d h)
-          (get_or-set_same views t view d within ∙ c.put_view.ensures
-          ∙ ap (λ (b : Bool). shown b (view_of c.args.encounter.now c.args.self.now.own t c.args.self.now.cycle)) c.asks_for-asked.ensures) k;
+          (get_or-set_same views t view d within ∙ c.put_view.ensures) k;
       rest = λ k d past h. let ne : k ≢ t = omega (arith, here) in get_or-set_other views t k view d ne ∙ i.rest k d past h;
     }
 
