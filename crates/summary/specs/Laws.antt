@@ -1,5 +1,5 @@
 -- What the stretches are in a legal journal, without the recursion that finds them.
-use Rattle.std.specs.Prelude.{◌≡◌, ℕ, ◌+◌, ◌-◌, ◌<◌, ◌≤◌, Bool, true, false, List, ◌∷◌, Option, Some, filter, map, slice_get}
+use Rattle.std.specs.Prelude.{◌≡◌, ℕ, ◌-◌, ◌<◌, ◌≤◌, Bool, true, false, List, ◌∷◌, Some, filter, map, slice_get}
 use Rattle.std.specs.List.{range_with_len}
 use Rattle.acas_base.specs.declared.advisory.Cells.{Cells}
 use Rattle.acas_base.specs.declared.entry.Entry.{Entry}
