@@ -1,5 +1,5 @@
 -- No two places that aircraft can reach are too far apart to be written.
-use Rattle.std.proofs.Common.{rules, ◌≡◌, ℕ, ◌*◌, ◌+◌, ◌<◌, ◌≤◌, ◌^◌, ℤ, ◌-ℤ◌, unsigned_abs, arith, inl, inr}
+use Rattle.std.proofs.Common.{rules, ◌*◌, ◌<◌, ◌≤◌, ◌^◌, ℤ, ◌-ℤ◌, unsigned_abs, arith, inl, inr}
 use Rattle.std.proofs.lemmas.Bool.{cases_lt}
 use Rattle.std.proofs.lemmas.Nat.{mul-le}
 use Rattle.flight.proofs.Slants.{slant-is}

@@ -9,3 +9,4 @@ pub mod Standings
 pub mod Starting
 pub mod Stretching
 pub mod Telling
+pub mod Turning

@@ -6,11 +6,9 @@ use Rattle.acas_base.specs.declared.TheConstants.{CRAFTS}
 use Rattle.acas_base.specs.declared.advisory.Cells.{Cells}
 use Rattle.acas_base.specs.declared.entry.Entry.{Entry}
 use Rattle.acas_base.specs.declared.entry.Entry.TheVariants.{Commit, Send, Take}
-use Rattle.air_rules.proofs.Legal.{allowed, earlier}
 use Rattle.air_rules.proofs.Pace.{count-no, count-yes}
 use Rattle.air_rules.specs.Air.{Air}
 use Rattle.air_rules.specs.Journal.{cell_at, commits, is_commit_of, last_cell}
-use Rattle.air_rules.specs.Rules.{IsLegal}
 use Rattle.summary.specs.Kept.{AreRows, IsRow, no_row, past_end, row_at}
 use Rattle.summary.specs.Stretches.{begins, start_of, starts_of, starts_with}
 use Rattle.summary.specs.declared.rows.Row.{Row}

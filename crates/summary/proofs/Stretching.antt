@@ -1,5 +1,5 @@
 -- The stretches of a legal journal, by cycles.
-use Rattle.std.proofs.Common.{◌≡◌, ◌⊎◌, ℕ, zero, suc, ◌+◌, ◌-◌, ◌<◌, ◌≤◌, Bool, true, false, ◌&&◌, cond, eqb, List, [], ◌∷◌, ◌++◌, Option, Some, None, refl, sym, ap, ap₂, ◌∙◌, subst, arith, inl, inr, eq-eqb, ne_eqb}
+use Rattle.std.proofs.Common.{◌≡◌, ◌⊎◌, ℕ, zero, suc, ◌+◌, ◌-◌, ◌≤◌, Bool, true, false, ◌&&◌, cond, eqb, List, [], ◌∷◌, ◌++◌, Option, Some, refl, sym, ap, ap₂, ◌∙◌, subst, arith, inl, inr, eq-eqb, ne_eqb}
 use Rattle.std.specs.Prelude.{filter, map, slice_get}
 use Rattle.std.specs.List.{range_with_len}
 use Rattle.std.proofs.lemmas.Bool.{and_from, and_left, and_right, cases_Bool, cases_eq, cond-false, cond-true}
@@ -14,7 +14,7 @@ use Rattle.air_rules.specs.Air.{Air}
 use Rattle.air_rules.specs.Journal.{Begins, cell_at, commits, is_commit_of, last_cell, more, whole}
 use Rattle.air_rules.specs.Rules.{IsLegal}
 use Rattle.summary.specs.Laws.{AreStretches, HasCommit, IsLongest, begins_in, first_cycle}
-use Rattle.summary.specs.Stretches.{begins, cell_in, cell_of, is_kept, last_of, lasts, start_of, starts_of, starts_with, told_of}
+use Rattle.summary.specs.Stretches.{begins, cell_in, cell_of, is_kept, lasts, start_of, starts_of, starts_with}
 use Rattle.summary.specs.declared.rows.Start.{Start}
 use Rattle.summary.proofs.Numbers.{map-last, passing-no, passing-yes}
 use Rattle.summary.proofs.Rowing.{starts-apart, starts-no, starts-none, starts-own, starts-send, starts-take, starts-yes}

@@ -3,7 +3,6 @@
 use Rattle.std.specs.Prelude.{◌≡◌, ℕ, ◌<◌, ◌≤◌, ◌*◌, ◌+◌, ℤ, List, [], Option, None, IfSome, length, pos, replicate, slice_get, slice_index_or}
 use Rattle.acas_base.specs.Encounter.{Parts}
 use Rattle.acas_base.specs.declared.TheConstants.{CRAFTS}
-use Rattle.acas_base.specs.declared.pairs.TheConstants.{PAIRS}
 use Rattle.acas_base.specs.declared.entry.Entry.{Entry}
 use Rattle.air_journal.specs.Airs.{air_of}
 use Rattle.air_journal.specs.Cells.{place_of}

@@ -1,11 +1,16 @@
 -- What the stretches are in a legal journal, without the recursion that finds them.
-use Rattle.std.specs.Prelude.{◌≡◌, ℕ, ◌+◌, ◌-◌, ◌<◌, ◌≤◌, Bool, true, false, List, ◌∷◌, Option, Some, filter, map, slice_get}
+use Rattle.std.specs.Prelude.{◌≡◌, ◌≢◌, ℕ, ◌-◌, ◌<◌, ◌≤◌, Bool, true, false, List, ◌∷◌, Some, filter, is_some, map, slice_get}
 use Rattle.std.specs.List.{range_with_len}
+use Rattle.acas_base.specs.declared.advisory.Cell.TheVariants.{Ra}
 use Rattle.acas_base.specs.declared.advisory.Cells.{Cells}
+use Rattle.acas_base.specs.declared.advisory.Intent.{Intent}
+use Rattle.acas_base.specs.declared.advisory.Rank.{Rank}
+use Rattle.acas_base.specs.declared.advisory.Rank.TheVariants.{First, Second, Free}
 use Rattle.acas_base.specs.declared.entry.Entry.{Entry}
 use Rattle.acas_base.specs.declared.entry.Entry.TheVariants.{Commit}
-use Rattle.air_rules.specs.Air.{Air}
-use Rattle.air_rules.specs.Journal.{Begins, commits}
+use Rattle.air_rules.specs.Air.{Air, rank_of}
+use Rattle.air_rules.specs.Journal.{Begins, cell_at, commits, last_cell}
+use Rattle.summary.specs.Lines.{is_reversed}
 use Rattle.summary.specs.Stretches.{begins, cell_in, is_kept, last_of, starts_of, told_of}
 use Rattle.summary.specs.declared.rows.Start.{Start}
 
@@ -37,3 +42,16 @@ pub record AreStretches (air : Air) (journal : List Entry) (own other : ℕ) : T
   pub all : AreAll journal own other (starts_of air journal own other)
   pub longest : (first : ℕ) → first ≤ air.cycles → IsLongest journal air.cycles own other first (last_of journal air.cycles own other first)
   pub commit : (place : ℕ) (start : Start) → slice_get (starts_of air journal own other) place ≡ Some start → HasCommit air journal own other start
+
+-- What tells of a change of sense: an aircraft that gives way was turned by a message that is named; any other one was
+-- reversed geometrically.
+abbrev pub IsTurn : Air → List Entry → ℕ → ℕ → Intent → Intent → Rank → Type 0
+IsTurn air before own other old new First = is_reversed old new ≡ true
+IsTurn air before own other old new Free = is_reversed old new ≡ true
+IsTurn air before own other old new Second = (is_reversed old new ≡ false) × (is_some (told_of air before own other) ≡ true)
+
+-- Of each commit that changes a sense.
+abbrev pub HasTrueTurns : Air → List Entry → Type 0
+HasTrueTurns air journal = (before : List Entry) (own other cycle : ℕ) (cells : Cells) (old new : Intent) → own ≢ other →
+    Begins (Commit own cycle cells ∷ before) journal → last_cell before own other ≡ Ra old → cell_at cells other ≡ Ra new → old.sense ≢ new.sense →
+    IsTurn air before own other old new (rank_of air own other)

@@ -1,5 +1,5 @@
 -- The lines of an aircraft against another one.
-use Rattle.std.specs.Prelude.{ℕ, ◌+◌, ◌-◌, ◌/◌, Bool, true, false, not, ◌&&◌, nat_lt, nat_le, if◌then◌else◌, ℤ, pos, ◌-ℤ◌, int_lt, unsigned_abs, List, [], ◌∷◌, ◌++◌, codes, length, map, take, Option, Some, None, is_some}
+use Rattle.std.specs.Prelude.{ℕ, ◌-◌, ◌/◌, Bool, not, ◌&&◌, nat_lt, nat_le, if◌then◌else◌, ℤ, pos, ◌-ℤ◌, int_lt, unsigned_abs, List, [], ◌∷◌, ◌++◌, codes, length, map, take, Option, Some, None, is_some}
 use Rattle.std.specs.Fmt.{decimal}
 use Rattle.std.specs.Option.{option_map_or}
 use Rattle.acas_base.specs.Encounter.{Parts, is_active_kind}

@@ -17,5 +17,5 @@ mod stretches;
 mod summary;
 mod told;
 
-pub use laws::stretches_law;
+pub use laws::{stretches_law, turns_law};
 pub use summary::{Summary, write};

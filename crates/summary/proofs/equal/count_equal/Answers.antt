@@ -1,4 +1,4 @@
-use Rattle.std.proofs.Common.{◌≡◌, ℕ, Bool, ◌+◌, ◌<◌, ◌≤◌, true, false, length, sym, ap, ◌∙◌, arith}
+use Rattle.std.proofs.Common.{◌≡◌, ℕ, Bool, ◌+◌, true, false, length, sym, ap, ◌∙◌, arith}
 use Rattle.acas_base.specs.Encounter.{Parts}
 use Rattle.summary.specs.Pairs.{equal_cycles, is_equal}
 use Rattle.summary.proofs.Numbers.{count-no, count-yes}

@@ -1,7 +1,7 @@
-use Rattle.std.proofs.Common.{◌≡◌, ℕ, Bool, ◌+◌, ◌<◌, ◌≤◌, false, true, sym, ap, ◌∙◌, arith}
+use Rattle.std.proofs.Common.{◌≡◌, ℕ, Bool, ◌+◌, ◌<◌, false, true, sym, ap, ◌∙◌, arith}
 use Rattle.acas_base.specs.Encounter.{Parts}
 use Rattle.summary.specs.Pairs.{is_equal}
-use Rattle.summary.proofs.Lasting.{lasts-end, lasts-on, lasts-stop}
+use Rattle.summary.proofs.Lasting.{lasts-on, lasts-stop}
 use Rattle.summary.proofs.equal.last_equal.Goals as goal
 
 pub returns-then-not-is_equal : goal.returns-then-not-is_equal

@@ -1,6 +1,5 @@
-use Rattle.std.proofs.Common.{◌≡◌, ℕ, Bool, ◌+◌, ◌<◌, ◌≤◌, ◌++◌, true, false, List, length, sym, ap, ap₂, ◌∙◌, subst, arith}
-use Rattle.acas_base.specs.Encounter.{Parts}
-use Rattle.summary.specs.Pairs.{begins_equal, equal_rows, row_if_told, row_lines}
+use Rattle.std.proofs.Common.{◌≡◌, ℕ, Bool, ◌+◌, ◌++◌, true, false, List, sym, ap, ap₂, ◌∙◌, subst, arith}
+use Rattle.summary.specs.Pairs.{begins_equal, row_if_told, row_lines}
 use Rattle.summary.proofs.Numbers.{count-no, count-yes}
 use Rattle.summary.proofs.Telling.{rows-no, rows-yes}
 use Rattle.summary.proofs.equal.put_rows.Goals as goal

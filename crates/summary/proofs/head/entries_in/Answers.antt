@@ -1,5 +1,4 @@
-use Rattle.std.proofs.Common.{◌≡◌, ◌+◌, ◌<◌, ◌≤◌, List, length, Option, option_map, sym, ap, ◌∙◌, subst, arith}
-use Rattle.acas_base.specs.declared.entry.Entry.{Entry}
+use Rattle.std.proofs.Common.{◌≤◌, length, option_map, sym, ap, ◌∙◌, arith}
 use Rattle.air_journal.proofs.Bounds.{fits, most-few}
 use Rattle.air_journal.specs.EntryRefs.{entry_of}
 use Rattle.journal_reader.proofs.Prefixes.{follows, read-all, read-length, read-past}

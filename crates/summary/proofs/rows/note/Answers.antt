@@ -1,6 +1,4 @@
-use Rattle.std.proofs.Common.{◌<◌, ◌∷◌, List, length, sym, ap, subst, arith}
-use Rattle.acas_base.specs.declared.TheConstants.{CRAFTS}
-use Rattle.acas_base.specs.declared.entry.Entry.{Entry}
+use Rattle.std.proofs.Common.{◌∷◌, length, sym, subst, arith}
 use Rattle.acas_base.specs.declared.entry.Entry.TheVariants as kinds
 use Rattle.air_journal.proofs.Bounds.{few-crafts}
 use Rattle.air_journal.proofs.WellFormed.{entries-fit}

@@ -1,6 +1,5 @@
-use Rattle.std.proofs.Common.{◌≡◌, ℕ, ◌+◌, ◌<◌, ◌≤◌, true, false, List, [], ◌∷◌, ◌++◌, get_or, length, Option, refl, sym, ap, ap₂, ◌∙◌, subst, arith, eq-eqb}
+use Rattle.std.proofs.Common.{◌≡◌, ℕ, ◌+◌, ◌<◌, ◌≤◌, [], ◌∷◌, ◌++◌, get_or, Option, refl, sym, ap, ap₂, ◌∙◌, subst, arith, eq-eqb}
 use Rattle.acas_base.specs.declared.TheConstants.{CRAFTS}
-use Rattle.acas_base.specs.declared.advisory.Cell.{Cell}
 use Rattle.acas_base.specs.declared.advisory.Cell.TheVariants.{Clear}
 use Rattle.acas_base.specs.declared.entry.Entry.TheVariants as kinds
 use Rattle.air_journal.proofs.Bounds.{few-commits}

@@ -1,7 +1,7 @@
-use Rattle.std.proofs.Common.{◌≡◌, ◌<◌, ◌≤◌, false, true, sym, ap, ◌∙◌, arith}
+use Rattle.std.proofs.Common.{◌≡◌, ◌<◌, false, true, sym, ap, ◌∙◌, arith}
 use Rattle.acas_base.specs.Encounter.{Parts}
 use Rattle.summary.specs.Stretches.{is_kept}
-use Rattle.summary.proofs.Lasting.{lasts-end, lasts-on, lasts-stop}
+use Rattle.summary.proofs.Lasting.{lasts-on, lasts-stop}
 use Rattle.summary.proofs.stretches.last_of.Goals as goal
 
 pub returns-then-not-is_kept-clause-value : goal.returns-then-not-is_kept-clause-value

@@ -1,4 +1,4 @@
-use Rattle.std.proofs.Common.{◌≡◌, ℕ, ◌+◌, ◌++◌, ◌∷◌, [], List, take, Option, Some, None, sym, ap, ◌∙◌, subst, arith}
+use Rattle.std.proofs.Common.{◌≡◌, Some, None, sym, ap, ◌∙◌, subst}
 use Rattle.std.specs.Prelude.{map, slice_get}
 use Rattle.air_journal.specs.Airs.{air_of}
 use Rattle.summary.specs.Lines.{stretch_line}

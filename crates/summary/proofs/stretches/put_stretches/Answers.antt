@@ -1,4 +1,4 @@
-use Rattle.std.proofs.Common.{◌≡◌, ◌≢◌, ℕ, ◌++◌, List, length, sym, ap, ◌∙◌, subst, arith}
+use Rattle.std.proofs.Common.{◌≡◌, ◌≢◌, ℕ, length, sym, ◌∙◌, subst}
 use Rattle.air_journal.specs.Airs.{air_of}
 use Rattle.summary.specs.Lines.{more_lines, told_stretches}
 use Rattle.summary.specs.Stretches.{starts_of}

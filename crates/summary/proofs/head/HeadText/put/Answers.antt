@@ -1,4 +1,4 @@
-use Rattle.std.proofs.Common.{rules, ◌≡◌, ℕ, List, [], ◌∷◌, w32, sym, ap, ap₂, ◌∙◌, subst}
+use Rattle.std.proofs.Common.{rules, ℕ, List, [], ◌∷◌, w32, ap, ap₂, ◌∙◌, subst}
 use Rattle.std.proofs.lemmas.Int.{to_z-of_z}
 use Rattle.acas_base.specs.Encounter.{Parts}
 use Rattle.summary.specs.Head.{crafts_line, entries_line, run_line}
