@@ -19,8 +19,8 @@ use air_journal::{AirState, EntryRef};
 use std::alloc::{AllocError, Global};
 use std::marker::Model;
 
-/// What became of the messages of a journal. Aircraft are named by their indices, and an aircraft numbers its messages to
-/// another one from 1 on.
+/// What became of the messages of a journal. Aircraft are named by their indices, and an aircraft numbers its messages
+/// to another one from 1 on.
 #[derive(Drop)]
 pub struct Deliveries {
     state: AirState,
@@ -50,8 +50,8 @@ fn is_send(entry: &EntryRef<'_>) -> bool
 }
 
 impl Deliveries {
-    /// Those of a state. They take memory by the pairs of its aircraft: 57,600 bytes for each aircraft. Want of memory is
-    /// the only error.
+    /// Those of a state. They take memory by the number of its aircraft: 57,600 bytes for each one. Want of memory is the
+    /// only error.
     pub fn new(alloc: Global, state: AirState) -> Result<Deliveries, AllocError>
         ensures { IfOk result (λ deliveries. deliveries ≡ state) }
     {

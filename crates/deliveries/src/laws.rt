@@ -11,8 +11,8 @@ pub fn rows_law()
     ensures { (flags : List Bool) → AreRows flags }
 {}
 
-/// A law: the messages of one aircraft to another one that a legal journal sent have the numbers from 1 to how many they
-/// are.
+/// A law: the messages of one aircraft to another one that a legal journal sent have the numbers from 1 to how many
+/// they are.
 pub fn numbers_law()
     ensures { (air : Air) (journal : List Entry) → IsLegal air journal → AreNumbered journal }
 {}

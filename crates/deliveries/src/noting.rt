@@ -12,8 +12,8 @@ use acas_base::{CRAFTS, Encounter, PAIRS, pair_of};
 use air_journal::{AirState, EntryRef};
 use std::alloc::{AllocError, Global};
 
-/// What is noted of a journal: the copies and the takes of each message that the aircraft can send, and how many messages
-/// were sent, by pair.
+/// What is noted of a journal: the copies and the takes of each message that the aircraft can send, and how many
+/// messages were sent, by pair.
 #[derive(Drop)]
 pub(crate) struct Notes {
     pub copies: Vec<Copies>,
@@ -150,7 +150,7 @@ fn no_takes(alloc: Global, crafts: usize) -> Result<Vec<Takes>, AllocError>
 }
 
 impl Notes {
-    /// Those of the journal of a state. They take memory by the pairs of its aircraft, and none by the number of entries.
+    /// Those of the journal of a state. They take memory by the number of its aircraft, and none by that of entries.
     pub fn new(alloc: Global, state: &AirState) -> Result<Notes, AllocError>
         ensures { IfOk result (λ notes. AreNotes state.now.encounter state.now.journal (length state.now.journal) notes.copies.items notes.takes.items notes.sent) }
     {

@@ -154,8 +154,8 @@ REPLIES MISSED by plan
   by 400B02 from 400A01 in 28-33
 ";
 
-// Two misses that follow each other are one row, which the run cuts. One begins after the run, and one is of an aircraft
-// that measures nothing.
+// Two misses that follow each other are one row, which the run cuts. One begins after the run, and one is of an
+// aircraft that measures nothing.
 const MISSED: &[u8] =
     b"\nMESSAGES 0 sent, 0 lost, 0 spoilt, 0 held back, 0 repeated, 0 not taken by the end
 REPLIES MISSED by plan
