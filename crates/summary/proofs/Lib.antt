@@ -3,6 +3,7 @@ pub mod Far
 pub mod Lasting
 pub mod Noting
 pub mod Numbers
+pub mod Ordering
 pub mod Reading
 pub mod Rowing
 pub mod Standings

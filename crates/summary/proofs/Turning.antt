@@ -96,8 +96,8 @@ turns-by air J K l own other cycle cells old new apart b was is differ Second e 
     let complement = complement_from air K own other in
     let forbidden = yields air J l K own other cycle cells old.sense new.sense b (record { apart = apart; rank = e }) (ap sense_of was) (ap sense_of is) differ in
     let letter = commit-cell air K own other cycle cells (allowed (legal-begins air b l)) (Keeps old) (λ n q. absurd (cc))
-        (subst (λ (c : Cell). Keeps old (following_cell c (air.view own other (commits K own + 1)) complement (rank_of air own other))) (sym was)
-        (subst (λ (k : Rank). Keeps old (following_cell (Ra old) (air.view own other (commits K own + 1)) complement k)) (sym e) (keeps-next old (air.view own other (commits K own + 1)) complement))) new is in
+    (subst (λ (c : Cell). Keeps old (following_cell c (air.view own other (commits K own + 1)) complement (rank_of air own other))) (sym was)
+    (subst (λ (k : Rank). Keeps old (following_cell (Ra old) (air.view own other (commits K own + 1)) complement k)) (sym e) (keeps-next old (air.view own other (commits K own + 1)) complement))) new is in
     (same-letter new.turned old.turned letter, is-told air K own other (forbids-some complement old.sense forbidden))
 
 pub true-turns : (air : Air) (J : List Entry) → IsLegal air J → HasTrueTurns air J

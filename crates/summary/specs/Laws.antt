@@ -1,6 +1,8 @@
 -- What the stretches are in a legal journal, without the recursion that finds them.
-use Rattle.std.specs.Prelude.{◌≡◌, ◌≢◌, ℕ, ◌-◌, ◌<◌, ◌≤◌, Bool, true, false, List, ◌∷◌, Some, filter, is_some, map, slice_get}
+use Rattle.std.specs.Prelude.{◌≡◌, ◌≢◌, ◌⊎◌, ℕ, ◌-◌, ◌<◌, ◌≤◌, Bool, true, false, List, ◌∷◌, Some, filter, is_some, map, slice_get}
 use Rattle.std.specs.List.{range_with_len}
+use Rattle.acas_base.specs.Encounter.{Parts}
+use Rattle.acas_base.specs.declared.pairs.TheConstants.{PAIRS}
 use Rattle.acas_base.specs.declared.advisory.Cell.TheVariants.{Ra}
 use Rattle.acas_base.specs.declared.advisory.Cells.{Cells}
 use Rattle.acas_base.specs.declared.advisory.Intent.{Intent}
@@ -11,6 +13,7 @@ use Rattle.acas_base.specs.declared.entry.Entry.TheVariants.{Commit}
 use Rattle.air_rules.specs.Air.{Air, rank_of}
 use Rattle.air_rules.specs.Journal.{Begins, cell_at, commits, last_cell}
 use Rattle.summary.specs.Lines.{is_reversed}
+use Rattle.summary.specs.Pairs.{comes_before, place_in_order, standing_at}
 use Rattle.summary.specs.Stretches.{begins, cell_in, is_kept, last_of, starts_of, told_of}
 use Rattle.summary.specs.declared.rows.Start.{Start}
 
@@ -55,3 +58,12 @@ abbrev pub HasTrueTurns : Air → List Entry → Type 0
 HasTrueTurns air journal = (before : List Entry) (own other cycle : ℕ) (cells : Cells) (old new : Intent) → own ≢ other →
     Begins (Commit own cycle cells ∷ before) journal → last_cell before own other ≡ Ra old → cell_at cells other ≡ Ra new → old.sense ≢ new.sense →
     IsTurn air before own other old new (rank_of air own other)
+
+-- The pairs come in their order: each has a place, one that comes before another one has a lower place, and of two pairs
+-- one comes before the other. So each pair has its lines once.
+pub record AreInOrder (e : Parts) (journal : List Entry) : Type 0 where
+  pub places : (pair : ℕ) → pair < PAIRS → place_in_order e journal pair < PAIRS
+  pub rising : (one other : ℕ) → one < PAIRS → comes_before (standing_at e journal one) one (standing_at e journal other) other ≡ true →
+      place_in_order e journal one < place_in_order e journal other
+  pub total : (one other : ℕ) → is_some (standing_at e journal one) ≡ true → is_some (standing_at e journal other) ≡ true → one ≢ other →
+      (comes_before (standing_at e journal one) one (standing_at e journal other) other ≡ true) ⊎ (comes_before (standing_at e journal other) other (standing_at e journal one) one ≡ true)

@@ -17,5 +17,5 @@ mod stretches;
 mod summary;
 mod told;
 
-pub use laws::{stretches_law, turns_law};
+pub use laws::{order_law, stretches_law, turns_law};
 pub use summary::{Summary, write};
