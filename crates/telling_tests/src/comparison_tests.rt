@@ -2,7 +2,8 @@
 ghost use Rattle.std.specs.Prelude.{◌≤◌, IfOk, IfSome, length};
 
 use acas_io::{MemSink, Sink};
-use comparison::{Comparison, compare, split, write};
+use air_journal::AirState;
+use comparison::{Comparison, Recordings, compare, split, write};
 use rec_audit::{Loaded, load};
 use std::alloc::{AllocError, Global};
 use std::test::Fail;
@@ -126,27 +127,49 @@ fn bytes_of(alloc: Global, parts: [&[u8]; 10]) -> Result<Option<Vec<u8>>, AllocE
     Ok(Some(bytes))
 }
 
+// Whether the text of a comparison is this one.
+fn is_told(alloc: Global, comparison: &Comparison<'_>, want: &[u8]) -> Result<bool, Fail> {
+    let mut sink = MemSink::new(Vec::with_capacity(alloc, 1_000)?, 100, Vec::new(alloc));
+    Ok(write(comparison, &mut sink).is_ok() && sink.bytes() == want)
+}
+
+// Whether this is found of two recordings.
+fn is_found(alloc: Global, one: &AirState, other: &AirState, want: &[u8]) -> Result<bool, Fail> {
+    let found = compare(alloc, one, other)?;
+    let comparison = Comparison {
+        one,
+        other,
+        found: &found,
+    };
+    is_told(alloc, &comparison, want)
+}
+
+// Whether this is found of a recording and of the one that these bytes are.
+fn is_found_beside(alloc: Global, one: &AirState, bytes: &[u8], want: &[u8]) -> Result<bool, Fail> {
+    if bytes.len() > 5_000 {
+        return Ok(false);
+    }
+    match load(alloc, bytes)? {
+        Loaded::Legal(other) => is_found(alloc, one, &other, want),
+        Loaded::Wrong(_, _) => Ok(false),
+    }
+}
+
+// Whether this is found of the recordings that these bytes are.
+fn is_found_of(alloc: Global, recordings: Recordings<'_>, want: &[u8]) -> Result<bool, Fail> {
+    if recordings.lines != 30 || recordings.one.len() > 5_000 {
+        return Ok(false);
+    }
+    match load(alloc, recordings.one)? {
+        Loaded::Legal(one) => is_found_beside(alloc, &one, recordings.other, want),
+        Loaded::Wrong(_, _) => Ok(false),
+    }
+}
+
 fn is_compared(alloc: Global, row: &Compared) -> Result<bool, Fail> {
     let (parts, want) = *row;
     let bytes = bytes_of(alloc, parts)?.ok_or("too long")?;
-    let recordings = split(&bytes);
-    if recordings.lines != 30 || recordings.other.len() > 5_000 || recordings.one.len() > 5_000 {
-        return Ok(false);
-    }
-    let Loaded::Legal(one) = load(alloc, recordings.one)? else {
-        return Ok(false);
-    };
-    let Loaded::Legal(other) = load(alloc, recordings.other)? else {
-        return Ok(false);
-    };
-    let found = compare(alloc, &one, &other)?;
-    let mut sink = MemSink::new(Vec::with_capacity(alloc, 1_000)?, 100, Vec::new(alloc));
-    let comparison = Comparison {
-        one: &one,
-        other: &other,
-        found: &found,
-    };
-    Ok(write(&comparison, &mut sink).is_ok() && sink.bytes() == want)
+    is_found_of(alloc, split(&bytes), want)
 }
 
 // The place of the first row that is compared otherwise.
