@@ -277,7 +277,7 @@ put-done own status text old new faults now done put = (sym put.0 ∙ done, put.
 is-answer : (answer : Answer) → IsAnswer (answer_status answer)
 is-answer (Recorded state) = tt
 is-answer (Made encounter) = tt
-is-answer (Told tool state) = tt
+is-answer (Told text) = tt
 is-answer (Swept swept) = tt
 is-answer (Summed commits counts) = tt
 is-answer (Compared one other found) = tt
