@@ -24,7 +24,7 @@ use Rattle.acas_top.specs.declared.words.Page.TheVariants.{Help, Version}
 use Rattle.acas_top.specs.declared.words.Plain.TheVariants.{Audit, Compare, Decode, Gen, Resume, Serial, Show, Sweep, Tell}
 use Rattle.acas_top.specs.declared.words.Threaded.{Threaded}
 use Rattle.acas_top.specs.declared.words.Threaded.TheVariants.{Play, Sum}
-use Rattle.acas_top.specs.declared.words.Tool.TheVariants.{Messages, Places, Reports, Response, Watch, Why}
+use Rattle.acas_top.specs.declared.words.Tool.TheVariants.{Messages, Places, Reports, Response, Summary, Watch, Why}
 
 pub within-long : (limit : Option ℕ) (left : Option (List ℕ)) → IsTooLong limit left → ForSome limit (λ n. IsSomeAnd left (λ bytes. length bytes ≤ n)) → ⊥
 within-long None left long within = long
@@ -62,6 +62,7 @@ limit-said words (commands.Plain (Tell Messages)) said = sym (ap limit-by said)
 limit-said words (commands.Plain (Tell Places)) said = sym (ap limit-by said)
 limit-said words (commands.Plain (Tell Reports)) said = sym (ap limit-by said)
 limit-said words (commands.Plain (Tell Response)) said = sym (ap limit-by said)
+limit-said words (commands.Plain (Tell Summary)) said = sym (ap limit-by said)
 limit-said words (commands.Plain (Tell Watch)) said = sym (ap limit-by said)
 limit-said words (commands.Plain (Tell Why)) said = sym (ap limit-by said)
 limit-said words (commands.Plain (Sweep number count crafts cycles)) said = sym (ap limit-by said)
@@ -86,6 +87,7 @@ only-serial words bytes text (commands.Plain (Tell Messages)) said also plays = 
 only-serial words bytes text (commands.Plain (Tell Places)) said also plays = absurd (clash (codes "serial") words _ _ said also refl refl)
 only-serial words bytes text (commands.Plain (Tell Reports)) said also plays = absurd (clash (codes "serial") words _ _ said also refl refl)
 only-serial words bytes text (commands.Plain (Tell Response)) said also plays = absurd (clash (codes "serial") words _ _ said also refl refl)
+only-serial words bytes text (commands.Plain (Tell Summary)) said also plays = absurd (clash (codes "serial") words _ _ said also refl refl)
 only-serial words bytes text (commands.Plain (Tell Watch)) said also plays = absurd (clash (codes "serial") words _ _ said also refl refl)
 only-serial words bytes text (commands.Plain (Tell Why)) said also plays = absurd (clash (codes "serial") words _ _ said also refl refl)
 only-serial words bytes text (commands.Plain (Show Help)) (inl said) also plays = absurd (clash (codes "serial") words _ _ said also refl refl)
@@ -277,7 +279,7 @@ put-done own status text old new faults now done put = (sym put.0 ∙ done, put.
 is-answer : (answer : Answer) → IsAnswer (answer_status answer)
 is-answer (Recorded state) = tt
 is-answer (Made encounter) = tt
-is-answer (Told tool state) = tt
+is-answer (Told text) = tt
 is-answer (Swept swept) = tt
 is-answer (Summed commits counts) = tt
 is-answer (Compared one other found) = tt

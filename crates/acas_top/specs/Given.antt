@@ -10,6 +10,9 @@ use Rattle.acas_top.specs.declared.answers.Answer.{Answer}
 use Rattle.acas_top.specs.declared.answers.Answer.TheVariants.{Compared, Decoded, Judged, Made, Recorded, Refused, Shown, Summed, Swept, Told}
 use Rattle.acas_top.specs.declared.status.Status.{Status}
 use Rattle.acas_top.specs.declared.status.Status.TheVariants as statuses
+use Rattle.acas_top.specs.declared.telling.Told.{Told as ToolText}
+use Rattle.acas_top.specs.declared.telling.Told.TheVariants as texts
+use Rattle.acas_top.specs.declared.words.Tool.TheVariants as tools
 use Rattle.comparison.specs.Comparing.{compared_lines}
 use Rattle.enc_file.specs.Canonical.{canonical_lines}
 use Rattle.rec_audit.specs.declared.verdict.Verdict.{Verdict}
@@ -26,7 +29,7 @@ abbrev pub answer_status : Answer → Status
 answer_status (Recorded state) = statuses.Done
 answer_status (Made encounter) = statuses.Done
 answer_status (Swept swept) = statuses.Done
-answer_status (Told tool state) = statuses.Done
+answer_status (Told text) = statuses.Done
 answer_status (Summed commits counts) = statuses.Done
 answer_status (Compared one other found) = statuses.Done
 answer_status (Decoded word) = statuses.Done
@@ -34,11 +37,21 @@ answer_status (Shown page) = statuses.Done
 answer_status (Judged verdict) = verdict_status verdict
 answer_status (Refused at code) = statuses.Refused
 
+-- The lines of a tool's text.
+abbrev pub told_lines : ToolText → List (List ℕ)
+told_lines (texts.Messages state) = tool_lines tools.Messages state.encounter state.journal
+told_lines (texts.Places state) = tool_lines tools.Places state.encounter state.journal
+told_lines (texts.Reports state) = tool_lines tools.Reports state.encounter state.journal
+told_lines (texts.Response state) = tool_lines tools.Response state.encounter state.journal
+told_lines (texts.Summary deliveries) = tool_lines tools.Summary deliveries.encounter deliveries.journal
+told_lines (texts.Watch state) = tool_lines tools.Watch state.encounter state.journal
+told_lines (texts.Why state) = tool_lines tools.Why state.encounter state.journal
+
 abbrev pub answer_lines : Answer → List (List ℕ)
 answer_lines (Recorded state) = recording_lines state.encounter state.journal
 answer_lines (Made encounter) = canonical_lines encounter
 answer_lines (Swept swept) = swept_lines swept.first swept.count swept.list.items swept.total
-answer_lines (Told tool state) = tool_lines tool state.encounter state.journal
+answer_lines (Told text) = told_lines text
 answer_lines (Summed commits counts) = summed_lines commits counts
 answer_lines (Compared one other found) = compared_lines one other found
 answer_lines (Decoded word) = word_lines word

@@ -13,7 +13,7 @@ use crate::refusal::refusal_line;
 use crate::runs::{filled, serial_state};
 use crate::summing::put_summed;
 use crate::sweep_runs::{Swept, sweep};
-use crate::telling::put_told;
+use crate::telling::{Told, told_by};
 use crate::verdict::verdict_line;
 use crate::{ENCOUNTER_BYTES, Page, Plain, RECORDING_BYTES, Status, Tool};
 use acas_base::Encounter;
@@ -37,7 +37,7 @@ pub(crate) enum Answer {
     /// The text of an encounter that was made from a number.
     Made(Encounter),
     /// A tool's text about a recording.
-    Told(Tool, AirState),
+    Told(Told),
     /// The counts of many encounters.
     Swept(Swept),
     /// How many commits a run in threads has, and the counts of the serial run.
@@ -62,7 +62,7 @@ impl Answer {
         match self {
             Answer::Recorded(_)
             | Answer::Made(_)
-            | Answer::Told(_, _)
+            | Answer::Told(_)
             | Answer::Swept(_)
             | Answer::Summed(_, _)
             | Answer::Compared(_, _, _)
@@ -84,7 +84,7 @@ impl Text for Answer {
         match self {
             Answer::Recorded(state) => Recording(state).put(sink),
             Answer::Made(encounter) => CanonicalText(encounter).put(sink),
-            Answer::Told(tool, state) => put_told(*tool, state, sink),
+            Answer::Told(told) => told.put(sink),
             Answer::Swept(swept) => swept.put(sink),
             Answer::Summed(commits, counts) => put_summed(*commits, counts, sink),
             Answer::Compared(one, other, found) => Comparison { one, other, found }.put(sink),
@@ -134,7 +134,7 @@ fn answer_tool(alloc: Global, tool: Tool, bytes: &[u8]) -> Result<Answer, AllocE
     ensures { IfOk result (λ answer. AnswersPlain (Plain.Tell tool) bytes.now (answer_status answer) (answer_text answer)) }
 {
     match load(alloc, bytes)? {
-        Loaded::Legal(state) => Ok(Answer::Told(tool, state)),
+        Loaded::Legal(state) => Ok(Answer::Told(told_by(alloc, tool, state)?)),
         Loaded::Wrong(line, reason) => Ok(Answer::Judged(Verdict::Wrong(line, reason))),
     }
 }

@@ -6,7 +6,7 @@ use crate::words::Page;
 use acas_lines::{LineSink, fixed_line};
 
 /// The page that `--help` writes.
-pub(crate) const HELP: [&str; 59] = [
+pub(crate) const HELP: [&str; 60] = [
     "acas plays encounters between aircraft with TCAS II version 7.1.\n",
     "\n",
     "usage: acas WORD [ARGUMENTS] < INPUT > OUTPUT\n",
@@ -28,6 +28,7 @@ pub(crate) const HELP: [&str; 59] = [
     "  reports    Writes the RA report blocks that aircraft would have downlinked.\n",
     "  response   Writes how far apart in altitude the aircraft would have been at\n",
     "             closest approach, had each flown with the modelled response.\n",
+    "  summary    Writes a page: who met whom, who was advised what, what was lost.\n",
     "  watch      Writes when two aircraft had advisories in one sense, and why.\n",
     "  why        Writes why each aircraft had each advisory, or had none.\n",
     "  compare    Reads two recordings, one after the other. Writes what differs.\n",
@@ -70,7 +71,7 @@ pub(crate) const HELP: [&str; 59] = [
 
 /// What `--version` writes: the program's version, and the formats of encounters and recordings that it reads and
 /// writes.
-pub(crate) const VERSION: [&str; 3] = ["acas 1.1.0\n", "encounter 1,2\n", "recording 1\n"];
+pub(crate) const VERSION: [&str; 3] = ["acas 1.2.0\n", "encounter 1,2\n", "recording 1\n"];
 
 // Puts lines of fixed text, in order.
 fn put_lines<S: LineSink>(lines: &[&str], sink: &mut S)

@@ -23,7 +23,7 @@ use std::thread::Threads;
 /// - `audit` reads a recording and writes `legal,ENTRIES`. Where the recording is wrong, it writes `wrong,LINE,REASON`.
 /// - `resume` reads a beginning of a recording, and writes the whole recording. Where the input is none, it writes the
 ///   line of its verdict.
-/// - `reports`, `response`, `watch`, `why`, `places` and `messages` read a recording, and write a text about it. Where
+/// - `reports`, `response`, `watch`, `why`, `places`, `messages` and `summary` read a recording, and write a text about it. Where
 ///   the recording is wrong, they write the line of its verdict.
 /// - `compare` reads two recordings, one after the other, and writes what differs between them. Where one of them is
 ///   wrong, it writes the line of the verdict.

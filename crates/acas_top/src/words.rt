@@ -25,6 +25,8 @@ pub enum Tool {
     Reports,
     /// `response`: how near the aircraft would have come, had each flown with the modelled response to its advisories.
     Response,
+    /// `summary`: the page that one reads first: who met whom, who was advised what, and what became of the messages.
+    Summary,
     /// `watch`: each interval in which two coordinating aircraft had equal senses, and its cause.
     Watch,
     /// `why`: why each cell is what it is.
@@ -138,6 +140,9 @@ fn tool_of(word: &str) -> Option<Tool>
     }
     if word == "response" {
         return Some(Tool::Response);
+    }
+    if word == "summary" {
+        return Some(Tool::Summary);
     }
     if word == "watch" {
         return Some(Tool::Watch);

@@ -1,26 +1,12 @@
 -- The copies of a message, and their lines.
-use Rattle.std.proofs.Common.{◌≡◌, ◌≢◌, ℕ, zero, suc, ◌<◌, ◌≤◌, List, [], ◌∷◌, length, take, Option, Some, refl, sym, ap, ◌∙◌, arith}
+use Rattle.std.proofs.Common.{◌≡◌, ◌≢◌, ℕ, zero, suc, List, [], ◌∷◌, take, Option, refl, sym, ap, ◌∙◌}
 use Rattle.std.specs.List.{flat_map, range_with_len}
-use Rattle.std.specs.Prelude.{slice_get}
-use Rattle.std.proofs.lemmas.Option.{slice_get_within}
 use Rattle.acas_base.specs.Fates.{copies_of}
 use Rattle.acas_base.specs.declared.link.CopyPlan.{CopyPlan}
 use Rattle.acas_base.specs.declared.link.Fate.{Fate}
 use Rattle.journal_tables.specs.Messages.{lines_by, lines_of_copy, lost_line}
 use Rattle.journal_tables.specs.declared.messages.Message.{Message}
 use Rattle.journal_tables.specs.declared.takes.CopyTake.{CopyTake}
-
-take-few : {X : Type 0} (n : ℕ) (xs : List X) → length (take n xs) ≤ n
-take-few zero xs = omega arith
-take-few (suc n) [] = omega arith
-take-few (suc n) (x ∷ xs) = let few = take-few n xs in omega arith
-
--- A copy that there is has one of the first numbers.
-pub within-copies : (fate : Fate) (copy : ℕ) (plan : CopyPlan) → slice_get (copies_of fate) copy ≡ Some plan → copy < fate.copies
-within-copies fate copy plan is =
-    let within : copy < length (copies_of fate) = slice_get_within (copies_of fate) copy plan is in
-    let few = take-few fate.copies (fate.first ∷ fate.second ∷ fate.third ∷ []) in
-    omega arith
 
 -- Without copies there is one line, and with copies a line for each.
 pub lines-none : (message : Message) (fate : Fate) (plans : List CopyPlan) (takes : ℕ → Option CopyTake) → copies_of fate ≡ plans → fate.copies ≡ 0 → lost_line message ∷ [] ≡ lines_by message plans takes

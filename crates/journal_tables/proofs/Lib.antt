@@ -1,5 +1,5 @@
 pub mod Noting
-pub mod Followed
+pub mod Numbers
 pub mod Takings
 pub mod Reading
 pub mod Copies

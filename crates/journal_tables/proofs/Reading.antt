@@ -5,22 +5,14 @@ use Rattle.acas_base.specs.Encounter.{Parts}
 use Rattle.acas_base.specs.declared.entry.Entry.{Entry}
 use Rattle.air_journal.specs.EntryRefs.{entry_of}
 use Rattle.air_journal.specs.declared.entry_ref.EntryRef.{EntryRef}
-use Rattle.air_rules.proofs.Beginnings.{begins-length, begins-nested, begins-same}
+use Rattle.air_rules.proofs.Beginnings.{begins-length}
 use Rattle.air_rules.specs.Journal.{Begins, more, whole}
-use Rattle.journal_reader.proofs.Prefixes.{read-begins, read-length}
-use Rattle.journal_reader.specs.Reading.{Reading, next_entry, read_of}
+use Rattle.journal_reader.specs.Reading.{Reading, next_entry}
 use Rattle.journal_tables.specs.Messages.{lines_of_entry, sent_lines}
 
 pub nothing-begins : (journal : List Entry) → Begins [] journal
 nothing-begins [] = whole
 nothing-begins (entry ∷ journal) = more (nothing-begins journal)
-
--- A beginning of a journal is the one of its length.
-pub prefix-is : (K J : List Entry) → Begins K J → K ≡ read_of J (length K)
-prefix-is K J b =
-    let few : length K ≤ length J = begins-length K J b in
-    let size : length (read_of J (length K)) ≡ length K = read-length J (length K) few in
-    begins-same K (read_of J (length K)) (begins-nested K (read_of J (length K)) J b (read-begins J (length K) few) (omega arith)) (sym size)
 
 -- The entry that was looked at is the one that is read.
 pub record ReadsOn (old new : Reading) (entry : Entry) : Type 0 where
@@ -29,7 +21,7 @@ pub record ReadsOn (old new : Reading) (entry : Entry) : Type 0 where
   pub begins : Begins new.read new.journal
   pub smaller : length new.journal - length new.read < length old.journal - length old.read
 
-next-is : (old new : Reading) (entry : EntryRef) (found : Option EntryRef) → option_map entry_of (Some entry) ≡ next_entry old → option_map entry_of found ≡ next_entry old →
+pub next-is : (old new : Reading) (entry : EntryRef) (found : Option EntryRef) → option_map entry_of (Some entry) ≡ next_entry old → option_map entry_of found ≡ next_entry old →
     MatchOption found ((old.read ≡ old.journal) × (new.read ≡ old.read)) (λ it. new.read ≡ entry_of it ∷ old.read) → new.read ≡ entry_of entry ∷ old.read
 next-is old new entry None looked read is = absurd (let z = looked ∙ sym read in cc)
 next-is old new entry (Some it) looked read is = is ∙ ap (λ (x : Entry). x ∷ old.read) (let z : Some (entry_of it) ≡ Some (entry_of entry) = read ∙ sym looked in cc)
@@ -53,6 +45,13 @@ reads-on old new entry looked found is seen end next journal reads =
       begins = subst₂ (λ (K J : List Entry). Begins K J) (sym read) (sym journal) begins;
       smaller = omega arith;
     }
+
+-- One entry more was read, so fewer are left.
+pub reads-smaller : (J old new : List Entry) (x : Entry) → Begins (x ∷ old) J → new ≡ x ∷ old → length J - length new < length J - length old
+reads-smaller J old new x begins read =
+    let size : length new ≡ length old + 1 = ap length read ∙ (omega arith) in
+    let within : length old + 1 ≤ length J = (let b = begins-length _ _ begins in omega arith) in
+    omega arith
 
 -- ---- the lines
 

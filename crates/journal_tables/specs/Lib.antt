@@ -2,4 +2,4 @@ pub mod Fields
 pub mod Places
 pub mod Noted
 pub mod Messages
-pub mod Following
+pub mod Kept

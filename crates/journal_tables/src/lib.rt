@@ -4,7 +4,6 @@
 
 mod altitudes;
 mod fields;
-mod following;
 mod messages;
 mod places;
 mod takes;

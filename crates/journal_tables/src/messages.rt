@@ -1,17 +1,18 @@
 // The table of messages.
-ghost use Rattle.std.specs.Prelude.{◌≡◌, ◌∷◌, ◌+◌, ◌++◌, ◌≤◌, ◌<◌, length, option_copied, slice_get};
+ghost use Rattle.std.specs.Prelude.{◌≡◌, ◌∷◌, ◌+◌, ◌++◌, ◌≤◌, ◌<◌, IfOk, Some, length, slice_get};
 ghost use Rattle.std.specs.List.{join_with_byte};
 ghost use Rattle.acas_base.specs.Fates.{copies_of};
 ghost use Rattle.acas_io.specs.Stream.{Puts};
 ghost use Rattle.acas_text.specs.declared.line.TheConstants.{LINE_BYTES};
 ghost use Rattle.air_journal.specs.EntryRefs.{entry_of};
-ghost use Rattle.air_rules.specs.Journal.{Begins};
+ghost use Rattle.air_rules.specs.Journal.{Begins, sent_at};
+ghost use Rattle.air_rules.specs.Takes.{complement_read};
+ghost use Rattle.journal_tables.specs.Kept.{AreTakes};
 ghost use Rattle.journal_tables.specs.Messages.{cancel_read, complement_text, copy_line, lines_of_entry, lines_of_message, lost_line, mark, message_fields, message_names, message_of, messages_text, sent_lines, take_fields, taken_fields};
 ghost use Rattle.rec_text.specs.Entries.{outcome};
 ghost use Rattle.res_message.specs.Words.{read_word};
 
-use crate::following::{Way, set_by};
-use crate::takes::{COPIES, CopyTake, takes_of};
+use crate::takes::{COPIES, CopyTake, MessageCopy, Way, take_at, takes_of};
 use acas_base::{Address, CopyPlan, Fate, Vrc};
 use acas_io::{Failed, Sink};
 use acas_lines::{LineSink, Text, fixed_line, write_text};
@@ -19,6 +20,8 @@ use acas_text::Line;
 use air_journal::{AirState, EntryRef};
 use journal_reader::Reader;
 use res_message::decode;
+use std::alloc::{AllocError, Global};
+use std::marker::Model;
 
 /// What is told of a message: who sent it to whom, its number, the cycle of the sender's last commit, the position of
 /// the send, and the complements that it sets and cancels.
@@ -144,6 +147,16 @@ fn plan_of(fate: &Fate, copy: u8) -> Option<CopyPlan>
     }
 }
 
+// The complement that a word sets.
+fn set_by(word: u64) -> Vrc
+    ensures { result ≡ complement_read (read_word word) }
+{
+    match decode(word) {
+        Some(message) => message.vrc,
+        None => Vrc::Nil,
+    }
+}
+
 // The complement that a word cancels.
 fn cancelled_by(word: u64) -> Vrc
     ensures { result ≡ cancel_read (read_word word) }
@@ -177,37 +190,45 @@ fn message_of(state: &AirState, reader: &Reader<'_>, way: Way, number: u16, word
 // Puts the lines of a message that is sent with the entry that comes next.
 fn put_message<S: LineSink>(
     state: &AirState,
+    takes: &[Option<CopyTake>],
     reader: &Reader<'_>,
     way: Way,
     number: u16,
     word: u64,
     sink: &mut S,
 )
+    requires takes { AreTakes state.now state.now.journal takes.now }
     requires encounter { reader.now.encounter ≡ state.now.encounter }
-    requires journal { reader.now.journal ≡ state.now.journal }
     requires sender { way.sender < length state.now.encounter.crafts }
     requires receiver { way.receiver < length state.now.encounter.crafts }
+    requires number { 1 ≤ number }
+    requires sent { sent_at state.now.journal (length reader.now.read) ≡ Some (record { sender = way.sender; receiver = way.receiver; number = number; word = word }) }
     ensures { S.took sink.old sink.new (lines_of_message state.now.encounter state.now.journal reader.now.read (record { sender = way.sender; receiver = way.receiver; number = number; word = word })) }
 {
-    state.legal_law();
     let message = message_of(state, reader, way, number, word);
     let fate = state.enc().fate(way.sender, way.receiver, number);
     if fate.copies == 0 {
         sink.line(&lost_line(&message));
         return;
     }
-    let takes = takes_of(state, reader, way, message.at, fate.copies);
-    for copy in 0..COPIES {
-        if let Some(plan) = plan_of(&fate, copy as u8) {
-            sink.line(&copy_line(&message, copy as u8, plan, takes[copy]));
+    for copy in 0..COPIES as u8 {
+        if let Some(plan) = plan_of(&fate, copy) {
+            let take = take_at(takes, MessageCopy { way, number, copy });
+            sink.line(&copy_line(&message, copy, plan, take));
         }
     }
 }
 
 // Puts the lines of the message that the entry sends which comes next, where it sends one.
-fn put_entry<S: LineSink>(state: &AirState, reader: &Reader<'_>, entry: &EntryRef<'_>, sink: &mut S)
+fn put_entry<S: LineSink>(
+    state: &AirState,
+    takes: &[Option<CopyTake>],
+    reader: &Reader<'_>,
+    entry: &EntryRef<'_>,
+    sink: &mut S,
+)
+    requires takes { AreTakes state.now state.now.journal takes.now }
     requires encounter { reader.now.encounter ≡ state.now.encounter }
-    requires journal { reader.now.journal ≡ state.now.journal }
     requires next { Begins (entry_of entry.now ∷ reader.now.read) state.now.journal }
     ensures { S.took sink.old sink.new (lines_of_entry state.now.encounter state.now.journal reader.now.read (entry_of entry.now)) }
 {
@@ -223,17 +244,18 @@ fn put_entry<S: LineSink>(state: &AirState, reader: &Reader<'_>, entry: &EntryRe
             sender: own,
             receiver: target,
         };
-        put_message(state, reader, way, number, word, sink);
+        put_message(state, takes, reader, way, number, word, sink);
     }
 }
 
 // Puts the lines of all messages.
-fn put_sent<S: LineSink>(state: &AirState, sink: &mut S)
+fn put_sent<S: LineSink>(state: &AirState, takes: &[Option<CopyTake>], sink: &mut S)
+    requires { AreTakes state.now state.now.journal takes.now }
     ensures { S.took sink.old sink.new (sent_lines state.now.encounter state.now.journal state.now.journal) }
 {
     let mut reader = Reader::new(state);
     while let Some(entry) = reader.peek() {
-        put_entry(state, &reader, &entry, sink);
+        put_entry(state, takes, &reader, &entry, sink);
         reader.next();
     }
 }
@@ -243,25 +265,52 @@ fn put_sent<S: LineSink>(state: &AirState, sink: &mut S)
 /// `sender,receiver,number,sent_cycle,sent_at,sets,cancels,copy,hold,taken_at,taken_cycle,result,changed`. The cycles
 /// are those of the last commit: of the sender before the send, and of the receiver before the take. The last column is
 /// 1 where the complement in force on the receiver from the sender isn't the same after the take as before it.
+///
+/// A line tells takes that come later in the journal. So the takes of all copies are kept before the first line.
 #[derive(Drop)]
-pub struct Messages<'a>(pub &'a AirState);
+pub struct Messages {
+    state: AirState,
+    takes: Vec<Option<CopyTake>>,
+}
 
-impl Text for Messages<'_> {
-    ghost use Rattle.journal_tables.specs.Messages.{message_lines};
+impl Model for Messages {
+    ghost use Rattle.air_journal.specs.States.{State};
+    ghost use Rattle.journal_tables.specs.Kept.{AreTakes};
 
-    ghost lines = { λ m. message_lines m.0.now.encounter m.0.now.journal };
+    ghost Value = { State };
 
-    fn put<S: LineSink>(&self, sink: &mut S) {
-        sink.line(&message_names());
-        put_sent(self.0, sink);
+    ghost view = { λ m. m.state };
+
+    ghost invariant = { λ m. AreTakes m.state m.state.journal m.takes.items };
+}
+
+impl Messages {
+    /// The table of a state. It takes memory by the number of aircraft, and none by the number of entries. The error
+    /// says that memory was wanting.
+    pub fn new(alloc: Global, state: AirState) -> Result<Messages, AllocError>
+        ensures { IfOk result (λ messages. messages ≡ state) }
+    {
+        let takes = takes_of(alloc, &state)?;
+        Ok(Messages { state, takes })
     }
 }
 
-/// Writes the [`Messages`] of a state. It takes no memory.
+impl Text for Messages {
+    ghost use Rattle.journal_tables.specs.Messages.{message_lines};
+
+    ghost lines = { λ m. message_lines m.encounter m.journal };
+
+    fn put<S: LineSink>(&self, sink: &mut S) {
+        sink.line(&message_names());
+        put_sent(&self.state, self.takes.as_slice(), sink);
+    }
+}
+
+/// Writes a table of messages. It takes no memory.
 ///
 /// `Failed` comes only where the sink's count of faults rose; what was written then is a front of the text.
-pub fn write_messages<K: Sink>(state: &AirState, sink: &mut K) -> Result<(), Failed>
-    ensures { Puts (K.written sink.old) (K.written sink.new) (K.faults sink.old) (K.faults sink.new) (messages_text state.now.encounter state.now.journal) result }
+pub fn write_messages<K: Sink>(messages: &Messages, sink: &mut K) -> Result<(), Failed>
+    ensures { Puts (K.written sink.old) (K.written sink.new) (K.faults sink.old) (K.faults sink.new) (messages_text messages.now.encounter messages.now.journal) result }
 {
-    write_text(&Messages(state), sink)
+    write_text(messages, sink)
 }

@@ -7,7 +7,7 @@ use crate::serial_runs::played;
 use acas_base::{CopyPlan, CraftSpec, Encounter, Fate, Kind};
 use acas_io::{MemSink, Sink};
 use air_journal::AirState;
-use journal_tables::{write_messages, write_places};
+use journal_tables::{Messages, write_messages, write_places};
 use std::alloc::Global;
 use std::test::Fail;
 use test_encounters::{PLAIN, aircraft, encounter, fate, leg};
@@ -150,6 +150,26 @@ const HELD: &[u8] =
 400B02,400A01,6,31,84,below,,0,0,85,31,g,0
 ";
 
+// The first message of the first aircraft comes late: copy 1 is due once its receiver has made four more commits, those
+// of the cycles 27 to 30, and copy 0 after one more. The messages 2 to 5 are lost. So the second aircraft, which would
+// have to turn, hears of the first one's climb in cycle 30, and turns in cycle 31.
+const HELD_LONG: &[u8] =
+    b"sender,receiver,number,sent_cycle,sent_at,sets,cancels,copy,hold,taken_at,taken_cycle,result,changed
+400A01,400B02,1,26,52,above,,0,5,81,31,g,0
+400A01,400B02,1,26,52,above,,1,4,75,30,g,1
+400B02,400A01,1,26,53,above,,0,0,54,26,g,1
+400A01,400B02,2,27,57,above,,,,,,,
+400B02,400A01,2,27,58,above,,0,0,59,27,g,0
+400A01,400B02,3,28,62,above,,,,,,,
+400B02,400A01,3,28,63,above,,0,0,64,28,g,0
+400A01,400B02,4,29,67,above,,,,,,,
+400B02,400A01,4,29,68,above,,0,0,69,29,g,0
+400A01,400B02,5,30,72,above,,,,,,,
+400B02,400A01,5,30,73,above,,0,0,74,30,g,0
+400A01,400B02,6,31,78,above,,0,0,82,31,g,0
+400B02,400A01,6,31,79,below,above,0,0,80,31,g,1
+";
+
 // Of examples/damaged-message.enc.
 const DAMAGED: &[u8] =
     b"sender,receiver,number,sent_cycle,sent_at,sets,cancels,copy,hold,taken_at,taken_cycle,result,changed
@@ -203,12 +223,20 @@ const LOST: &[u8] =
 400B02,400A01,6,31,80,below,,0,0,81,31,g,0
 ";
 
+fn is_written(alloc: Global, messages: &Messages, want: &[u8]) -> Result<bool, Fail> {
+    let mut sink = MemSink::new(Vec::with_capacity(alloc, 2_000)?, 2_000, Vec::new(alloc));
+    Ok(write_messages(messages, &mut sink).is_ok() && sink.bytes() == want)
+}
+
+fn is_table(alloc: Global, state: AirState, want: &[u8]) -> Result<bool, Fail> {
+    let messages = Messages::new(alloc, state)?;
+    is_written(alloc, &messages, want)
+}
+
 // Whether the table of messages of two aircraft at one altitude, in 31 cycles, is this one.
 fn is_told(alloc: Global, fates: &[Fate], want: &[u8]) -> Result<bool, Fail> {
     let enc = meeting(alloc, 31, 35_000, fates)?;
-    let state = played(alloc, &enc)?;
-    let mut sink = MemSink::new(Vec::with_capacity(alloc, 2_000)?, 2_000, Vec::new(alloc));
-    Ok(write_messages(&state, &mut sink).is_ok() && sink.bytes() == want)
+    is_table(alloc, played(alloc, &enc)?, want)
 }
 
 fn are_told(alloc: Global) -> Result<bool, Fail> {
@@ -221,12 +249,20 @@ fn are_told(alloc: Global) -> Result<bool, Fail> {
         fate(2, 0, PLAIN, PLAIN),
         fate(3, 0, PLAIN, PLAIN),
     ];
+    let held_long = [
+        fate(1, 2, delayed(5), delayed(4)),
+        fate(2, 0, PLAIN, PLAIN),
+        fate(3, 0, PLAIN, PLAIN),
+        fate(4, 0, PLAIN, PLAIN),
+        fate(5, 0, PLAIN, PLAIN),
+    ];
     Ok(
         is_told(
             alloc,
             &[fate(1, 2, delayed(2), PLAIN), fate(6, 1, delayed(1), PLAIN)],
             HELD,
-        )? && is_told(alloc, &[fate(1, 1, damaged, PLAIN)], DAMAGED)?
+        )? && is_told(alloc, &held_long, HELD_LONG)?
+            && is_told(alloc, &[fate(1, 1, damaged, PLAIN)], DAMAGED)?
             && is_told(alloc, &[fate(1, 3, PLAIN, PLAIN)], REPEATED)?
             && is_told(alloc, &lost, LOST)?,
     )

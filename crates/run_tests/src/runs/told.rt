@@ -43,7 +43,7 @@ pub fn told<R: Threads + Wait + Sync + Alloc<A = Global>>(
 // The tool, the beginning of an encounter's text, its rest, and what the tool writes.
 type Told = (&'static str, &'static [u8], &'static [u8], &'static [u8]);
 
-const TELLING: [Told; 12] = [
+const TELLING: [Told; 13] = [
     (
         "response",
         APART_LONGER,
@@ -92,6 +92,12 @@ const TELLING: [Told; 12] = [
         BETWEEN,
         b"end\n",
         b"blocks,4\nb,24,400A01,30E2000500300C\nb,24,400B02,30C2000500300C\nb,25,400A01,30E2010500300C\nb,25,400B02,30C2020500300C\n",
+    ),
+    (
+        "summary",
+        TRAFFIC,
+        b"end\n",
+        b"summary,1\naircraft 2: RA 0, TA 2, XPDR 0\ncycles 31, ground 0 ft\nentries 62: commits 62, sends 0, takes 0\n\nPAIR 400A01 400B02\n  closest as planned in cycle 31; the run ends there\n    slant 45600 ft (7.50 NM), horizontal 45600 ft (7.50 NM), vertical 300 ft\n  400A01 TA\n     13- 31  TRAFFIC\n  400B02 TA\n     13- 31  TRAFFIC\n\nMESSAGES 0 sent, 0 lost, 0 spoilt, 0 held back, 0 repeated, 0 not taken by the end\n",
     ),
     (
         "watch",

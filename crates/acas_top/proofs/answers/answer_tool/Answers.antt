@@ -1,14 +1,15 @@
-use Rattle.std.proofs.Common.{refl}
+use Rattle.std.proofs.Common.{ap}
 use Rattle.std.proofs.lemmas.List.{append-nil}
+use Rattle.acas_lines.specs.Lines.{joined}
 use Rattle.acas_top.specs.Answers.{verdict_line}
 use Rattle.rec_audit.specs.declared.verdict.Verdict.TheVariants.{Wrong}
 use Rattle.acas_top.proofs.answers.answer_tool.Goals as goal
 
-pub returns-in-Legal : goal.returns-in-Legal
-returns-in-Legal c = record {
+pub returns-in_ok-told_by-in-Legal : goal.returns-in_ok-told_by-in-Legal
+returns-in_ok-told_by-in-Legal c = record {
   state = c.in-Legal.state;
   recording = rw c.in-Legal.is at c.in_ok-state.ensures;
-  text_is = refl;
+  text_is = ap joined c.in_ok-told_by-in-Legal.ensures;
 }
 
 pub returns-in-Wrong : goal.returns-in-Wrong

@@ -1,4 +1,4 @@
-use Rattle.std.proofs.Common.{◌≡◌, ℕ, ◌+◌, ◌<◌, ◌++◌, ◌∷◌, [], List, Option, length, sym, ap, ◌∙◌, subst, arith}
+use Rattle.std.proofs.Common.{◌≡◌, ℕ, ◌+◌, ◌++◌, ◌∷◌, [], List, Option, length, sym, ap, ◌∙◌, subst, arith}
 use Rattle.std.specs.List.{flat_map, range_with_len}
 use Rattle.std.specs.Prelude.{option_map, option_to_list, slice_get}
 use Rattle.std.proofs.lemmas.List.{append-nil}
@@ -9,8 +9,7 @@ use Rattle.acas_lines.proofs.Ranges.{flat-more}
 use Rattle.air_journal.specs.Airs.{air_of, plans_of}
 use Rattle.air_rules.specs.Journal.{Sent}
 use Rattle.journal_tables.specs.Messages.{copy_line, lines_of_copy, message_of, take_of}
-use Rattle.journal_tables.specs.declared.messages.Message.{Message}
-use Rattle.journal_tables.proofs.Copies.{lines-some, within-copies}
+use Rattle.journal_tables.proofs.Copies.{lines-some}
 use Rattle.journal_tables.proofs.messages.put_message.Goals as goal
 use Rattle.journal_tables.proofs.messages.put_message.Goals.{in-Some, in_default}
 
@@ -34,9 +33,7 @@ loop-copy-preserved g c =
     let told : Option CopyPlan → List (List ℕ) = λ o. option_to_list (option_map (λ (plan : CopyPlan). copy_line message copy plan (takes copy)) o) in
     elim c.match-plan_of.branch [
       | in-Some w ↦
-          (let within : copy < c.fate-fate.result.copies = within-copies c.fate-fate.result copy w.in-Some.plan (sym c.plan_of.ensures ∙ w.in-Some.is) in
-          let place = ap (λ (m : Message). m.at) c.message_of-message.ensures in
-          let take = c.takes_of-takes.ensures.takes copy c.loop-copy-test.true within ∙ ap (λ (n : ℕ). take_of (air_of e) J sender receiver n copy) place in
+          (let take = w.take_at-take.ensures ∙ c.requires.takes.each (length read) copy sent c.requires.sent c.loop-copy-test.true in
           let line = w.copy_line.ensures ∙ (λ t. copy_line (c.message_of-message.ensures t) copy w.in-Some.plan (take t)) in
           let lines = ap (λ (l : List ℕ). l ∷ []) line ∙ ap told (sym w.in-Some.is ∙ at) ∙ ap f (sym here) in
           let put = g.met.S.LineSink.then _ _ _ _ _ c.loop-copy.invariant w.line-in-Some.ensures in

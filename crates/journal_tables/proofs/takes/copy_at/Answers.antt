@@ -3,16 +3,16 @@ use Rattle.std.specs.Prelude.{option_and_then}
 use Rattle.acas_base.specs.declared.entry.Entry.{Entry}
 use Rattle.air_journal.proofs.Places.{sent-at-index}
 use Rattle.air_journal.specs.EntryRefs.{entry_of}
-use Rattle.air_rules.specs.Journal.{as_sent}
-use Rattle.journal_tables.specs.Following.{set_from}
-use Rattle.journal_tables.proofs.following.set_at.Goals as goal
+use Rattle.air_rules.specs.Journal.{Sent, as_sent}
+use Rattle.journal_tables.specs.Kept.{copy_of}
+use Rattle.journal_tables.proofs.takes.copy_at.Goals as goal
 
 pub returns-in-Some : goal.returns-in-Some
 returns-in-Some c =
     let read = sym c.entry_ref.ensures ∙ ap (option_map entry_of) c.in-Some.is in
-    c.set_in.ensures ∙ sym (ap (set_from c.args.sender) (sent-at-index c.args.state.now.journal c.args.send ∙ ap (λ (o : Option Entry). option_and_then as_sent o) read))
+    c.copy_in.ensures ∙ sym (ap (option_map (λ (sent : Sent). copy_of sent c.args.copy)) (sent-at-index c.args.state.now.journal c.args.send ∙ ap (λ (o : Option Entry). option_and_then as_sent o) read))
 
 pub returns-in-None : goal.returns-in-None
 returns-in-None c =
     let read = sym c.entry_ref.ensures ∙ ap (option_map entry_of) c.in-None.is in
-    sym (ap (set_from c.args.sender) (sent-at-index c.args.state.now.journal c.args.send ∙ ap (λ (o : Option Entry). option_and_then as_sent o) read))
+    sym (ap (option_map (λ (sent : Sent). copy_of sent c.args.copy)) (sent-at-index c.args.state.now.journal c.args.send ∙ ap (λ (o : Option Entry). option_and_then as_sent o) read))
