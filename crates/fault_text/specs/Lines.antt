@@ -1,5 +1,6 @@
 -- The lines of a file, and the records in them.
-use Rattle.std.specs.Prelude.{◌≡◌, ℕ, ◌+◌, ◌<◌, ◌⊎◌, ◌==◌, if◌then◌else◌, Bool, true, false, List, [], ◌∷◌, ◌++◌, filter, length, slice_index, MatchBool}
+use Rattle.std.specs.Borrow.{Bor}
+use Rattle.std.specs.Prelude.{Option, None, Some, ◌≡◌, ℕ, ◌+◌, ◌<◌, ◌⊎◌, ◌==◌, if◌then◌else◌, Bool, true, false, List, [], ◌∷◌, ◌++◌, filter, length, slice_index, MatchBool}
 use Rattle.std.specs.List.{list_any, onto_first, slice_split}
 use Rattle.csv.specs.Reading.{strip_bom}
 
@@ -56,3 +57,8 @@ Stands lines at number line = MatchBool (is_written line) (IsPlaced lines at num
 pub record BeginsWithEnd (bytes : List ℕ) : Type 0 where
   pub some : 0 < length bytes
   pub first : (slice_index bytes 0 ≡ 10) ⊎ (slice_index bytes 0 ≡ 13)
+
+-- The fields of what is left of a line; none where it is used up.
+abbrev pub fields_left : Option (Bor (List ℕ)) → List (List ℕ)
+fields_left None = []
+fields_left (Some rest) = fields_in rest.now

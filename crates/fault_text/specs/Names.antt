@@ -92,3 +92,28 @@ names_of kind.Miss = name.Own ∷ name.Target ∷ name.From ∷ name.To ∷ []
 names_of kind.Plan = name.Sender ∷ name.Receiver ∷ copy_names
 names_of kind.Fate = name.Sender ∷ name.Receiver ∷ name.Number ∷ copy_names
 names_of kind.End = []
+
+-- A field fails its part of a code's condition. In a record it is asked together with its name.
+abbrev pub no_value : Content → List ℕ → Bool
+no_value (content.Whole low high) found = is_none (number_in low high found)
+no_value content.Kind found = is_none (kind_in found)
+no_value content.Mask found = is_none (mask_in found)
+no_value content.Address found = false
+
+abbrev pub no_address : Content → List ℕ → Bool
+no_address content.Address found = is_none (address_in found)
+no_address other found = false
+
+abbrev pub many_bits : Content → List ℕ → Bool
+many_bits content.Mask found = if_said (mask_in found) (λ mask. nat_lt 3 (count_ones mask))
+many_bits other found = false
+
+abbrev pub fails : Code → FieldName → List ℕ → Bool
+fails code.Number n found = no_value (content_of n) found
+fails code.Address n found = no_address (content_of n) found
+fails code.Mask n found = many_bits (content_of n) found
+fails other n found = false
+
+-- The first of some named fields that fails.
+abbrev pub first_failing : Code → List FieldName → List (List ℕ) → Option (FieldName × List ℕ)
+first_failing why names fields = find (λ p. fails why p.0 p.1) (zip names fields)
