@@ -1,5 +1,6 @@
 pub mod RecordLines
 pub mod FirstLine
+pub mod Wrong
 pub mod FirstFailing
 pub mod Headers
 pub mod FirstField
