@@ -1,5 +1,5 @@
 // The fields of a record's line.
-ghost use Rattle.std.specs.Prelude.{◌≡◌, ◌∷◌, ◌≤◌, ◌+◌, [], length, IsSome, MatchOption, Some};
+ghost use Rattle.std.specs.Prelude.{◌≡◌, ◌∷◌, ◌<◌, ◌-◌, ◌^◌, [], length, IsSome, MatchOption, Some};
 ghost use Rattle.enc_file.specs.Conditions.{kind_named};
 ghost use Rattle.enc_file.specs.Saying.{version_in};
 ghost use Rattle.enc_file.specs.Values.{field};
@@ -8,7 +8,7 @@ ghost use Rattle.fault_text.specs.Told.{stated_kinds};
 
 use crate::names::RecordKind;
 use enc_file::count_in;
-use memchr::memchr;
+use memchr::{memchr, memchr_iter};
 use std::marker::Model;
 
 const COMMA: u8 = b',';
@@ -56,11 +56,11 @@ impl<'a> Fields<'a> {
 }
 
 /// How many fields a line has.
-pub(crate) fn count(line: &[u8]) -> usize
-    ensures count { result ≡ length (fields_in line.now) }
-    ensures few { result ≤ length line.now + 1 }
+pub(crate) fn count(line: &[u8]) -> u32
+    requires { length line.now < 2 ^ 32 - 1 }
+    ensures { result ≡ length (fields_in line.now) }
 {
-    memchr::memchr_iter(COMMA, line).count() + 1
+    memchr_iter(COMMA, line).count() as u32 + 1
 }
 
 /// The field at a place, from 0; an empty one past the last.

@@ -56,6 +56,7 @@ fn behind_end(bytes: &[u8]) -> &[u8]
 fn cut(bytes: &[u8]) -> (&[u8], &[u8])
     requires { 0 < length bytes.now }
     ensures first { lines_after false bytes.now ≡ result.0.now ∷ lines_after false result.1.now }
+    ensures part { length result.0.now ≤ length bytes.now }
     ensures shorter { length result.1.now < length bytes.now }
 {
     match memchr2(LINE_FEED, CARRIAGE_RETURN, bytes) {
@@ -71,7 +72,8 @@ fn cut(bytes: &[u8]) -> (&[u8], &[u8])
 pub(crate) fn place_of(text: &[u8], at: u32) -> Place<'_>
     requires few { length text.now < 2 ^ 32 - 1 }
     requires counted { 1 ≤ at }
-    ensures { Stands (file_lines text.now) at result.number result.line.now }
+    ensures place { Stands (file_lines text.now) at result.number result.line.now }
+    ensures part { length result.line.now ≤ length text.now }
 {
     let mut rest = unmarked(text);
     let mut number = 1;
