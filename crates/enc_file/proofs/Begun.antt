@@ -1,5 +1,5 @@
 -- What the first record of a refused text says, and the one before a record after the end.
-use Rattle.std.proofs.Common.{◌≡◌, ◌∙◌, ℕ, zero, suc, ◌+◌, ◌-◌, Bool, true, false, ℤ, List, [], ◌∷◌, length, Option, Some, None, refl, sym, ap, subst, arith, eqb-true}
+use Rattle.std.proofs.Common.{◌≡◌, ◌∙◌, ◌≤◌, ℕ, zero, suc, ◌+◌, ◌-◌, Bool, true, false, ℤ, List, [], ◌∷◌, length, Option, Some, None, refl, sym, ap, subst, arith, eqb-true}
 use Rattle.std.specs.Prelude.{◌==◌, ◌&&◌, if◌then◌else◌, codes, slice_get, take, Result, Ok, Err}
 use Rattle.std.specs.Str.{bytes_eq}
 use Rattle.std.proofs.lemmas.Bool.{false≢true}
@@ -307,3 +307,11 @@ refused-end rows refusal r ended =
     let front = take (length r.earlier) rows in
     let size : length front ≡ length r.earlier = omega (arith, passed-size [] front r.earlier r.passed) in
     of-front (length r.earlier) rows (length r.earlier - 1) (codes "end" ∷ []) (subst (λ n. slice_get front (n - 1) ≡ Some (codes "end" ∷ [])) size (passed-end front r.earlier ended r.passed))
+
+some-ended : (earlier : List Record) → has_ended earlier ≡ true → 1 ≤ length earlier
+some-ended [] h = absurd (false≢true h)
+some-ended (last ∷ before) h = omega arith
+
+-- A text that has ended has a record.
+pub refused-some : (rows : List (List (List ℕ))) (refusal : Refusal) (r : IsRefused rows refusal) → has_ended r.earlier ≡ true → 1 ≤ length r.earlier
+refused-some rows refusal r ended = some-ended r.earlier ended
