@@ -2,3 +2,5 @@ pub mod Lines
 pub mod Shown
 pub mod Names
 pub mod Told
+pub mod Hints
+pub mod Sentences

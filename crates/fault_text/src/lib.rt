@@ -3,9 +3,13 @@
 
 mod fault;
 mod fields;
+mod hints;
 mod lines;
 mod names;
 mod search;
+mod sentence;
 mod shown;
 
+pub use fault::{Fault, Why, explain};
 pub use lines::records_law;
+pub use names::{FieldName, RecordKind};
