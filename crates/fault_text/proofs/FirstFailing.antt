@@ -1,5 +1,5 @@
 -- The first of some named fields that fails.
-use Rattle.std.proofs.Common.{◌≡◌, List, ℕ, [], ◌∷◌, None, refl}
+use Rattle.std.proofs.Common.{◌≡◌, List, [], ◌∷◌, None, refl}
 use Rattle.enc_file.specs.declared.refusal.Code.{Code}
 use Rattle.fault_text.specs.Names.{first_failing}
 use Rattle.fault_text.specs.declared.names.FieldName.{FieldName}

@@ -1,9 +1,9 @@
 -- The first line of a text.
-use Rattle.std.proofs.Common.{◌≡◌, ℕ, zero, suc, ◌+◌, ◌<◌, ◌≤◌, Bool, true, false, cond, List, [], ◌∷◌, ◌++◌, length, get_or, take, drop, refl, sym, ap, ◌∙◌, append_assoc, arith, add-one, zero-add, eqb, eqb-true, eq-eqb, inl, inr, length-append}
-use Rattle.std.specs.Prelude.{◌==◌, ◌||◌, if◌then◌else◌, ◌⊎◌}
-use Rattle.std.specs.List.{filter, list_any, onto_first}
+use Rattle.std.proofs.Common.{◌≡◌, ℕ, zero, suc, ◌+◌, ◌<◌, ◌≤◌, Bool, true, false, cond, List, [], ◌∷◌, ◌++◌, length, get_or, take, drop, refl, sym, ap, ◌∙◌, append_assoc, arith, zero-add, eqb, eqb-true, length-append}
+use Rattle.std.specs.Prelude.{◌==◌, ◌||◌, if◌then◌else◌}
+use Rattle.std.specs.List.{list_any, onto_first}
 use Rattle.std.proofs.lemmas.Bool.{false≢true}
-use Rattle.fault_text.specs.Lines.{BeginsWithEnd, is_written, lines_after, up_to_last, written}
+use Rattle.fault_text.specs.Lines.{is_written, lines_after, up_to_last, written}
 
 -- No end of a line stands before a place.
 abbrev pub NoEnd : List ℕ → ℕ → Type 0

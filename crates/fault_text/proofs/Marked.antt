@@ -1,5 +1,5 @@
 -- The byte order mark at the start of a text.
-use Rattle.std.proofs.Common.{◌≡◌, ◌≢◌, ℕ, Bool, true, false, cond, eqb-true, List, [], ◌∷◌, ◌++◌, refl, ap}
+use Rattle.std.proofs.Common.{◌≡◌, ◌≢◌, ℕ, Bool, true, false, cond, eqb-true, List, [], ◌∷◌, ◌++◌, refl}
 use Rattle.std.specs.Prelude.{◌==◌, ◌&&◌}
 use Rattle.csv.specs.Reading.{strip_bom}
 

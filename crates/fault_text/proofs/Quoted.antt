@@ -1,6 +1,6 @@
 -- Bytes between quotes.
-use Rattle.std.proofs.Common.{◌≡◌, ◌∙◌, ◌≤◌, ℕ, List, [], ◌∷◌, ◌++◌, length, take, sym, ap, refl, append_assoc, arith}
-use Rattle.std.specs.Prelude.{nat_lt, if◌then◌else◌, codes, false}
+use Rattle.std.proofs.Common.{◌≡◌, ◌∙◌, ◌≤◌, ℕ, List, [], ◌∷◌, ◌++◌, length, take, ap, refl, append_assoc}
+use Rattle.std.specs.Prelude.{nat_lt, false}
 use Rattle.std.specs.List.{flat_map}
 use Rattle.std.proofs.lemmas.Bool.{le-ltb}
 use Rattle.std.proofs.lemmas.List.{take_all}

@@ -1,14 +1,14 @@
 -- The records that CSV finds in a text are its lines that aren't blank.
-use Rattle.std.proofs.Common.{◌≡◌, ℕ, zero, suc, ◌+◌, ◌<◌, ◌≤◌, Bool, true, false, cond, List, [], ◌∷◌, ◌++◌, length, map, Option, Some, None, refl, sym, ap, ◌∙◌, append_assoc, arith, eqb, eqb-true}
-use Rattle.std.specs.Prelude.{◌==◌, ◌||◌, if◌then◌else◌}
-use Rattle.std.specs.List.{onto_first, slice_split}
+use Rattle.std.proofs.Common.{◌≡◌, ℕ, zero, suc, ◌+◌, ◌<◌, ◌≤◌, Bool, true, false, cond, List, [], ◌∷◌, ◌++◌, length, map, Option, Some, None, refl, sym, ap, ◌∙◌, append_assoc, arith, eqb-true}
+use Rattle.std.specs.Prelude.{◌==◌, if◌then◌else◌}
+use Rattle.std.specs.List.{onto_first}
 use Rattle.std.proofs.lemmas.List.{append-nil}
 use Rattle.csv.specs.Machine.{Read, next_record}
-use Rattle.csv.specs.Reading.{records, records_from, records_next, strip_bom}
+use Rattle.csv.specs.Reading.{records_from, records_next, strip_bom}
 use Rattle.csv.specs.declared.parser.State.{State}
 use Rattle.csv.specs.declared.parser.State.TheVariants as st
 use Rattle.enc_file.specs.Records.{records_of, unquoted}
-use Rattle.fault_text.specs.Lines.{fields_in, file_lines, is_written, lines_after, written}
+use Rattle.fault_text.specs.Lines.{fields_in, file_lines, lines_after, written}
 
 -- The rest of the line at hand, and what stands behind its end: whether a carriage return is the end, and the bytes.
 front_line : List ℕ → List ℕ
@@ -77,7 +77,7 @@ inside-byte true return feed done p c cs comma-is return-is feed-is more =
     let is : c ≡ 44 = eqb-true c 44 comma-is in
     rw is (start-as-inside (done ++ p ∷ []) [] cs ∙ more (done ++ p ∷ []) []
     ∙ ap (λ (t : List (List ℕ)). Some (t, between (returns_at cs), behind_line cs))
-      (append_assoc done (p ∷ []) (put [] (fields_in (front_line cs))) ∙ rw (put-nothing (fields_in (front_line cs)) (has-fields (front_line cs)), append-nil p) refl))
+    (append_assoc done (p ∷ []) (put [] (fields_in (front_line cs))) ∙ rw (put-nothing (fields_in (front_line cs)) (has-fields (front_line cs)), append-nil p) refl))
 inside-byte false true feed done p c cs comma-is return-is feed-is more = rw (comma-is, return-is) (ap (λ f. Some (done ++ f ∷ [], st.AfterCr, cs)) (sym (append-nil p)))
 inside-byte false false true done p c cs comma-is return-is feed-is more = rw (comma-is, return-is, feed-is) (ap (λ f. Some (done ++ f ∷ [], st.StartRecord, cs)) (sym (append-nil p)))
 inside-byte false false false done p c cs comma-is return-is feed-is more =

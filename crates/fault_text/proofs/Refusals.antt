@@ -1,7 +1,6 @@
 -- What a refusal says of the record that is refused.
-use Rattle.std.proofs.Common.{◌≡◌, ◌∙◌, ℕ, zero, suc, ◌+◌, ◌-◌, ◌<◌, ◌≤◌, Bool, true, false, ◌&&◌, not, List, [], ◌∷◌, ◌++◌, length, map, Option, Some, None, refl, sym, ap, subst, arith, inl, inr}
-use Rattle.std.specs.Prelude.{◌⊎◌, ◌||◌, ◌==◌, if◌then◌else◌, IsSome, MatchBool, codes, is_none, is_some, slice_get, Err}
-use Rattle.std.specs.Str.{bytes_eq}
+use Rattle.std.proofs.Common.{◌≡◌, ◌∙◌, ℕ, ◌-◌, ◌<◌, ◌≤◌, Bool, true, false, ◌&&◌, not, List, [], ◌∷◌, ◌++◌, length, map, Option, Some, None, refl, sym, ap, subst, arith, inl, inr}
+use Rattle.std.specs.Prelude.{◌⊎◌, ◌||◌, MatchBool, codes, is_none, is_some, slice_get, Err}
 use Rattle.std.proofs.lemmas.Bool.{false≢true}
 use Rattle.std.specs.List.{join_with_byte}
 use Rattle.std.proofs.lemmas.List.Elements.{filter-append}
@@ -53,7 +52,6 @@ pub stands-record : (text : List ℕ) (at number : ℕ) (line : List ℕ) (field
     → IsPlaced (file_lines text) at number line × (fields_in line ≡ fields)
 stands-record text at number line fields p h =
     standing (is_written line) (file_lines text) at number line fields refl p (ap (λ rows. slice_get rows (at - 1)) (sym (records-are-lines text)) ∙ h)
-
 
 -- A record after the header and before the end, and what a test of it says.
 abbrev going_by : Bool → Bool → Option (List (List ℕ)) → (List (List ℕ) → Bool) → Bool
@@ -187,8 +185,8 @@ kinded-at text refusal line version h k place format =
       named = it.named;
       wrong = it.passes;
       counted = λ later.
-        counted-by (is_first r.earlier) (has_ended r.earlier) (next_of (records_of text) refusal r) (λ fields. kind_named (version_of r.earlier) (field fields 0)) g.fields it.kind g.unfirst g.unended g.is it.named
-        (counted-fault (records_of text) refusal r (r.fault.lowest code.Fields (later-code refusal.code k later)));
+          counted-by (is_first r.earlier) (has_ended r.earlier) (next_of (records_of text) refusal r) (λ fields. kind_named (version_of r.earlier) (field fields 0)) g.fields it.kind g.unfirst g.unended g.is it.named
+          (counted-fault (records_of text) refusal r (r.fault.lowest code.Fields (later-code refusal.code k later)));
     })
 
 -- The first field names no kind.

@@ -1,14 +1,13 @@
 -- Where a record has a fault of a code, one of its fields fails.
-use Rattle.std.proofs.Common.{◌≡◌, ◌≤◌, ◌<◌, ◌+◌, ℕ, ℤ, zero, suc, Bool, true, false, ◌&&◌, not, List, [], ◌∷◌, length, drop, find, Option, Some, None, cond, refl, sym, ap, ◌∙◌, arith, eqb, eqb-true, add-one, inl, inr}
+use Rattle.std.proofs.Common.{◌≡◌, ◌≤◌, ◌<◌, ◌+◌, ℕ, ℤ, zero, suc, Bool, true, false, ◌&&◌, not, List, [], ◌∷◌, length, drop, Option, Some, None, cond, refl, sym, ap, ◌∙◌, arith, eqb-true, add-one, inl, inr}
 use Rattle.std.specs.Prelude.{◌==◌, ◌||◌, is_none, pos, nat_lt, option_map, count_ones}
-use Rattle.std.specs.List.{list_any, zip}
+use Rattle.std.specs.List.{list_any}
 use Rattle.std.specs.Option.{option_and_then}
 use Rattle.std.proofs.lemmas.Bool.{cases_lt, false≢true, le-ltb}
 use Rattle.std.proofs.lemmas.List.{drop_all}
 use Rattle.acas_base.specs.declared.link.CopyPlan.{CopyPlan}
-use Rattle.enc_file.specs.Conditions as stated
-use Rattle.enc_file.specs.Conditions.{if_said, is_address_wrong, is_count_wrong, is_masked, is_masked_at, is_number_wrong, is_turned, no_copies, no_copy_at}
-use Rattle.enc_file.specs.Values.{address_in, copy_in, count_in, field, kind_in, mask_in, number_in}
+use Rattle.enc_file.specs.Conditions.{if_said, is_count_wrong, is_number_wrong, is_turned, no_copies, no_copy_at}
+use Rattle.enc_file.specs.Values.{count_in, field, mask_in, number_in}
 use Rattle.enc_file.specs.declared.refusal.Code.{Code}
 use Rattle.enc_file.specs.declared.refusal.Code.TheVariants as code
 use Rattle.fault_text.specs.Names.{content_of, copy_names, fails, first_failing, many_bits, names_of}
@@ -84,10 +83,10 @@ record NoneCopy (fields : List (List ℕ)) (ns : List FieldName) (k : ℕ) : Typ
 copy-next : (fields : List (List ℕ)) (ns : List FieldName) (k : ℕ) → first_failing code.Number (name.Hold ∷ name.Mask ∷ ns) (drop k fields) ≡ None → NoneCopy fields ns k
 copy-next fields ns k none = elim (cases_lt (k + 1) (length fields)) [
   | inl less ↦
-    let hold = none-next code.Number name.Hold (name.Mask ∷ ns) fields k (omega (arith, less)) none in
-    let mask = none-next code.Number name.Mask ns fields (suc k) (omega (arith, less)) hold.later in
-    let both = copy-by (count_in 0 60 (field fields k)) (mask_in (field fields (suc k))) (count-none 0 60 (field fields k) hold.here) mask.here in
-    record { here = no-copy (nat_lt (k + 1) (length fields)) _ (rw (add-one k) both); later = mask.later }
+      let hold = none-next code.Number name.Hold (name.Mask ∷ ns) fields k (omega (arith, less)) none in
+      let mask = none-next code.Number name.Mask ns fields (suc k) (omega (arith, less)) hold.later in
+      let both = copy-by (count_in 0 60 (field fields k)) (mask_in (field fields (suc k))) (count-none 0 60 (field fields k) hold.here) mask.here in
+      record { here = no-copy (nat_lt (k + 1) (length fields)) _ (rw (add-one k) both); later = mask.later }
   | inr more ↦ record { here = rw (le-ltb (k + 1) (length fields) more) refl; later = ap (first_failing code.Number ns) (drop_all (suc (suc k)) fields (omega (arith, more))) ∙ no-fields code.Number ns }
 ]
 

@@ -1,5 +1,5 @@
 -- The fields of the records, by name, and what has to stand in them.
-use Rattle.std.specs.Prelude.{ℕ, ◌<◌, nat_lt, ◌==◌, Bool, false, ℤ, pos, neg_ℤ, List, [], ◌∷◌, codes, count_ones, find, Option, Some, None, is_none}
+use Rattle.std.specs.Prelude.{ℕ, nat_lt, Bool, false, pos, neg_ℤ, List, [], ◌∷◌, codes, count_ones, find, Option, is_none}
 use Rattle.std.specs.List.{zip}
 use Rattle.enc_file.specs.Conditions.{if_said}
 use Rattle.enc_file.specs.Values.{address_in, kind_in, mask_in, number_in}

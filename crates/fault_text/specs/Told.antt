@@ -8,7 +8,7 @@ use Rattle.enc_file.specs.Values.{count_in, field, mask_in}
 use Rattle.enc_file.specs.declared.refusal.Code.{Code}
 use Rattle.enc_file.specs.declared.refusal.Code.TheVariants as code
 use Rattle.enc_file.specs.declared.refusal.Refusal.{Refusal}
-use Rattle.fault_text.specs.Lines.{IsPlaced, Stands, fields_in, file_lines, is_written, written}
+use Rattle.fault_text.specs.Lines.{IsPlaced, Stands, fields_in, file_lines, is_written}
 use Rattle.fault_text.specs.Names.{first_failing, names_of, word_text}
 use Rattle.fault_text.specs.declared.fault.Fault.{Fault}
 use Rattle.fault_text.specs.declared.fault.Why.{Why}

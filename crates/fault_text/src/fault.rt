@@ -27,17 +27,34 @@ pub enum Why<'a> {
     /// There is no record at all.
     NoRecord,
     /// The first record is no header.
-    NoHeader { found: &'a [u8] },
+    NoHeader {
+        found: &'a [u8],
+    },
     /// The first field names no kind of record of the text's format, 1 or 2.
-    NoKind { version: u8, found: &'a [u8] },
+    NoKind {
+        version: u8,
+        found: &'a [u8],
+    },
     /// A record of this kind hasn't so many fields.
-    FieldCount { kind: RecordKind, count: u32 },
+    FieldCount {
+        kind: RecordKind,
+        count: u32,
+    },
     /// What stands in the field is no number of its range, no kind of an aircraft, or no mask.
-    NoValue { name: FieldName, found: &'a [u8] },
+    NoValue {
+        name: FieldName,
+        found: &'a [u8],
+    },
     /// The last cycle of a miss is before its first.
-    Turned { from: u16, to: u16 },
+    Turned {
+        from: u16,
+        to: u16,
+    },
     /// What stands in the field is no address.
-    NoAddress { name: FieldName, found: &'a [u8] },
+    NoAddress {
+        name: FieldName,
+        found: &'a [u8],
+    },
     /// More than three bits of the mask are 1.
     ManyBits {
         name: FieldName,
@@ -47,7 +64,9 @@ pub enum Why<'a> {
     /// The text has no `end`.
     NoEnd,
     /// The record stands after `end`, which is in this line.
-    After { end: u32 },
+    After {
+        end: u32,
+    },
 }
 
 // What is wrong with the first record.

@@ -7,6 +7,7 @@ ghost use Rattle.fault_text.specs.Lines.{BeginsWithEnd, Stands, fields_in, file_
 use memchr::memchr2;
 
 const LINE_FEED: u8 = b'\n';
+
 const CARRIAGE_RETURN: u8 = b'\r';
 
 // The byte order mark of UTF-8.

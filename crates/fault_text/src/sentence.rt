@@ -13,11 +13,8 @@ fn unit_text(name: FieldName) -> &'static str
     ensures short { length result.now ≤ 7 }
 {
     match name {
-        FieldName::Ground
-        | FieldName::X
-        | FieldName::Y
-        | FieldName::Alt
-        | FieldName::Limit => " ft",
+        FieldName::Ground | FieldName::X | FieldName::Y | FieldName::Alt | FieldName::Limit =>
+            " ft",
         FieldName::Vx | FieldName::Vy => " ft/s",
         FieldName::Vz => " ft/min",
         _ => "",
@@ -147,7 +144,9 @@ fn add_why(line: &mut Line, why: &Why<'_>)
 {
     match *why {
         Why::NoRecord => {
-            line.text("there is no record; the first one has to be \"encounter,1\" or \"encounter,2\"");
+            line.text(
+                "there is no record; the first one has to be \"encounter,1\" or \"encounter,2\"",
+            );
         }
         Why::NoHeader { found } => {
             line.text("the first record has to be \"encounter,1\" or \"encounter,2\", and is ");
@@ -181,7 +180,9 @@ fn add_why(line: &mut Line, why: &Why<'_>)
             line.text(" of its bits are 1, and at most three may be");
         }
         Why::NoEnd => {
-            line.text("the last record has to be \"end\", and there is none; was the text cut off?");
+            line.text(
+                "the last record has to be \"end\", and there is none; was the text cut off?",
+            );
         }
         Why::After { end } => {
             line.text("a record after \"end\", which is in line ");

@@ -1,7 +1,6 @@
-use Rattle.std.proofs.Common.{◌∙◌, sym, ap}
-use Rattle.std.specs.Prelude.{IsSome, is_some}
+use Rattle.std.proofs.Common.{◌∙◌, ap}
+use Rattle.std.specs.Prelude.{is_some}
 use Rattle.enc_file.specs.Saying.{version_in}
-use Rattle.fault_text.specs.Lines.{fields_in}
 use Rattle.fault_text.proofs.Refusals.{stands-record}
 use Rattle.fault_text.proofs.fault.format_of.Goals as goal
 

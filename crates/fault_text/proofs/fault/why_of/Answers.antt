@@ -1,8 +1,5 @@
-use Rattle.std.proofs.Common.{sym, ◌∙◌, ap}
+use Rattle.std.proofs.Common.{◌∙◌, ap}
 use Rattle.enc_file.specs.Conditions.{kind_named}
-use Rattle.enc_file.specs.Values.{field}
-use Rattle.fault_text.specs.Lines.{fields_in}
-use Rattle.fault_text.specs.Told.{Tells}
 use Rattle.fault_text.proofs.Refusals.{after-at, after-counted, is-kinded, kinded-at, kinded-headed, unnamed-at, unnamed-headed}
 use Rattle.fault_text.proofs.fault.why_of.Goals as goal
 
@@ -21,8 +18,11 @@ place_of-requires-clause-counted c = after-counted c.args.text.now c.args.refusa
 
 pub returns-in-Kind : goal.returns-in-Kind
 returns-in-Kind c =
-    rw c.in-Kind.is (c.format_of.ensures, c.field.ensures,
-    ap (kind_named c.format_of.result) c.field.ensures ∙ unnamed-at c.args.text.now c.args.refusal c.args.line.now c.format_of.result c.requires.refused c.in-Kind.is c.requires.place c.format_of.ensures)
+    rw c.in-Kind.is (
+      c.format_of.ensures,
+      c.field.ensures,
+      ap (kind_named c.format_of.result) c.field.ensures ∙ unnamed-at c.args.text.now c.args.refusal c.args.line.now c.format_of.result c.requires.refused c.in-Kind.is c.requires.place c.format_of.ensures,
+    )
 
 pub returns-in-After : goal.returns-in-After
 returns-in-After c =

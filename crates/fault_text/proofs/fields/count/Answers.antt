@@ -1,7 +1,6 @@
-use Rattle.std.proofs.Common.{◌≡◌, ◌+◌, ap, arith, length, eqb}
+use Rattle.std.proofs.Common.{ap, arith, length, eqb}
 use Rattle.std.proofs.lemmas.List.Splits.{length-slice_split}
 use Rattle.memchr.proofs.lemmas.CallerLemmas.{length-places}
-use Rattle.fault_text.specs.Lines.{fields_in}
 use Rattle.fault_text.proofs.fields.count.Goals as goal
 
 pub returns : goal.returns

@@ -1,4 +1,4 @@
-use Rattle.std.proofs.Common.{◌∙◌, sym, ap}
+use Rattle.std.proofs.Common.{◌∙◌, sym}
 use Rattle.fault_text.proofs.Headers.{header-some, version-said}
 use Rattle.fault_text.specs.Lines.{fields_in}
 use Rattle.fault_text.proofs.fields.version_of.Goals as goal

@@ -1,4 +1,4 @@
-use Rattle.std.proofs.Common.{◌≡◌, ◌∷◌, ◌++◌, ◌∙◌, [], ap, sym, false, refl, arith}
+use Rattle.std.proofs.Common.{◌∷◌, ◌++◌, [], ap, sym, false, refl, arith}
 use Rattle.fault_text.specs.Lines.{file_lines, lines_after}
 use Rattle.fault_text.proofs.FirstLine.{is-blank, is-no-blank, moved, passed-blank, passed-record}
 use Rattle.fault_text.proofs.lines.place_of.Goals as goal
@@ -22,23 +22,23 @@ loop-rest-preserved c =
     let whole = moved (file_lines c.args.text.now) inv.before line c.loop-rest.rest.now c.cut.result.1.now inv.whole c.cut.ensures.first in
     elim c.if-not-is_empty.branch [
       | then-not-is_empty+else-left-eq1 w ↦
-        let p = passed-record inv.before line (is-no-blank line (sym w.if-not-is_empty.ensures)) in record {
-          before = inv.before ++ line ∷ [];
-          whole = whole;
-          number = omega (arith, inv.number, p.size);
-          behind = omega (arith, w.behind-is, inv.number, p.behind-now);
-          left = omega (arith, w.left-is, inv.left, p.records-now);
-          some = omega (arith, w.left-is, w.if-left-eq1.false, inv.some);
-          room = omega (arith, inv.room, p.size, c.cut.ensures.shorter);
-        }
+          let p = passed-record inv.before line (is-no-blank line (sym w.if-not-is_empty.ensures)) in record {
+            before = inv.before ++ line ∷ [];
+            whole = whole;
+            number = omega (arith, inv.number, p.size);
+            behind = omega (arith, w.behind-is, inv.number, p.behind-now);
+            left = omega (arith, w.left-is, inv.left, p.records-now);
+            some = omega (arith, w.left-is, w.if-left-eq1.false, inv.some);
+            room = omega (arith, inv.room, p.size, c.cut.ensures.shorter);
+          }
       | else-not-is_empty w ↦
-        let p = passed-blank inv.before line (is-blank line (sym w.if-not-is_empty.ensures)) in record {
-          before = inv.before ++ line ∷ [];
-          whole = whole;
-          number = omega (arith, inv.number, p.size);
-          behind = omega (arith, w.behind-is, inv.behind, p.behind-now);
-          left = omega (arith, w.left-is, inv.left, p.records-now);
-          some = omega (arith, w.left-is, inv.some);
-          room = omega (arith, inv.room, p.size, c.cut.ensures.shorter);
-        }
+          let p = passed-blank inv.before line (is-blank line (sym w.if-not-is_empty.ensures)) in record {
+            before = inv.before ++ line ∷ [];
+            whole = whole;
+            number = omega (arith, inv.number, p.size);
+            behind = omega (arith, w.behind-is, inv.behind, p.behind-now);
+            left = omega (arith, w.left-is, inv.left, p.records-now);
+            some = omega (arith, w.left-is, inv.some);
+            room = omega (arith, inv.room, p.size, c.cut.ensures.shorter);
+          }
     ]

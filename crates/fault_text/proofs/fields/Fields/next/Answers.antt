@@ -1,5 +1,4 @@
-use Rattle.std.proofs.Common.{◌∙◌, ap, sym, ◌+◌, ◌-◌, ◌∷◌, List, ℕ, length, take, drop}
-use Rattle.std.proofs.lemmas.List.{drop-drop, take_all}
+use Rattle.std.proofs.Common.{◌∙◌, ap, sym, ◌∷◌, take}
 use Rattle.fault_text.specs.Lines.{fields_in, fields_left}
 use Rattle.fault_text.proofs.FirstField.{field-all, field-at, rest-of}
 use Rattle.fault_text.proofs.fields.Fields.next.Goals as goal
