@@ -1,5 +1,6 @@
 pub mod RecordLines
 pub mod FirstLine
+pub mod Visible
 pub mod Pieces
 pub mod Refusals
 pub mod Wrong

@@ -1,6 +1,7 @@
 // Bytes that were read, as they may be shown.
-ghost use Rattle.std.specs.Prelude.{◌≡◌, ◌+◌, ◌≤◌, ◌++◌, length};
-ghost use Rattle.fault_text.specs.Shown.{glyphs, is_plain, shown};
+ghost use Rattle.std.specs.Prelude.{◌≡◌, ◌+◌, ◌≤◌, ◌++◌, ℕ, List, length};
+ghost use Rattle.std.specs.List.{AllByRecursion};
+ghost use Rattle.fault_text.specs.Shown.{IsVisible, glyphs, is_plain, shown};
 
 use acas_text::{LINE_BYTES, Line};
 
@@ -36,7 +37,7 @@ fn add_glyphs(line: &mut Line, byte: u8)
 }
 
 /// Adds bytes that were read between quotes, at most 40 of them, and two points where there are more. Bytes other than
-/// letters, digits and the like are escaped. So nothing that was read can drive a terminal.
+/// letters, digits and the like are escaped.
 pub(crate) fn add_shown(line: &mut Line, bytes: &[u8])
     requires { length line.old + SHOWN_BYTES ≤ LINE_BYTES }
     ensures added { line.new ≡ line.old ++ shown bytes.now }
@@ -52,3 +53,8 @@ pub(crate) fn add_shown(line: &mut Line, bytes: &[u8])
         line.text("..");
     }
 }
+
+/// A law: what is shown has only bytes from 32 to 126. So nothing that was read can drive a terminal.
+pub fn shown_law()
+    ensures { (bytes : List ℕ) → AllByRecursion IsVisible (shown bytes) }
+{}
