@@ -33,4 +33,5 @@ pub mod LowestCode
 pub mod Stated
 pub mod StatedKinds
 pub mod StatedText
+pub mod Begun
 pub mod WholeText

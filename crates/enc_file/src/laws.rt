@@ -1,8 +1,10 @@
 // What holds of the texts of encounters, whatever the program does with them.
-ghost use Rattle.std.specs.Prelude.{◌≡◌, ◌↔◌, ℕ, List, Err};
+ghost use Rattle.std.specs.Prelude.{◌≡◌, ◌↔◌, ◌∷◌, ◌-◌, [], ℕ, List, Err, Some, codes, false, length, slice_get, true};
 ghost use Rattle.acas_base.specs.Encounter.{IsEncounter, Parts};
 ghost use Rattle.enc_file.specs.Canonical.{canonical_records, canonical_text};
-ghost use Rattle.enc_file.specs.Conditions.{IsRefused};
+ghost use Rattle.enc_file.specs.Conditions.{IsRefused, is_first};
+ghost use Rattle.enc_file.specs.Earlier.{has_ended, version_of};
+ghost use Rattle.enc_file.specs.Saying.{version_in};
 ghost use Rattle.enc_file.specs.Reading.{Says, reading_of};
 ghost use Rattle.enc_file.specs.Records.{records_of};
 ghost use Rattle.enc_file.specs.declared.refusal.Refusal.{Refusal};
@@ -25,4 +27,11 @@ pub fn canonical_text_law()
 /// code. It doesn't matter what else is wrong.
 pub fn refusal_law()
     ensures { (text : List ℕ) (refusal : Refusal) → (reading_of text ≡ Err refusal) ↔ IsRefused (records_of text) refusal }
+{}
+
+/// A law: what stands before the refused record. The first record is a header, and it says the format of the later
+/// ones. Where the text has ended, the record before is `end`.
+pub fn passed_law()
+    ensures format { (rows : List (List (List ℕ))) (refusal : Refusal) (r : IsRefused rows refusal) → is_first r.earlier ≡ false → (fields : List (List ℕ)) × (slice_get rows 0 ≡ Some fields) × (version_in fields ≡ Some (version_of r.earlier)) }
+    ensures end { (rows : List (List (List ℕ))) (refusal : Refusal) (r : IsRefused rows refusal) → has_ended r.earlier ≡ true → slice_get rows (length r.earlier - 1) ≡ Some (codes "end" ∷ []) }
 {}

@@ -14,6 +14,7 @@ mod tables;
 mod values;
 
 pub use canonical::{CanonicalText, write};
-pub use laws::{canonical_records_law, canonical_text_law, refusal_law};
+pub use laws::{canonical_records_law, canonical_text_law, passed_law, refusal_law};
 pub use reading::read;
 pub use refusal::{Code, ReadError, Refusal};
+pub use values::{address_in, count_in, kind_in, mask_in, number_in};

@@ -22,7 +22,7 @@ pub(crate) fn field(row: &ByteRecord, place: usize) -> &[u8]
 
 /// The number from `low` to `high` whose plain decimal a field is.
 #[tactic(auto, unfolding(crate::specs::Values::number_in))]
-pub(crate) fn number_in(bytes: &[u8], low: i32, high: i32) -> Option<i32>
+pub fn number_in(bytes: &[u8], low: i32, high: i32) -> Option<i32>
     ensures value { result ≡ number_in low high bytes.now }
     ensures range { IfSome result (IsBetween low high) }
 {
@@ -38,7 +38,7 @@ pub(crate) fn number_in(bytes: &[u8], low: i32, high: i32) -> Option<i32>
 
 /// The same for numbers that aren't below 0.
 #[tactic(auto, unfolding(crate::specs::Values::count_in))]
-pub(crate) fn count_in(bytes: &[u8], low: u16, high: u16) -> Option<u16>
+pub fn count_in(bytes: &[u8], low: u16, high: u16) -> Option<u16>
     ensures value { result ≡ count_in low high bytes.now }
     ensures range { IfSome result (λ n. (low ≤ n) × (n ≤ high)) }
 {
@@ -48,22 +48,22 @@ pub(crate) fn count_in(bytes: &[u8], low: u16, high: u16) -> Option<u16>
 
 /// The address that a field spells.
 #[tactic(auto, unfolding(crate::specs::Values::address_in))]
-pub(crate) fn address_in(bytes: &[u8]) -> Option<Address>
+pub fn address_in(bytes: &[u8]) -> Option<Address>
     ensures { result ≡ address_in bytes.now }
 {
     Address::new(parse_hex(bytes, 6)? as u32)
 }
 
-// The mask that a field spells.
+/// The mask that a field spells in two digits 0-9A-F.
 #[tactic(auto, unfolding(crate::specs::Values::mask_in))]
-fn mask_in(bytes: &[u8]) -> Option<u8>
+pub fn mask_in(bytes: &[u8]) -> Option<u8>
     ensures { result ≡ mask_in bytes.now }
 {
     Some(parse_hex(bytes, 2)? as u8)
 }
 
 /// The kind of aircraft that a field names.
-pub(crate) fn kind_in(bytes: &[u8]) -> Option<Kind>
+pub fn kind_in(bytes: &[u8]) -> Option<Kind>
     ensures { result ≡ kind_in bytes.now }
 {
     if bytes == b"RA".as_slice() {

@@ -1,0 +1,12 @@
+pub mod RecordLines
+pub mod FirstLine
+pub mod Visible
+pub mod Pieces
+pub mod Refusals
+pub mod Wrong
+pub mod FirstFailing
+pub mod Headers
+pub mod FirstField
+pub mod FirstBytes
+pub mod Marked
+pub mod Quoted

@@ -1,0 +1,34 @@
+use Rattle.std.proofs.Common.{◌∙◌, ◌++◌, ap, sym}
+use Rattle.fault_text.specs.Sentences.{wanted, why_text}
+use Rattle.fault_text.specs.Hints.{address_hint}
+use Rattle.fault_text.proofs.Pieces.{four, three, two}
+use Rattle.fault_text.proofs.sentence.add_why.Goals as goal
+
+pub returns-in-NoHeader-clause-added : goal.returns-in-NoHeader-clause-added
+returns-in-NoHeader-clause-added c =
+    two c.args.line.now c.text-in-NoHeader.new.self c.add_shown.new.line _ _ c.text-in-NoHeader.ensures.added c.add_shown.ensures.added ∙ ap (λ w. c.args.line.now ++ why_text w) (sym c.in-NoHeader.is)
+
+pub returns-in-NoValue-clause-added : goal.returns-in-NoValue-clause-added
+returns-in-NoValue-clause-added c =
+    three c.args.line.now c.add_found.new.line c.text-in-NoValue.new.self c.add_wanted.new.line _ _ _ c.add_found.ensures.added c.text-in-NoValue.ensures.added
+    (c.add_wanted.ensures.added ∙ ap (λ k. c.text-in-NoValue.new.self ++ wanted c.in-NoValue.name k c.in-NoValue.found.now) c.content.ensures)
+    ∙ ap (λ w. c.args.line.now ++ why_text w) (sym c.in-NoValue.is)
+
+pub returns-in-Turned-clause-added : goal.returns-in-Turned-clause-added
+returns-in-Turned-clause-added c =
+    four c.args.line.now c.text-in-Turned.new.self c.u16.new.self c.text-in-Turned-2.new.self c.u16-in-Turned.new.self _ _ _ _
+    c.text-in-Turned.ensures.added c.u16.ensures.added c.text-in-Turned-2.ensures.added c.u16-in-Turned.ensures.added
+    ∙ ap (λ w. c.args.line.now ++ why_text w) (sym c.in-Turned.is)
+
+pub returns-in-NoAddress-clause-added : goal.returns-in-NoAddress-clause-added
+returns-in-NoAddress-clause-added c =
+    three c.args.line.now c.add_found-in-NoAddress.new.line c.text-in-NoAddress.new.self c.text-in-NoAddress-2.new.self _ _ (address_hint c.in-NoAddress.found.now) c.add_found-in-NoAddress.ensures.added c.text-in-NoAddress.ensures.added
+    (c.text-in-NoAddress-2.ensures.added ∙ ap (λ t. c.text-in-NoAddress.new.self ++ t) c.address_hint.ensures.text)
+    ∙ ap (λ w. c.args.line.now ++ why_text w) (sym c.in-NoAddress.is)
+
+pub returns-in-NoEnd-clause-added : goal.returns-in-NoEnd-clause-added
+returns-in-NoEnd-clause-added c = c.text-in-NoEnd.ensures.added ∙ ap (λ w. c.args.line.now ++ why_text w) (sym c.in-NoEnd.is)
+
+pub returns-in-After-clause-added : goal.returns-in-After-clause-added
+returns-in-After-clause-added c =
+    two c.args.line.now c.text-in-After.new.self c.u32-in-After.new.self _ _ c.text-in-After.ensures.added c.u32-in-After.ensures.added ∙ ap (λ w. c.args.line.now ++ why_text w) (sym c.in-After.is)

@@ -1,0 +1,6 @@
+pub mod Lines
+pub mod Shown
+pub mod Names
+pub mod Told
+pub mod Hints
+pub mod Sentences

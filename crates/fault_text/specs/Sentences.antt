@@ -1,0 +1,90 @@
+-- The sentence of a fault.
+use Rattle.std.specs.Prelude.{ℕ, ℤ, ◌==◌, ◌&&◌, ◌||◌, if◌then◌else◌, Bool, List, [], ◌∷◌, ◌++◌, codes}
+use Rattle.std.specs.Fmt.{decimal, signed_decimal}
+use Rattle.std.specs.Str.{bytes_eq}
+use Rattle.fault_text.specs.Hints.{address_hint, number_hint}
+use Rattle.fault_text.specs.Names.{content_of, name_text, word_text}
+use Rattle.fault_text.specs.Shown.{shown}
+use Rattle.fault_text.specs.declared.fault.Fault.{Fault}
+use Rattle.fault_text.specs.declared.fault.Why.{Why}
+use Rattle.fault_text.specs.declared.fault.Why.TheVariants as why
+use Rattle.fault_text.specs.declared.names.Content.{Content}
+use Rattle.fault_text.specs.declared.names.Content.TheVariants as content
+use Rattle.fault_text.specs.declared.names.FieldName.{FieldName}
+use Rattle.fault_text.specs.declared.names.FieldName.TheVariants as name
+use Rattle.fault_text.specs.declared.names.RecordKind.{RecordKind}
+use Rattle.fault_text.specs.declared.names.RecordKind.TheVariants as kind
+
+-- The unit of a number, with a space before it.
+abbrev pub unit_text : FieldName → List ℕ
+unit_text name.Ground = codes " ft"
+unit_text name.X = codes " ft"
+unit_text name.Y = codes " ft"
+unit_text name.Alt = codes " ft"
+unit_text name.Limit = codes " ft"
+unit_text name.Vx = codes " ft/s"
+unit_text name.Vy = codes " ft/s"
+unit_text name.Vz = codes " ft/min"
+unit_text other = []
+
+abbrev pub range_text : ℤ → ℤ → List ℕ
+range_text low high = signed_decimal low ++ codes " to " ++ signed_decimal high
+
+-- What has to stand in a field.
+abbrev pub wanted : FieldName → Content → List ℕ → List ℕ
+wanted n (content.Whole low high) found = codes "a whole number from " ++ range_text low high ++ unit_text n ++ number_hint found
+wanted n content.Kind found = codes "RA, TA or XPDR"
+wanted n content.Mask found = codes "two digits 0-9A-F"
+wanted n content.Address found = codes "an address"
+
+-- The form of a record.
+abbrev pub form_text : RecordKind → List ℕ
+form_text kind.Run = codes "run,CYCLES,GROUND"
+form_text kind.Gains = codes "gains,ALPHA,BETA,ALPHA,BETA"
+form_text kind.Craft = codes "craft,ADDRESS,KIND,X,Y,ALT"
+form_text kind.Climb = codes "climb,ADDRESS,LIMIT"
+form_text kind.Leg = codes "leg,ADDRESS,FROM,VX,VY,VZ"
+form_text kind.Miss = codes "miss,OWN,TARGET,FROM,TO"
+form_text kind.Plan = codes "plan,SENDER,RECEIVER and none to three copies HOLD,MASK"
+form_text kind.Fate = codes "fate,SENDER,RECEIVER,NUMBER and none to three copies HOLD,MASK"
+form_text kind.End = codes "end"
+
+-- A word that names no kind of the format.
+abbrev pub is_later_word : ℕ → List ℕ → Bool
+is_later_word version found = version == 1 && (bytes_eq found (codes "climb") || bytes_eq found (codes "plan"))
+
+abbrev pub kinds_text : ℕ → List ℕ
+kinds_text version =
+    if version == 1 then codes " is no kind of record of format 1 (run, gains, craft, leg, miss, fate, end)"
+    else codes " is no kind of record of format 2 (run, gains, craft, climb, leg, miss, plan, fate, end)"
+
+abbrev pub no_kind_text : ℕ → List ℕ → List ℕ
+no_kind_text version found =
+    if bytes_eq found (codes "encounter") then codes " can only be the first record" else
+    if is_later_word version found then codes " is a kind of record of format 2 alone; the first record is \"encounter,1\"" else kinds_text version
+
+abbrev pub fields_text : ℕ → List ℕ
+fields_text count = if count == 1 then codes " field here, and has to be " else codes " fields here, and has to be "
+
+abbrev pub field_count_text : RecordKind → ℕ → List ℕ
+field_count_text of count = word_text of ++ codes " has " ++ decimal count ++ fields_text count ++ form_text of
+
+-- A field and what stands there.
+abbrev pub found_text : FieldName → List ℕ → List ℕ
+found_text n found = name_text n ++ codes " is " ++ shown found
+
+abbrev pub why_text : Why → List ℕ
+why_text why.NoRecord = codes "there is no record; the first one has to be \"encounter,1\" or \"encounter,2\""
+why_text (why.NoHeader found) = codes "the first record has to be \"encounter,1\" or \"encounter,2\", and is " ++ shown found.now
+why_text (why.NoKind version found) = shown found.now ++ no_kind_text version found.now
+why_text (why.FieldCount kind count) = field_count_text kind count
+why_text (why.NoValue n found) = found_text n found.now ++ codes ", and has to be " ++ wanted n (content_of n) found.now
+why_text (why.Turned from to) = codes "TO is " ++ decimal to ++ codes ", and may not be below FROM, " ++ decimal from
+why_text (why.NoAddress n found) = found_text n found.now ++ codes ", and has to be an address: six digits 0-9A-F" ++ address_hint found.now
+why_text (why.ManyBits n found bits) = found_text n found.now ++ codes ": " ++ decimal bits ++ codes " of its bits are 1, and at most three may be"
+why_text why.NoEnd = codes "the last record has to be \"end\", and there is none; was the text cut off?"
+why_text (why.After end) = codes "a record after \"end\", which is in line " ++ decimal end
+
+-- The line that tells a fault.
+abbrev pub sentence : Fault → List ℕ
+sentence fault = codes "line " ++ decimal fault.line ++ codes ": " ++ why_text fault.why ++ 10 ∷ []

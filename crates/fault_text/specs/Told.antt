@@ -1,0 +1,157 @@
+-- What is told of a refusal: in which line the record stands, and what is wrong with it.
+use Rattle.std.specs.Borrow.{Bor}
+use Rattle.std.specs.Prelude.{◌≡◌, ℕ, ◌-◌, ◌<◌, Bool, false, true, List, [], length, drop, count_ones, option_map, Option, Some, None, MatchOption, codes, slice_get, IsSome}
+use Rattle.enc_file.specs.Conditions as stated
+use Rattle.enc_file.specs.Records.{records_of}
+use Rattle.enc_file.specs.Saying.{version_in}
+use Rattle.enc_file.specs.Values.{count_in, field, mask_in}
+use Rattle.enc_file.specs.declared.refusal.Code.{Code}
+use Rattle.enc_file.specs.declared.refusal.Code.TheVariants as code
+use Rattle.enc_file.specs.declared.refusal.Refusal.{Refusal}
+use Rattle.fault_text.specs.Lines.{IsPlaced, Stands, fields_in, file_lines, is_written}
+use Rattle.fault_text.specs.Names.{first_failing, names_of, word_text}
+use Rattle.fault_text.specs.declared.fault.Fault.{Fault}
+use Rattle.fault_text.specs.declared.fault.Why.{Why}
+use Rattle.fault_text.specs.declared.fault.Why.TheVariants as why
+use Rattle.fault_text.specs.declared.names.FieldName.{FieldName}
+use Rattle.fault_text.specs.declared.names.RecordKind.{RecordKind}
+use Rattle.fault_text.specs.declared.names.RecordKind.TheVariants as kind
+
+-- A kind of record, as the conditions of the codes name it.
+abbrev pub stated_kind : RecordKind → stated.RecordKind
+stated_kind kind.Run = stated.RunKind
+stated_kind kind.Gains = stated.GainsKind
+stated_kind kind.Craft = stated.CraftKind
+stated_kind kind.Climb = stated.ClimbKind
+stated_kind kind.Leg = stated.LegKind
+stated_kind kind.Miss = stated.MissKind
+stated_kind kind.Plan = stated.PlanKind
+stated_kind kind.Fate = stated.FateKind
+stated_kind kind.End = stated.EndKind
+
+abbrev pub stated_kinds : Option RecordKind → Option stated.RecordKind
+stated_kinds found = option_map stated_kind found
+
+-- The leftmost field of a record that fails its part of a code's condition; with None, no field does.
+abbrev pub IsLeftmost : Code → RecordKind → List ℕ → Option (FieldName × Bor (List ℕ)) → Type 0
+IsLeftmost c kind line found = option_map (λ p. (p.0, p.1.now)) found ≡ first_failing c (names_of kind) (drop 1 (fields_in line))
+
+-- No header.
+abbrev pub TellsHeader : List ℕ → Why → Type 0
+TellsHeader line why.NoRecord = line ≡ []
+TellsHeader line (why.NoHeader found) = (found.now ≡ line) × (is_written line ≡ true)
+TellsHeader line other = ⊥
+
+-- The two cycles of a miss. Both are cycles, and the second is before the first.
+abbrev pub TellsTurned : List ℕ → Why → Type 0
+TellsTurned line (why.Turned from to) = (count_in 1 600 (field (fields_in line) 3) ≡ Some from) × (count_in 1 600 (field (fields_in line) 4) ≡ Some to) × (to < from)
+TellsTurned line other = ⊥
+
+-- The leftmost field that is no value; or, where all are values, TO below FROM in a miss.
+abbrev pub TellsNumber : RecordKind → List ℕ → Why → Type 0
+TellsNumber of line (why.NoValue name found) = IsLeftmost code.Number of line (Some (name, found))
+TellsNumber of line other = IsLeftmost code.Number of line None × (of ≡ kind.Miss) × TellsTurned line other
+
+-- The leftmost field that has to be an address and is none.
+abbrev pub TellsAddress : RecordKind → List ℕ → Why → Type 0
+TellsAddress kind line (why.NoAddress name found) = IsLeftmost code.Address kind line (Some (name, found))
+TellsAddress kind line other = ⊥
+
+-- The leftmost mask with more than three bits, and how many it has.
+abbrev pub TellsMask : RecordKind → List ℕ → Why → Type 0
+TellsMask kind line (why.ManyBits name found bits) = IsLeftmost code.Mask kind line (Some (name, found)) × (option_map count_ones (mask_in found.now) ≡ Some bits)
+TellsMask kind line other = ⊥
+
+-- A record has a fault of one of these codes, and its number of fields isn't wrong where the code is another one.
+abbrev pub wrong_by : Code → stated.RecordKind → List (List ℕ) → Bool
+wrong_by code.Fields of fields = stated.is_count_wrong of fields
+wrong_by code.Number of fields = stated.is_number_wrong of fields
+wrong_by code.Address of fields = stated.is_address_wrong of fields
+wrong_by code.Mask of fields = stated.is_masked of fields
+wrong_by other of fields = false
+
+abbrev pub is_fields : Code → Bool
+is_fields code.Fields = true
+is_fields other = false
+
+pub record IsAtFault (version : ℕ) (c : Code) (fields : List (List ℕ)) : Type 0 where
+  pub kind : stated.RecordKind
+  pub named : stated.kind_named version (field fields 0) ≡ Some kind
+  pub wrong : wrong_by c kind fields ≡ true
+  pub counted : is_fields c ≡ false → stated.is_count_wrong kind fields ≡ false
+
+-- The first field names this kind.
+abbrev pub IsNamed : List ℕ → RecordKind → Type 0
+IsNamed line of = word_text of ≡ field (fields_in line) 0
+
+-- A number of fields that this kind hasn't.
+abbrev pub TellsCount : RecordKind → List ℕ → Why → Type 0
+TellsCount of line (why.FieldCount kind count) = (kind ≡ of) × (count ≡ length (fields_in line)) × (stated.is_count_wrong (stated_kind of) (fields_in line) ≡ true)
+TellsCount of line other = ⊥
+
+abbrev pub TellsKind : Code → RecordKind → List ℕ → Why → Type 0
+TellsKind code.Fields of line w = TellsCount of line w
+TellsKind code.Number of line w = TellsNumber of line w
+TellsKind code.Address of line w = TellsAddress of line w
+TellsKind code.Mask of line w = TellsMask of line w
+TellsKind other of line w = ⊥
+
+pub record TellsRecord (c : Code) (line : List ℕ) (w : Why) : Type 0 where
+  pub kind : RecordKind
+  pub named : IsNamed line kind
+  pub tells : TellsKind c kind line w
+
+-- The first record is a header of this format.
+pub record IsFormat (text : List ℕ) (version : ℕ) : Type 0 where
+  pub number : ℕ
+  pub line : List ℕ
+  pub first : IsPlaced (file_lines text) 1 number line
+  pub said : version_in (fields_in line) ≡ Some version
+
+-- There is a first record, and it is a header.
+pub record IsHeaded (text : List ℕ) : Type 0 where
+  pub fields : List (List ℕ)
+  pub first : slice_get (records_of text) 0 ≡ Some fields
+  pub header : IsSome (version_in fields)
+
+-- The record with this number, from 1, is that of this line. The line is empty where there is no such record.
+abbrev pub IsRecord : List (List ℕ) → ℕ → List ℕ → Type 0
+IsRecord lines at line = (number : ℕ) × Stands lines at number line
+
+-- A first field that names no kind of the text's format.
+abbrev pub TellsName : List ℕ → List ℕ → Why → Type 0
+TellsName text line (why.NoKind version found) = IsFormat text version × (found.now ≡ field (fields_in line) 0) × (stated.kind_named version found.now ≡ None)
+TellsName text line other = ⊥
+
+-- The record before the refused one.
+abbrev pub TellsAfter : List ℕ → ℕ → Why → Type 0
+TellsAfter text at (why.After end) = (line : List ℕ) × IsPlaced (file_lines text) (at - 1) end line × (line ≡ codes "end")
+TellsAfter text at other = ⊥
+
+-- What is wrong, by the code. The codes that aren't told yet have no sentence.
+abbrev pub Tells : Code → List ℕ → ℕ → List ℕ → Why → Type 0
+Tells code.Header text at line w = TellsHeader line w
+Tells code.Kind text at line w = TellsName text line w
+Tells code.Fields text at line w = TellsRecord code.Fields line w
+Tells code.Number text at line w = TellsRecord code.Number line w
+Tells code.Address text at line w = TellsRecord code.Address line w
+Tells code.Mask text at line w = TellsRecord code.Mask line w
+Tells code.NoEnd text at line w = w ≡ why.NoEnd
+Tells code.After text at line w = TellsAfter text at w
+Tells other text at line w = ⊥
+
+-- The line of the refused record, and what is wrong with it.
+pub record Explains (text : List ℕ) (refusal : Refusal) (fault : Fault) : Type 0 where
+  pub line : List ℕ
+  pub place : Stands (file_lines text) refusal.at fault.line line
+  pub tells : Tells refusal.code text refusal.at line fault.why
+
+abbrev pub is_told : Code → Bool
+is_told code.Repeat = false
+is_told code.Unknown = false
+is_told code.Count = false
+is_told code.Box = false
+is_told other = true
+
+abbrev pub Explained : List ℕ → Refusal → Option Fault → Type 0
+Explained text refusal found = MatchOption found (is_told refusal.code ≡ false) (Explains text refusal)

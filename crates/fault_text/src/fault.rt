@@ -1,0 +1,209 @@
+// Why a text is refused, as a value.
+ghost use Rattle.std.specs.Prelude.{◌≡◌, ◌≤◌, ◌-◌, ◌<◌, ◌^◌, Err, MatchOption, false, length, true};
+ghost use Rattle.enc_file.specs.Conditions.{is_address_wrong, is_count_wrong, is_masked, is_number_wrong, is_turned};
+ghost use Rattle.enc_file.specs.Reading.{reading_of};
+ghost use Rattle.fault_text.specs.Lines.{fields_in, file_lines};
+ghost use Rattle.fault_text.specs.Told.{Explained, IsAtFault, IsFormat, IsHeaded, IsRecord, Tells, TellsAddress, TellsHeader, TellsMask, TellsNumber, TellsRecord, TellsTurned, is_told, stated_kind};
+
+use crate::fields::{count, field, kind_of, version_of};
+use crate::lines::place_of;
+use crate::names::{FieldName, RecordKind};
+use crate::search::leftmost;
+use enc_file::{Code, Refusal, count_in, mask_in};
+
+/// What is wrong with a refused text, and where.
+#[derive(Clone, Copy)]
+pub struct Fault<'a> {
+    /// The line of the file in which the refused record stands, from 1, blank lines counted. Where a record is missing,
+    /// it is the line behind the last one.
+    pub line: u32,
+    /// What is wrong.
+    pub why: Why<'a>,
+}
+
+/// What is wrong with a record. `found` is what stands there.
+#[derive(Clone, Copy)]
+pub enum Why<'a> {
+    /// There is no record at all.
+    NoRecord,
+    /// The first record is no header.
+    NoHeader {
+        found: &'a [u8],
+    },
+    /// The first field names no kind of record of the text's format, 1 or 2.
+    NoKind {
+        version: u8,
+        found: &'a [u8],
+    },
+    /// A record of this kind hasn't so many fields.
+    FieldCount {
+        kind: RecordKind,
+        count: u32,
+    },
+    /// What stands in the field is no number of its range, no kind of an aircraft, or no mask.
+    NoValue {
+        name: FieldName,
+        found: &'a [u8],
+    },
+    /// The last cycle of a miss is before its first.
+    Turned {
+        from: u16,
+        to: u16,
+    },
+    /// What stands in the field is no address.
+    NoAddress {
+        name: FieldName,
+        found: &'a [u8],
+    },
+    /// More than three bits of the mask are 1.
+    ManyBits {
+        name: FieldName,
+        found: &'a [u8],
+        bits: u32,
+    },
+    /// The text has no `end`.
+    NoEnd,
+    /// The record stands after `end`, which is in this line.
+    After {
+        end: u32,
+    },
+}
+
+// What is wrong with the first record.
+fn header_why(line: &[u8]) -> Why<'_>
+    ensures { TellsHeader line.now result }
+{
+    if line.is_empty() {
+        return Why::NoRecord;
+    }
+    Why::NoHeader { found: line }
+}
+
+// The cycles of a miss that ends before it begins.
+fn turned_why(line: &[u8]) -> Why<'_>
+    requires { is_turned (fields_in line.now) 3 4 ≡ true }
+    ensures { TellsTurned line.now result }
+{
+    let Some(from) = count_in(field(line, 3), 1, 600) else {
+        unreachable!();
+    };
+    let Some(to) = count_in(field(line, 4), 1, 600) else {
+        unreachable!();
+    };
+    Why::Turned { from, to }
+}
+
+// Which value of a record is wrong.
+fn number_why(kind: RecordKind, line: &[u8]) -> Why<'_>
+    requires counted { is_count_wrong (stated_kind kind) (fields_in line.now) ≡ false }
+    requires wrong { is_number_wrong (stated_kind kind) (fields_in line.now) ≡ true }
+    ensures { TellsNumber kind line.now result }
+{
+    match leftmost(Code::Number, kind, line) {
+        Some((name, found)) => Why::NoValue { name, found },
+        None => turned_why(line),
+    }
+}
+
+// Which address of a record is wrong.
+fn address_why(kind: RecordKind, line: &[u8]) -> Why<'_>
+    requires counted { is_count_wrong (stated_kind kind) (fields_in line.now) ≡ false }
+    requires wrong { is_address_wrong (stated_kind kind) (fields_in line.now) ≡ true }
+    ensures { TellsAddress kind line.now result }
+{
+    match leftmost(Code::Address, kind, line) {
+        Some((name, found)) => Why::NoAddress { name, found },
+        None => unreachable!(),
+    }
+}
+
+// Which mask of a record is wrong.
+fn mask_why(kind: RecordKind, line: &[u8]) -> Why<'_>
+    requires counted { is_count_wrong (stated_kind kind) (fields_in line.now) ≡ false }
+    requires wrong { is_masked (stated_kind kind) (fields_in line.now) ≡ true }
+    ensures { TellsMask kind line.now result }
+{
+    let Some((name, found)) = leftmost(Code::Mask, kind, line) else {
+        unreachable!();
+    };
+    match mask_in(found) {
+        Some(mask) => Why::ManyBits {
+            name,
+            found,
+            bits: mask.count_ones(),
+        },
+        None => unreachable!(),
+    }
+}
+
+// What is wrong with a record of a known kind.
+fn record_why(code: Code, version: u8, line: &[u8]) -> Why<'_>
+    requires few { length line.now < 2 ^ 32 - 1 }
+    requires fault { IsAtFault version code (fields_in line.now) }
+    ensures { TellsRecord code line.now result }
+{
+    let Some(kind) = kind_of(version, field(line, 0)) else {
+        unreachable!();
+    };
+    match code {
+        Code::Number => number_why(kind, line),
+        Code::Address => address_why(kind, line),
+        Code::Mask => mask_why(kind, line),
+        _ => Why::FieldCount {
+            kind,
+            count: count(line),
+        },
+    }
+}
+
+// The format that the first record says.
+fn format_of(text: &[u8]) -> u8
+    requires few { length text.now < 2 ^ 32 - 1 }
+    requires headed { IsHeaded text.now }
+    ensures { IsFormat text.now result }
+{
+    version_of(place_of(text, 1).line)
+}
+
+// What is wrong with the refused record.
+fn why_of<'a>(text: &'a [u8], refusal: Refusal, line: &'a [u8]) -> Option<Why<'a>>
+    requires few { length text.now < 2 ^ 32 - 1 }
+    requires part { length line.now ≤ length text.now }
+    requires refused { reading_of text.now ≡ Err refusal }
+    requires place { IsRecord (file_lines text.now) refusal.at line.now }
+    ensures { MatchOption result (is_told refusal.code ≡ false) (Tells refusal.code text.now refusal.at line.now) }
+{
+    match refusal.code {
+        Code::Header => Some(header_why(line)),
+        Code::Kind => Some(Why::NoKind {
+            version: format_of(text),
+            found: field(line, 0),
+        }),
+        Code::Fields | Code::Number | Code::Address | Code::Mask => {
+            Some(record_why(refusal.code, format_of(text), line))
+        }
+        Code::NoEnd => Some(Why::NoEnd),
+        Code::After => Some(Why::After {
+            end: place_of(text, refusal.at - 1).number,
+        }),
+        Code::Repeat | Code::Unknown | Code::Count | Code::Box => None,
+    }
+}
+
+/// What is wrong with a refused text. None comes exactly for the codes Repeat, Unknown, Count and Box.
+///
+/// It looks at one record again, and at what stands before it.
+pub fn explain(text: &[u8], refusal: Refusal) -> Option<Fault<'_>>
+    requires few { length text.now < 2 ^ 32 - 1 }
+    requires refused { reading_of text.now ≡ Err refusal }
+    ensures { Explained text.now refusal result }
+{
+    let place = place_of(text, refusal.at);
+    match why_of(text, refusal, place.line) {
+        Some(why) => Some(Fault {
+            line: place.number,
+            why,
+        }),
+        None => None,
+    }
+}

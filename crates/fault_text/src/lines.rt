@@ -1,0 +1,99 @@
+// The lines of a file, and the records in them.
+ghost use Rattle.std.specs.Prelude.{◌≡◌, ◌≤◌, ◌<◌, ◌-◌, ◌^◌, ◌∷◌, [], ℕ, List, false, length, map};
+ghost use Rattle.csv.specs.Reading.{strip_bom};
+ghost use Rattle.enc_file.specs.Records.{records_of};
+ghost use Rattle.fault_text.specs.Lines.{BeginsWithEnd, Stands, fields_in, file_lines, lines_after, written};
+
+use memchr::memchr2;
+
+const LINE_FEED: u8 = b'\n';
+
+const CARRIAGE_RETURN: u8 = b'\r';
+
+// The byte order mark of UTF-8.
+const MARK: [u8; 3] = [0xEF, 0xBB, 0xBF];
+
+/// A law: the records of a text are its lines that aren't blank. The fields of a record stand between the commas of its
+/// line.
+pub fn records_law()
+    ensures { (text : List ℕ) → records_of text ≡ map fields_in (written (file_lines text)) }
+{}
+
+/// Where a record stands in a file.
+#[derive(Clone, Copy)]
+pub(crate) struct Place<'a> {
+    /// The number of its line, from 1, blank lines counted. Where there is no such record, it is one more than the line
+    /// of the last record.
+    pub(crate) number: u32,
+    /// The line, without its end; empty where there is no such record.
+    pub(crate) line: &'a [u8],
+}
+
+// A text without a byte order mark at its start.
+fn unmarked(text: &[u8]) -> &[u8]
+    ensures bare { result.now ≡ strip_bom text.now }
+    ensures short { length result.now ≤ length text.now }
+{
+    match text.strip_prefix(&MARK) {
+        Some(rest) => rest,
+        None => text,
+    }
+}
+
+// What stands behind the end of a line. The bytes begin with that end.
+fn behind_end(bytes: &[u8]) -> &[u8]
+    requires { BeginsWithEnd bytes.now }
+    ensures lines { lines_after false bytes.now ≡ [] ∷ lines_after false result.now }
+    ensures shorter { length result.now < length bytes.now }
+{
+    match bytes {
+        [CARRIAGE_RETURN, LINE_FEED, rest @ ..] => rest,
+        [_, rest @ ..] => rest,
+        [] => bytes,
+    }
+}
+
+// The first line, without its end, and what stands behind that end.
+fn cut(bytes: &[u8]) -> (&[u8], &[u8])
+    requires { 0 < length bytes.now }
+    ensures first { lines_after false bytes.now ≡ result.0.now ∷ lines_after false result.1.now }
+    ensures part { length result.0.now ≤ length bytes.now }
+    ensures shorter { length result.1.now < length bytes.now }
+{
+    match memchr2(LINE_FEED, CARRIAGE_RETURN, bytes) {
+        Some(at) => {
+            let (line, rest) = bytes.split_at(at);
+            (line, behind_end(rest))
+        }
+        None => (bytes, &[]),
+    }
+}
+
+/// Where the record with the number `at` stands in a file. Records are counted from 1.
+pub(crate) fn place_of(text: &[u8], at: u32) -> Place<'_>
+    requires few { length text.now < 2 ^ 32 - 1 }
+    requires counted { 1 ≤ at }
+    ensures place { Stands (file_lines text.now) at result.number result.line.now }
+    ensures part { length result.line.now ≤ length text.now }
+{
+    let mut rest = unmarked(text);
+    let mut number = 1;
+    let mut behind = 1;
+    let mut left = at;
+    while !rest.is_empty() {
+        let (line, after) = cut(rest);
+        if !line.is_empty() {
+            if left == 1 {
+                return Place { number, line };
+            }
+            left -= 1;
+            behind = number + 1;
+        }
+        number += 1;
+        rest = after;
+    }
+    Place {
+        number: behind,
+        line: rest,
+    }
+}

@@ -1,0 +1,207 @@
+// The sentence of a fault.
+ghost use Rattle.std.specs.Prelude.{◌≡◌, ◌+◌, ◌≤◌, ◌++◌, length};
+ghost use Rattle.fault_text.specs.Sentences.{field_count_text, fields_text, form_text, found_text, is_later_word, kinds_text, no_kind_text, range_text, sentence, unit_text, wanted, why_text};
+
+use crate::fault::{Fault, Why};
+use crate::hints::{address_hint, number_hint};
+use crate::names::{Content, FieldName, RecordKind};
+use crate::shown::add_shown;
+use acas_text::{LINE_BYTES, Line};
+
+fn unit_text(name: FieldName) -> &'static str
+    ensures text { result.now ≡ unit_text name }
+    ensures short { length result.now ≤ 7 }
+{
+    match name {
+        FieldName::Ground | FieldName::X | FieldName::Y | FieldName::Alt | FieldName::Limit =>
+            " ft",
+        FieldName::Vx | FieldName::Vy => " ft/s",
+        FieldName::Vz => " ft/min",
+        _ => "",
+    }
+}
+
+// Adds the numbers of a range.
+fn add_range(line: &mut Line, low: i32, high: i32)
+    requires { length line.old + 26 ≤ LINE_BYTES }
+    ensures added { line.new ≡ line.old ++ range_text low high }
+    ensures short { length line.new ≤ length line.old + 26 }
+{
+    line.i32(low);
+    line.text(" to ");
+    line.i32(high);
+}
+
+// Adds what has to stand in a field.
+fn add_wanted(line: &mut Line, name: FieldName, content: Content, found: &[u8])
+    requires { length line.old + 100 ≤ LINE_BYTES }
+    ensures added { line.new ≡ line.old ++ wanted name content found.now }
+    ensures short { length line.new ≤ length line.old + 100 }
+{
+    match content {
+        Content::Whole { low, high } => {
+            line.text("a whole number from ");
+            add_range(line, low, high);
+            line.text(unit_text(name));
+            line.text(number_hint(found));
+        }
+        Content::Kind => line.text("RA, TA or XPDR"),
+        Content::Mask => line.text("two digits 0-9A-F"),
+        Content::Address => line.text("an address"),
+    }
+}
+
+fn form_text(kind: RecordKind) -> &'static str
+    ensures text { result.now ≡ form_text kind }
+    ensures short { length result.now ≤ 70 }
+{
+    match kind {
+        RecordKind::Run => "run,CYCLES,GROUND",
+        RecordKind::Gains => "gains,ALPHA,BETA,ALPHA,BETA",
+        RecordKind::Craft => "craft,ADDRESS,KIND,X,Y,ALT",
+        RecordKind::Climb => "climb,ADDRESS,LIMIT",
+        RecordKind::Leg => "leg,ADDRESS,FROM,VX,VY,VZ",
+        RecordKind::Miss => "miss,OWN,TARGET,FROM,TO",
+        RecordKind::Plan => "plan,SENDER,RECEIVER and none to three copies HOLD,MASK",
+        RecordKind::Fate => "fate,SENDER,RECEIVER,NUMBER and none to three copies HOLD,MASK",
+        RecordKind::End => "end",
+    }
+}
+
+// Whether a word names a kind that format 2 alone has, and the format is 1.
+fn is_later_word(version: u8, found: &[u8]) -> bool
+    ensures { result ≡ is_later_word version found.now }
+{
+    if version != 1 {
+        return false;
+    }
+    found == b"climb".as_slice() || found == b"plan".as_slice()
+}
+
+fn kinds_text(version: u8) -> &'static str
+    ensures text { result.now ≡ kinds_text version }
+    ensures short { length result.now ≤ 100 }
+{
+    if version == 1 {
+        return " is no kind of record of format 1 (run, gains, craft, leg, miss, fate, end)";
+    }
+    " is no kind of record of format 2 (run, gains, craft, climb, leg, miss, plan, fate, end)"
+}
+
+// What is said of a word that names no kind of the format.
+fn no_kind_text(version: u8, found: &[u8]) -> &'static str
+    ensures text { result.now ≡ no_kind_text version found.now }
+    ensures short { length result.now ≤ 100 }
+{
+    if found == b"encounter".as_slice() {
+        return " can only be the first record";
+    }
+    if is_later_word(version, found) {
+        return " is a kind of record of format 2 alone; the first record is \"encounter,1\"";
+    }
+    kinds_text(version)
+}
+
+fn fields_text(count: u32) -> &'static str
+    ensures text { result.now ≡ fields_text count }
+    ensures short { length result.now ≤ 30 }
+{
+    if count == 1 {
+        return " field here, and has to be ";
+    }
+    " fields here, and has to be "
+}
+
+// Adds that a record hasn't so many fields.
+fn add_field_count(line: &mut Line, kind: RecordKind, count: u32)
+    requires { length line.old + 270 ≤ LINE_BYTES }
+    ensures added { line.new ≡ line.old ++ field_count_text kind count }
+    ensures short { length line.new ≤ length line.old + 270 }
+{
+    line.text(kind.word());
+    line.text(" has ");
+    line.u32(count);
+    line.text(fields_text(count));
+    line.text(form_text(kind));
+}
+
+// Adds a field and what stands there.
+fn add_found(line: &mut Line, name: FieldName, found: &[u8])
+    requires { length line.old + 176 ≤ LINE_BYTES }
+    ensures added { line.new ≡ line.old ++ found_text name found.now }
+    ensures short { length line.new ≤ length line.old + 176 }
+{
+    line.text(name.text());
+    line.text(" is ");
+    add_shown(line, found);
+}
+
+// Adds what is wrong.
+fn add_why(line: &mut Line, why: &Why<'_>)
+    requires { length line.old + 300 ≤ LINE_BYTES }
+    ensures added { line.new ≡ line.old ++ why_text why.now }
+    ensures short { length line.new ≤ length line.old + 300 }
+{
+    match *why {
+        Why::NoRecord => {
+            line.text(
+                "there is no record; the first one has to be \"encounter,1\" or \"encounter,2\"",
+            );
+        }
+        Why::NoHeader { found } => {
+            line.text("the first record has to be \"encounter,1\" or \"encounter,2\", and is ");
+            add_shown(line, found);
+        }
+        Why::NoKind { version, found } => {
+            add_shown(line, found);
+            line.text(no_kind_text(version, found));
+        }
+        Why::FieldCount { kind, count } => add_field_count(line, kind, count),
+        Why::NoValue { name, found } => {
+            add_found(line, name, found);
+            line.text(", and has to be ");
+            add_wanted(line, name, name.content(), found);
+        }
+        Why::Turned { from, to } => {
+            line.text("TO is ");
+            line.u16(to);
+            line.text(", and may not be below FROM, ");
+            line.u16(from);
+        }
+        Why::NoAddress { name, found } => {
+            add_found(line, name, found);
+            line.text(", and has to be an address: six digits 0-9A-F");
+            line.text(address_hint(found));
+        }
+        Why::ManyBits { name, found, bits } => {
+            add_found(line, name, found);
+            line.text(": ");
+            line.u32(bits);
+            line.text(" of its bits are 1, and at most three may be");
+        }
+        Why::NoEnd => {
+            line.text(
+                "the last record has to be \"end\", and there is none; was the text cut off?",
+            );
+        }
+        Why::After { end } => {
+            line.text("a record after \"end\", which is in line ");
+            line.u32(end);
+        }
+    }
+}
+
+impl Fault<'_> {
+    /// The line that tells it.
+    pub fn sentence(&self) -> Line
+        ensures { result ≡ sentence self.now }
+    {
+        let mut line = Line::new();
+        line.text("line ");
+        line.u32(self.line);
+        line.text(": ");
+        add_why(&mut line, &self.why);
+        line.text("\n");
+        line
+    }
+}
