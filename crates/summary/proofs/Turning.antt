@@ -1,7 +1,6 @@
 -- What a change of sense is told by.
-use Rattle.std.proofs.Common.{◌≡◌, ◌≢◌, ℕ, ◌+◌, Bool, true, false, not, ◌&&◌, cond, List, ◌∷◌, Option, Some, None, is_some, refl, sym, ap, ◌∙◌, subst}
+use Rattle.std.proofs.Common.{◌≡◌, ◌≢◌, ℕ, ◌+◌, Bool, true, false, not, ◌&&◌, List, ◌∷◌, Option, Some, None, is_some, refl, sym, ap, ◌∙◌, subst}
 use Rattle.std.specs.Prelude.{option_map}
-use Rattle.std.specs.Option.{option_and_then}
 use Rattle.std.proofs.lemmas.Bool.{cond_both}
 use Rattle.acas_base.specs.Complements.{forbidden_sense}
 use Rattle.acas_base.specs.Next.{cell_after, changes_sense, continuation_of, continuing_cell, ends, following_cell, reversal_of, traffic_cell}
@@ -23,13 +22,12 @@ use Rattle.air_rules.proofs.Legal.{allowed, legal-begins}
 use Rattle.air_rules.specs.Air.{Air, rank_of}
 use Rattle.air_rules.specs.Journal.{Begins, cell_at, commits, last_cell}
 use Rattle.air_rules.specs.Rules.{IsLegal}
-use Rattle.air_rules.specs.Takes.{Taken, complement_from, last_take, vrc_in_force}
+use Rattle.air_rules.specs.Takes.{Taken, complement_from, vrc_in_force}
 use Rattle.journal_reader.proofs.Keeping.{position-is, take-is}
 use Rattle.journal_reader.specs.Links.{good_take}
 use Rattle.journal_reader.specs.Reading.{taken_at, taken_of}
 use Rattle.journal_reader.specs.declared.links.GoodTake.{GoodTake}
 use Rattle.summary.specs.Laws.{HasTrueTurns, IsTurn}
-use Rattle.summary.specs.Lines.{is_reversed}
 use Rattle.summary.specs.Stretches.{told_by, told_of}
 
 -- ---- a message in force is named

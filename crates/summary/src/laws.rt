@@ -6,9 +6,9 @@ ghost use Rattle.air_rules.specs.Air.{Air};
 ghost use Rattle.air_rules.specs.Rules.{IsLegal};
 ghost use Rattle.summary.specs.Laws.{AreInOrder, AreStretches, HasTrueTurns};
 
-/// A law: the stretches of an aircraft against another one begin, in order, with exactly those of its cycles that show
-/// something else than nothing and than the cycle before. Each goes on as long as the same is shown. The message that it
-/// names is the one in force just before the commit with which it begins.
+/// A law: the stretches of an aircraft against another one begin, in order, with exactly those of its cycles that
+/// show something else than nothing and than the cycle before. Each goes on as long as the same is shown. The message
+/// that it names is the one in force just before the commit with which it begins.
 pub fn stretches_law()
     ensures { (air : Air) (journal : List Entry) → IsLegal air journal → (own other : ℕ) → AreStretches air journal own other }
 {}
