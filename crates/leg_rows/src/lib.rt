@@ -1,0 +1,9 @@
+//! Places second by second to legs, and an aircraft's legs to its places.
+#![tactic(auto)]
+
+mod places;
+mod rates;
+mod rows;
+
+pub use places::places_of;
+pub use rows::{add_legs, first_excess, legs_law};
