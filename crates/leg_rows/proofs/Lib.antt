@@ -1,2 +1,4 @@
 pub mod Needed
 pub mod Through
+pub mod Together
+pub mod OneFlight
