@@ -1,0 +1,3 @@
+pub mod Spans
+pub mod Placed
+pub mod Halves

@@ -1,0 +1,169 @@
+// The track of one aircraft, and its places second by second.
+ghost use Rattle.std.specs.Prelude.{◌≡◌, ◌↔◌, ◌<◌, ◌≤◌, ◌^◌, ℕ, List, Some, All, IfOk, pos, ◌-ℤ◌, ◌<ℤ◌, ◌≤ℤ◌, unsigned_abs, length, map, true, false, IsTrue};
+ghost use Rattle.std.specs.List.{list_any, range_with_len};
+ghost use Rattle.std.specs.List.Sorted.{IsPartitionPoint};
+ghost use Rattle.acas_base.specs.Ranges.{IsCycle, IsWithin};
+ghost use Rattle.flight.specs.Inside.{IsInBox};
+ghost use Rattle.track_file.specs.Rounding.{mean, nearest};
+ghost use Rattle.track_file.specs.Track.{IsPoint, IsTime, IsCovered, IsNearTrack, IsTrack, covers, first_from, is_by, is_from, last_by, rounded, rounded_between, time_of, unit_of};
+ghost use Rattle.track_file.specs.declared.track.Point.{Point};
+
+use crate::rounding::mean;
+use flight::Place;
+use std::alloc::{AllocError, Global};
+
+/// A point of a track: where an aircraft was `ms` milliseconds after cycle 1, or before it where `ms` is below 0. `x` and
+/// `y` are in ft, and the altitude `z` in 1/60 ft.
+#[derive(Clone, Copy, Debug, PartialEq, Eq)]
+pub struct Point {
+    pub ms: i32,
+    pub x: i32,
+    pub y: i32,
+    pub z: i32,
+}
+
+// The points of a track around a time. They are one point where it is at that time.
+#[derive(Clone, Copy, Debug)]
+struct Span {
+    before: Point,
+    after: Point,
+}
+
+// The time of a cycle, in ms after cycle 1.
+fn time_of(cycle: u16) -> i32
+    requires { IsCycle cycle }
+    ensures value { result ≡ time_of cycle }
+    ensures in_run { IsTime result }
+{
+    (1000 * u32::from(cycle - 1)) as i32
+}
+
+// How many points are at a time or before it.
+fn count_by(points: &[Point], time: i32) -> usize
+    requires { IsTrack points.now }
+    ensures bound { result ≤ length points.now }
+    ensures parted { IsPartitionPoint (λ p. is_by time p ≡ true) (λ p. is_by time p ≡ false) points.now result }
+{
+    points.partition_point(|point| point.ms <= time)
+}
+
+// The last point at a time or before it, and the first one at the time or after it.
+fn around(points: &[Point], time: i32) -> Span
+    requires track { IsTrack points.now }
+    requires some_by { list_any (is_by time) points.now ≡ true }
+    requires some_from { list_any (is_from time) points.now ≡ true }
+    ensures before { last_by points.now time ≡ Some result.before }
+    ensures after { first_from points.now time ≡ Some result.after }
+    ensures first { result.before.ms ≤ℤ time }
+    ensures last { time ≤ℤ result.after.ms }
+    ensures from_range { IsPoint result.before }
+    ensures to_range { IsPoint result.after }
+{
+    let count = count_by(points, time);
+    let before = points[count - 1];
+    if time <= before.ms {
+        return Span {
+            before,
+            after: before,
+        };
+    }
+    Span {
+        before,
+        after: points[count],
+    }
+}
+
+// How far two times are apart.
+fn apart(a: i32, b: i32) -> u32
+    requires a { IsWithin 1000000 a }
+    requires b { IsWithin 1000000 b }
+    ensures value { result ≡ unsigned_abs (a -ℤ b) }
+    ensures bound { result ≤ 2 ^ 22 }
+{
+    a.abs_diff(b)
+}
+
+// One coordinate between two values, each with a weight, rounded to a unit.
+fn coordinate(first: i32, weight: u32, second: i32, other: u32, unit: u8) -> i64
+    requires first { unsigned_abs first ≤ 2 ^ 22 }
+    requires second { unsigned_abs second ≤ 2 ^ 22 }
+    requires weight { weight ≤ 2 ^ 22 }
+    requires other { other ≤ 2 ^ 22 }
+    requires unit { 0 < unit }
+    requires small { unit ≤ 60 }
+    ensures { result ≡ nearest unit (mean first weight second other) }
+{
+    mean(first, weight, second, other).nearest(unit)
+}
+
+// The place in a cycle between two points.
+fn rounded_between(span: &Span, cycle: u16) -> Place
+    requires from { IsPoint span.now.before }
+    requires to { IsPoint span.now.after }
+    requires cycle { IsCycle cycle }
+    ensures value { result ≡ rounded_between span.now.before span.now.after cycle }
+    ensures in_box { IsInBox result }
+{
+    let time = time_of(cycle);
+    let (before, after) = (span.before, span.after);
+    let weight = apart(after.ms, time);
+    let other = apart(time, before.ms);
+    Place {
+        x: coordinate(before.x, weight, after.x, other, 1),
+        y: coordinate(before.y, weight, after.y, other, 1),
+        z: coordinate(before.z, weight, after.z, other, unit_of(cycle)),
+    }
+}
+
+// The unit of the altitude in a cycle, in 1/60 ft.
+fn unit_of(cycle: u16) -> u8
+    ensures value { result ≡ unit_of cycle }
+    ensures some { 0 < result }
+    ensures small { result ≤ 60 }
+{
+    if cycle == 1 { 60 } else { 1 }
+}
+
+// Whether some point is at a time or before it.
+fn some_by(points: &[Point], time: i32) -> bool
+    ensures { result ≡ list_any (is_by time) points.now }
+{
+    points.iter().any(|point| point.ms <= time)
+}
+
+// Whether some point is at a time or after it.
+fn some_from(points: &[Point], time: i32) -> bool
+    ensures { result ≡ list_any (is_from time) points.now }
+{
+    points.iter().any(|point| time <= point.ms)
+}
+
+/// Whether a track covers a run of some cycles: it has a point at cycle 1 or before it, and one at the last cycle or after
+/// it.
+pub fn covers(points: &[Point], cycles: u16) -> bool
+    requires { IsCycle cycles }
+    ensures { result ≡ covers points.now cycles }
+{
+    some_by(points, 0) && some_from(points, time_of(cycles))
+}
+
+/// The place in a cycle, rounded. Between two points the track is straight. `x` and `y` are the nearest whole feet, and
+/// `z` the nearest 1/60 ft, the greater of two as near. In cycle 1 `z` is the whole foot that is nearest to the track
+/// itself, since an aircraft of an encounter begins at whole feet.
+pub fn rounded(points: &[Point], cycle: u16) -> Place
+    requires track { IsTrack points.now }
+    requires cycle { IsCycle cycle }
+    requires covered { IsCovered points.now cycle }
+    ensures value { result ≡ rounded points.now cycle }
+    ensures in_box { IsInBox result }
+{
+    rounded_between(&around(points, time_of(cycle)), cycle)
+}
+
+/// Laws of rounded places.
+///
+/// - `near`: each coordinate is the multiple of its unit that is nearest to the track, the greater of two as near. So it
+///   differs from the track by at most half a unit, in whatever cycle.
+pub fn rounding_law()
+    ensures near { (points : List Point) (cycle : ℕ) (a b : Point) → last_by points (time_of cycle) ≡ Some a → first_from points (time_of cycle) ≡ Some b → IsNearTrack a b cycle (rounded points cycle) }
+{}
