@@ -51,7 +51,7 @@ carried-none : (rate : Leg → ℤ) (legs : List Leg) (a : ℤ) → a +ℤ carri
 unfolding carried
 carried-none rate legs a = omega (arith, ints)
 
-same-place : (p q : Place) → p.x ≡ q.x → p.y ≡ q.y → p.z ≡ q.z → p ≡ q
+pub same-place : (p q : Place) → p.x ≡ q.x → p.y ≡ q.y → p.z ≡ q.z → p ≡ q
 same-place p q x y z = grind arith
 
 begins-there : (start : Place) (legs : List Leg) → place_in start legs 1 ≡ start

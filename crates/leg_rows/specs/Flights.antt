@@ -1,11 +1,13 @@
 -- The legs of all aircraft of an encounter.
-use Rattle.std.specs.Prelude.{◌≡◌, ℕ, ◌+◌, ◌<◌, ◌≤◌, pos, List, [], ◌∷◌, ◌++◌, All, length, map, slice_index_or}
-use Rattle.acas_base.specs.Encounter.{Parts}
+use Rattle.std.specs.Prelude.{◌*ℤ◌, ◌≡◌, ℕ, ◌+◌, ◌<◌, ◌≤◌, pos, List, [], ◌∷◌, ◌++◌, All, length, map, slice_index_or}
+use Rattle.std.specs.Int.{int_div_euclid}
+use Rattle.acas_base.specs.Encounter.{Parts, encounter_of}
 use Rattle.acas_base.specs.declared.craft.CraftSpec.{CraftSpec}
 use Rattle.acas_base.specs.declared.craft.Leg.{Leg}
 use Rattle.flight.specs.Flight.{legs_of, position, start_of}
+use Rattle.flight.specs.Inside.{IsInBox}
 use Rattle.flight.specs.declared.place.Place.{Place}
-use Rattle.leg_rows.specs.Rows.{AreNeeded, at_rest, legs_through, place_of}
+use Rattle.leg_rows.specs.Rows.{AreFlyable, AreNeeded, at_rest, legs_through, place_of}
 
 -- The legs of aircraft from an index on, each through its places.
 abbrev pub legs_from : ℕ → List (List Place) → List Leg
@@ -21,6 +23,36 @@ pub record AreRows (e : Parts) (rows : List (List Place)) : Type 0 where
   pub count : length rows ≡ length e.crafts
   pub long : All (λ places. length places ≡ e.cycles) rows
   pub start : (craft : ℕ) (d : CraftSpec) → craft < length rows → start_of (slice_index_or e.crafts craft d) ≡ place_of (slice_index_or rows craft []) 1
+
+-- An aircraft begins at whole feet.
+abbrev pub IsWholeFoot : Place → Type 0
+IsWholeFoot place = pos 60 *ℤ int_div_euclid place.z (pos 60) ≡ place.z
+
+-- Rows through which the aircraft of an encounter can fly: one for each, with a place in the box for each cycle of the
+-- run, the first at whole feet. A leg can lead from each place to the next.
+pub record CanFly (e : Parts) (rows : List (List Place)) : Type 0 where
+  pub count : length rows ≡ length e.crafts
+  pub long : All (λ places. length places ≡ e.cycles) rows
+  pub boxed : All (All IsInBox) rows
+  pub feet : All (λ places. IsWholeFoot (place_of places 1)) rows
+  pub flyable : All AreFlyable rows
+
+-- An aircraft that begins at a place.
+abbrev pub at_place : CraftSpec → Place → CraftSpec
+at_place craft place = record {
+  address = craft.address;
+  kind = craft.kind;
+  x = place.x;
+  y = place.y;
+  alt = int_div_euclid place.z (pos 60);
+  ceiling = craft.ceiling;
+}
+
+-- The aircraft, each at the first place of its row.
+abbrev pub crafts_at : List CraftSpec → List (List Place) → List CraftSpec
+crafts_at [] rows = []
+crafts_at (craft ∷ crafts) [] = []
+crafts_at (craft ∷ crafts) (places ∷ rows) = at_place craft (place_of places 1) ∷ crafts_at crafts rows
 
 -- Each leg of an encounter is needed. No leg has the rates of the leg before it, and an aircraft's first leg isn't a leg
 -- of rest. All legs begin before the last cycle.
@@ -46,3 +78,13 @@ pub record AreAlike (d e : Parts) : Type 0 where
 -- Each aircraft is at one place in both, in each cycle of the run.
 abbrev pub FlyAlike : Parts → Parts → Type 0
 FlyAlike d e = (craft cycle : ℕ) → craft < length e.crafts → 1 ≤ cycle → cycle ≤ e.cycles → position d craft cycle ≡ position e craft cycle
+
+-- The encounter that is like another one, but whose aircraft fly through these rows.
+abbrev pub flown_by : Parts → List (List Place) → Parts
+flown_by e rows = encounter_of e.version e.cycles e.elevation e.range e.altitude (crafts_at e.crafts rows) (legs_of_all rows) e.misses e.plans e.fates
+
+-- This encounter is like another one, but its aircraft fly through these rows, each leg of it being needed.
+pub record FliesThrough (e like : Parts) (rows : List (List Place)) : Type 0 where
+  pub alike : AreAlike e like
+  pub needed : HasNeededLegs e
+  pub place : (craft cycle : ℕ) → craft < length like.crafts → 1 ≤ cycle → cycle ≤ like.cycles → position e craft cycle ≡ place_of (slice_index_or rows craft []) cycle

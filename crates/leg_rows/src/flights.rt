@@ -6,11 +6,12 @@ ghost use Rattle.acas_base.specs.declared.TheConstants.{CRAFTS};
 ghost use Rattle.flight.specs.Bounds.{IsReachable};
 ghost use Rattle.flight.specs.Flight.{position};
 ghost use Rattle.flight.specs.declared.place.Place.{Place};
-ghost use Rattle.leg_rows.specs.Flights.{AreAlike, AreRows, FlyAlike, HasNeededLegs, legs_of_all};
+ghost use Rattle.leg_rows.specs.Flights.{AreAlike, AreRows, CanFly, FliesThrough, FlyAlike, HasNeededLegs, flown_by, legs_of_all};
 ghost use Rattle.leg_rows.specs.Rows.{AreFlyable, place_of};
 
 use crate::rows::add_legs;
-use acas_base::Leg;
+use crate::starts::crafts_at;
+use acas_base::{Encounter, Leg};
 use flight::Place;
 use std::alloc::{AllocError, Global};
 
@@ -29,6 +30,37 @@ pub fn legs_of_all(alloc: Global, rows: &[Vec<Place>]) -> Result<Vec<Leg>, Alloc
         add_legs(&mut legs, craft as u8, rows[craft].as_slice())?;
     }
     Ok(legs)
+}
+
+/// The encounter that is like another one, but whose aircraft fly through these rows, as [`legs_of_all`] has them. The
+/// error says that memory was wanting.
+///
+/// By [`flights_law`] it is the only such encounter in which each leg is needed.
+pub fn fly_through(
+    alloc: Global,
+    encounter: &Encounter,
+    rows: &[Vec<Place>],
+) -> Result<Encounter, AllocError>
+    requires { CanFly encounter.now (map (λ row. row.items) rows.now) }
+    ensures value { IfOk result (λ made. made ≡ flown_by encounter.now (map (λ row. row.items) rows.now)) }
+    ensures flies { IfOk result (λ made. FliesThrough made encounter.now (map (λ row. row.items) rows.now)) }
+{
+    let made = Encounter::make(
+        encounter.version(),
+        encounter.cycles(),
+        encounter.ground(),
+        encounter.range_gains(),
+        encounter.altitude_gains(),
+        crafts_at(alloc, encounter.crafts(), rows)?,
+        legs_of_all(alloc, rows)?,
+        Vec::from_slice(alloc, encounter.misses())?,
+        Vec::from_slice(alloc, encounter.plans())?,
+        Vec::from_slice(alloc, encounter.fates())?,
+    );
+    match made {
+        Some(made) => Ok(made),
+        None => unreachable!(),
+    }
 }
 
 /// Laws of the legs that lead all aircraft of an encounter through their places.
