@@ -10,7 +10,7 @@ use Rattle.std.proofs.lemmas.List.{get_or-reverse, length-reverse}
 use Rattle.track_file.specs.Track.{IsTrack, first_from, is_by, is_from, last_by}
 use Rattle.track_file.specs.declared.track.Point.{Point}
 
-order-tested : (a b : ℤ) → Decides (int_le a b) (a ≤ℤ b)
+pub order-tested : (a b : ℤ) → Decides (int_le a b) (a ≤ℤ b)
 order-tested a b = search rules
 
 -- Later points have later times.
@@ -39,7 +39,7 @@ find-at test (x ∷ xs) zero d within earlier here = rw here refl
 find-at test (x ∷ xs) (suc n) d within earlier here = rw (earlier 0 (omega arith)) (find-at test xs n d (omega arith) (λ k h. earlier (suc k) (omega arith)) here)
 
 -- Some element passes.
-any-at : {X : Type 0} (test : X → Bool) (xs : List X) (d : X) → list_any test xs ≡ true → (k : ℕ) × ((k < length xs) × (test (get_or xs k d) ≡ true))
+pub any-at : {X : Type 0} (test : X → Bool) (xs : List X) (d : X) → list_any test xs ≡ true → (k : ℕ) × ((k < length xs) × (test (get_or xs k d) ≡ true))
 any-at test [] d some = absurd (false≢true some)
 any-at test (x ∷ xs) d some = elim (or_cases (test x) (list_any test xs) some) [
   | inl h ↦ (0, (omega arith, h))

@@ -1,7 +1,9 @@
 //! Recorded tracks, and the encounter whose aircraft fly along them.
 #![tactic(auto)]
 
+mod along;
 mod rounding;
 mod track;
 
+pub use along::{TrackFault, fly_along, rounded_places};
 pub use track::{Point, covers, rounded, rounding_law};
