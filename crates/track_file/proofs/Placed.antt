@@ -61,9 +61,9 @@ between-boxed a b cycle from to =
     let w = unsigned_abs (b.ms -ℤ time_of cycle) in
     let o = unsigned_abs (time_of cycle -ℤ a.ms) in
     record {
-      x = rounded-between-bounds 1 w o (neg_ℤ (pos 1000000)) (pos 1000000) a.x b.x (omega arith) from.x.0 to.x.0 from.x.1 to.x.1;
-      y = rounded-between-bounds 1 w o (neg_ℤ (pos 1000000)) (pos 1000000) a.y b.y (omega arith) from.y.0 to.y.0 from.y.1 to.y.1;
+      x = rounded-between-bounds 1 w o (neg_ℤ (pos 1000000)) (pos 1000000) a.x b.x (omega arith) from.place.x.0 to.place.x.0 from.place.x.1 to.place.x.1;
+      y = rounded-between-bounds 1 w o (neg_ℤ (pos 1000000)) (pos 1000000) a.y b.y (omega arith) from.place.y.0 to.place.y.0 from.place.y.1 to.place.y.1;
       z = cond_both (cycle == 1) 60 1 (λ n. IsBetween (neg_ℤ (pos 60000)) (pos 3600000) (nearest n (on_line (λ p. p.z) a b (time_of cycle))))
-          (λ _. rounded-between-bounds 60 w o (neg_ℤ (pos 1000)) (pos 60000) a.z b.z (omega arith) from.z.0 to.z.0 from.z.1 to.z.1)
-          (λ _. rounded-between-bounds 1 w o (neg_ℤ (pos 60000)) (pos 3600000) a.z b.z (omega arith) from.z.0 to.z.0 from.z.1 to.z.1);
+          (λ _. rounded-between-bounds 60 w o (neg_ℤ (pos 1000)) (pos 60000) a.z b.z (omega arith) from.place.z.0 to.place.z.0 from.place.z.1 to.place.z.1)
+          (λ _. rounded-between-bounds 1 w o (neg_ℤ (pos 60000)) (pos 3600000) a.z b.z (omega arith) from.place.z.0 to.place.z.0 from.place.z.1 to.place.z.1);
     }

@@ -9,12 +9,16 @@ use Rattle.track_file.specs.Rounding.{IsNear, mean, nearest}
 use Rattle.track_file.specs.declared.rounding.Fraction.{Fraction}
 use Rattle.track_file.specs.declared.track.Point.{Point}
 
--- At most 1,000 s from cycle 1, and in the box.
-pub record IsPoint (p : Point) : Type 0 where
-  pub ms : IsWithin 1000000 p.ms
+-- The place of a point is in the box.
+pub record IsPlaced (p : Point) : Type 0 where
   pub x : IsWithin 1000000 p.x
   pub y : IsWithin 1000000 p.y
   pub z : IsBetween (neg_ℤ (pos 60000)) (pos 3600000) p.z
+
+-- A point of a track: at most 1,000 s from cycle 1, and in the box.
+pub record IsPoint (p : Point) : Type 0 where
+  pub ms : IsWithin 1000000 p.ms
+  pub place : IsPlaced p
 
 -- Points at rising times.
 pub record IsTrack (points : List Point) : Type 0 where

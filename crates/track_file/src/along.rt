@@ -1,5 +1,5 @@
 // An encounter whose aircraft fly along recorded tracks.
-ghost use Rattle.std.specs.Prelude.{◌≡◌, ◌<◌, ◌≤◌, ℕ, List, [], All, IfErr, IfOk, IfSome, IsNone, true, false, length, map, slice_index_or};
+ghost use Rattle.std.specs.Prelude.{◌≡◌, ◌↔◌, ◌<◌, ◌≤◌, ℕ, List, [], All, IfErr, IfOk, IfSome, IsNone, IsTrue, true, false, length, map, slice_index_or};
 ghost use Rattle.acas_base.specs.Ranges.{IsCycle};
 ghost use Rattle.acas_base.specs.declared.TheConstants.{CRAFTS};
 ghost use Rattle.flight.specs.Inside.{IsInBox};
@@ -8,7 +8,7 @@ ghost use Rattle.track_file.specs.Along.{CanBeFlown, FliesAlong, IsFaultOf, IsFa
 ghost use Rattle.track_file.specs.Track.{IsTrack, covers};
 ghost use Rattle.track_file.specs.declared.along.TrackFault.{TrackFault};
 
-use crate::track::{Point, covers, rounded};
+use crate::track::{Point, covers, is_track, rounded};
 use acas_base::Encounter;
 use flight::Place;
 use leg_rows::{first_excess, fly_through};
@@ -42,6 +42,18 @@ pub fn rounded_places(
         places.push(rounded(points, second + 1))?;
     }
     Ok(places)
+}
+
+/// Whether each of these lists of points is a track.
+pub fn are_tracks(tracks: &[Vec<Point>]) -> bool
+    ensures { IsTrue result ↔ All (λ points. IsTrack points.items) tracks.now }
+{
+    for craft in 0..tracks.len() {
+        if !is_track(tracks[craft].as_slice()) {
+            return false;
+        }
+    }
+    true
 }
 
 // The rounded places of all tracks.

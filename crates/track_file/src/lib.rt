@@ -5,5 +5,5 @@ mod along;
 mod rounding;
 mod track;
 
-pub use along::{TrackFault, fly_along, rounded_places};
-pub use track::{Point, covers, rounded, rounding_law};
+pub use along::{TrackFault, are_tracks, fly_along, rounded_places};
+pub use track::{Point, covers, is_track, rounded, rounding_law};

@@ -1,11 +1,11 @@
 // The track of one aircraft, and its places second by second.
 ghost use Rattle.std.specs.Prelude.{◌≡◌, ◌↔◌, ◌<◌, ◌≤◌, ◌^◌, ℕ, List, Some, All, IfOk, pos, ◌-ℤ◌, ◌<ℤ◌, ◌≤ℤ◌, unsigned_abs, length, map, true, false, IsTrue};
-ghost use Rattle.std.specs.List.{list_any, range_with_len};
+ghost use Rattle.std.specs.List.{AllAdjacentBelow, list_any};
 ghost use Rattle.std.specs.List.Sorted.{IsPartitionPoint};
-ghost use Rattle.acas_base.specs.Ranges.{IsCycle, IsWithin};
+ghost use Rattle.acas_base.specs.Ranges.{IsBetween, IsCycle, IsWithin};
 ghost use Rattle.flight.specs.Inside.{IsInBox};
 ghost use Rattle.track_file.specs.Rounding.{mean, nearest};
-ghost use Rattle.track_file.specs.Track.{IsPoint, IsTime, IsCovered, IsNearTrack, IsTrack, covers, first_from, is_by, is_from, last_by, rounded, rounded_between, time_of, unit_of};
+ghost use Rattle.track_file.specs.Track.{IsPlaced, IsPoint, IsTime, IsCovered, IsNearTrack, IsTrack, covers, first_from, is_by, is_from, last_by, rounded, rounded_between, time_of, unit_of};
 ghost use Rattle.track_file.specs.declared.track.Point.{Point};
 
 use crate::rounding::mean;
@@ -20,6 +20,48 @@ pub struct Point {
     pub x: i32,
     pub y: i32,
     pub z: i32,
+}
+
+fn is_between(low: i32, value: i32, high: i32) -> bool
+    ensures { IsTrue result ↔ IsBetween low high value }
+{
+    low <= value && value <= high
+}
+
+// Whether the place of a point is in the box.
+fn is_placed(point: &Point) -> bool
+    ensures { IsTrue result ↔ IsPlaced point.now }
+{
+    is_between(-1_000_000, point.x, 1_000_000)
+        && is_between(-1_000_000, point.y, 1_000_000)
+        && is_between(-60_000, point.z, 3_600_000)
+}
+
+fn is_point(point: &Point) -> bool
+    ensures { IsTrue result ↔ IsPoint point.now }
+{
+    is_between(-1_000_000, point.ms, 1_000_000) && is_placed(point)
+}
+
+fn are_points(points: &[Point]) -> bool
+    ensures { IsTrue result ↔ All IsPoint points.now }
+{
+    points.iter().all(|point| is_point(point))
+}
+
+// Whether each point is later than the one before it.
+fn are_rising(points: &[Point]) -> bool
+    ensures { IsTrue result ↔ AllAdjacentBelow (λ (a b : Point). a.ms <ℤ b.ms) points.now (length points.now) }
+{
+    points.is_sorted_by(|a, b| a.ms < b.ms)
+}
+
+/// Whether points are a track: their times rise, and are within 1,000 s of cycle 1; `x` and `y` are within 1,000,000 ft of
+/// zero, and the altitude is from -1,000 to 60,000 ft.
+pub fn is_track(points: &[Point]) -> bool
+    ensures { IsTrue result ↔ IsTrack points.now }
+{
+    are_points(points) && are_rising(points)
 }
 
 // The points of a track around a time. They are one point where it is at that time.

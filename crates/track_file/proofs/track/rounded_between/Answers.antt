@@ -17,11 +17,11 @@ returns-clause-value c =
     let z : FitsSigned w64 c.coordinate-3.result = search rules in
     same-place _ (rounded_between a b c.args.cycle)
     (coordinate-is c.coordinate.result c.time_of-time.result a.x b.x a.ms b.ms 1 1 c.apart-weight.result c.apart-other.result c.args.cycle x t
-    (fits-within _ _ a.x (omega arith) (omega arith) from.x) (fits-within _ _ b.x (omega arith) (omega arith) to.x) fa fb c.coordinate.ensures c.apart-weight.ensures.value c.apart-other.ensures.value c.time_of-time.ensures.value refl)
+    (fits-within _ _ a.x (omega arith) (omega arith) from.place.x) (fits-within _ _ b.x (omega arith) (omega arith) to.place.x) fa fb c.coordinate.ensures c.apart-weight.ensures.value c.apart-other.ensures.value c.time_of-time.ensures.value refl)
     (coordinate-is c.coordinate-2.result c.time_of-time.result a.y b.y a.ms b.ms 1 1 c.apart-weight.result c.apart-other.result c.args.cycle y t
-    (fits-within _ _ a.y (omega arith) (omega arith) from.y) (fits-within _ _ b.y (omega arith) (omega arith) to.y) fa fb c.coordinate-2.ensures c.apart-weight.ensures.value c.apart-other.ensures.value c.time_of-time.ensures.value refl)
+    (fits-within _ _ a.y (omega arith) (omega arith) from.place.y) (fits-within _ _ b.y (omega arith) (omega arith) to.place.y) fa fb c.coordinate-2.ensures c.apart-weight.ensures.value c.apart-other.ensures.value c.time_of-time.ensures.value refl)
     (coordinate-is c.coordinate-3.result c.time_of-time.result a.z b.z a.ms b.ms c.unit_of.result (unit_of c.args.cycle) c.apart-weight.result c.apart-other.result c.args.cycle z t
-    (fits-within _ _ a.z (omega arith) (omega arith) from.z) (fits-within _ _ b.z (omega arith) (omega arith) to.z) fa fb c.coordinate-3.ensures c.apart-weight.ensures.value c.apart-other.ensures.value c.time_of-time.ensures.value c.unit_of.ensures.value)
+    (fits-within _ _ a.z (omega arith) (omega arith) from.place.z) (fits-within _ _ b.z (omega arith) (omega arith) to.place.z) fa fb c.coordinate-3.ensures c.apart-weight.ensures.value c.apart-other.ensures.value c.time_of-time.ensures.value c.unit_of.ensures.value)
 
 pub returns-clause-in_box : goal.returns-clause-in_box
 returns-clause-in_box c = rw (returns-clause-value c) (between-boxed c.args.span.now.before c.args.span.now.after c.args.cycle c.requires.from c.requires.to)
