@@ -1,5 +1,5 @@
 -- The nearest multiple of a unit, and between which bounds it lies.
-use Rattle.std.proofs.Common.{◌≡◌, ℕ, zero, suc, ◌+◌, ◌*◌, ◌<◌, ◌≤◌, ℤ, pos, negsuc, neg_ℤ, ◌+ℤ◌, ◌*ℤ◌, arith, inl, inr, mul-le-mul_right}
+use Rattle.std.proofs.Common.{◌≡◌, ℕ, zero, suc, ◌+◌, ◌*◌, ◌<◌, ◌≤◌, ℤ, pos, negsuc, neg_ℤ, ◌+ℤ◌, ◌*ℤ◌, ◌∙◌, ap, arith, inl, inr, mul-le-mul_right, subst}
 use Rattle.std.specs.Prelude.{◌<ℤ◌, ◌≤ℤ◌}
 use Rattle.std.specs.Int.{int_div_euclid}
 use Rattle.std.proofs.lemmas.Bool.{cases_eq, eq-eqb, ne_eqb}
@@ -126,3 +126,29 @@ rounded-between-bounds unit weight other low high first second some l1 l2 h1 h2 
       by-unit unit low _ (low-kept unit f.bottom f.top low _ some above is (mean-low (pos unit *ℤ low) first second weight other l1 l2)),
       by-unit unit _ high (high-kept unit f.bottom f.top high _ some above is (mean-high (pos unit *ℤ high) first second weight other h1 h2)),
     )
+
+-- Two numbers that are the quotient are one.
+one-quotient : (a m q : ℤ) (n : ℕ) → (m *ℤ pos n) ≤ℤ a → a <ℤ ((m +ℤ pos 1) *ℤ pos n) → (q *ℤ pos n) ≤ℤ a → a <ℤ ((q +ℤ pos 1) *ℤ pos n) → m ≡ q
+one-quotient a m q n low high within no_more =
+    by_lt_z m q
+    (λ less. let more = times-more (m +ℤ pos 1) q n (omega (arith, ints, less)) in absurd (omega (arith, ints, more, high, within)))
+    (λ least. by_lt_z q m
+    (λ less. let more = times-more (q +ℤ pos 1) m n (omega (arith, ints, less)) in absurd (omega (arith, ints, more, low, no_more)))
+    (λ most. omega (arith, ints, least, most)))
+
+-- No other multiple of the unit is near.
+pub near-only : (unit : ℕ) (f : Fraction) (n : ℤ) → 0 < unit → 0 < f.bottom → IsNear unit f (pos unit *ℤ n) → pos unit *ℤ n ≡ nearest unit f
+near-only unit f n some above near =
+    let q = int_div_euclid ((pos 2 *ℤ f.top) +ℤ pos (unit * f.bottom)) (pos (2 * (unit * f.bottom))) in
+    let is = nearest-quotient unit f some above in
+    let same = scaled unit f.bottom n in
+    let next = next-times n (unit * f.bottom) in
+    let equal : n ≡ q =
+    one-quotient ((pos 2 *ℤ f.top) +ℤ pos (unit * f.bottom)) n q (2 * (unit * f.bottom)) (omega (arith, ints, same, near.not_above)) (omega (arith, ints, same, next, near.not_below)) is.within is.no_more in
+    ap (λ z. pos unit *ℤ z) equal
+
+one-times : (n : ℤ) → n ≡ pos 1 *ℤ n
+one-times n = omega (arith, ints)
+
+pub whole-only : (f : Fraction) (n : ℤ) → 0 < f.bottom → IsNear 1 f n → n ≡ nearest 1 f
+whole-only f n above near = one-times n ∙ near-only 1 f n (omega arith) above (subst (IsNear 1 f) (one-times n) near)

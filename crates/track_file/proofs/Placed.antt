@@ -1,13 +1,13 @@
 -- The rounded places of a track.
-use Rattle.std.proofs.Common.{◌≡◌, ℕ, ◌<◌, ◌≤◌, ℤ, pos, neg_ℤ, ◌-ℤ◌, List, Some, refl, ap, ◌∙◌, arith, subst, w32, w64, FitsSigned, to_z, of_z}
+use Rattle.std.proofs.Common.{◌≡◌, ℕ, ◌<◌, ◌≤◌, ℤ, pos, neg_ℤ, ◌-ℤ◌, ◌*ℤ◌, List, Some, refl, ap, ◌∙◌, arith, subst, w32, w64, FitsSigned, to_z, of_z}
 use Rattle.std.specs.Prelude.{unsigned_abs, ◌==◌}
 use Rattle.std.proofs.lemmas.Bool.{cond_both}
 use Rattle.std.proofs.lemmas.Int.{fits_signed_from_abs, ints, to_z-of_z}
 use Rattle.acas_base.specs.Ranges.{IsBetween}
 use Rattle.flight.specs.Inside.{IsInBox}
 use Rattle.flight.specs.declared.place.Place.{Place}
-use Rattle.track_file.proofs.Halves.{mean-above, nearest-near, rounded-between-bounds}
-use Rattle.track_file.specs.Rounding.{mean, nearest}
+use Rattle.track_file.proofs.Halves.{mean-above, near-only, nearest-near, rounded-between-bounds, whole-only}
+use Rattle.track_file.specs.Rounding.{IsNear, mean, nearest}
 use Rattle.track_file.specs.Track.{IsNearTrack, IsPoint, first_from, last_by, on_line, rounded, rounded_between, time_of, unit_of}
 use Rattle.track_file.specs.declared.track.Point.{Point}
 
@@ -67,3 +67,16 @@ between-boxed a b cycle from to =
           (λ _. rounded-between-bounds 60 w o (neg_ℤ (pos 1000)) (pos 60000) a.z b.z (omega arith) from.place.z.0 to.place.z.0 from.place.z.1 to.place.z.1)
           (λ _. rounded-between-bounds 1 w o (neg_ℤ (pos 60000)) (pos 3600000) a.z b.z (omega arith) from.place.z.0 to.place.z.0 from.place.z.1 to.place.z.1);
     }
+
+-- No other place of whole coordinates is near.
+between-only : (a b : Point) (cycle : ℕ) (place : Place) (k : ℤ) → place.z ≡ pos (unit_of cycle) *ℤ k → IsNearTrack a b cycle place → place ≡ rounded_between a b cycle
+between-only a b cycle place k whole near =
+    same-place place (rounded_between a b cycle)
+    (whole-only (on_line (λ p. p.x) a b (time_of cycle)) place.x (mean-above a.x b.x _ _) near.x)
+    (whole-only (on_line (λ p. p.y) a b (time_of cycle)) place.y (mean-above a.y b.y _ _) near.y)
+    (whole ∙ near-only (unit_of cycle) (on_line (λ p. p.z) a b (time_of cycle)) k (unit-above cycle) (mean-above a.z b.z _ _) (subst (IsNear (unit_of cycle) (on_line (λ p. p.z) a b (time_of cycle))) whole near.z))
+
+pub rounded-only : (points : List Point) (cycle : ℕ) (a b : Point) (place : Place) (k : ℤ) → last_by points (time_of cycle) ≡ Some a → first_from points (time_of cycle) ≡ Some b
+    → place.z ≡ pos (unit_of cycle) *ℤ k → IsNearTrack a b cycle place → place ≡ rounded points cycle
+unfolding rounded
+rounded-only points cycle a b place k before after whole near = rw (before, after) (between-only a b cycle place k whole near)

@@ -1,9 +1,10 @@
 // The track of one aircraft, and its places second by second.
-ghost use Rattle.std.specs.Prelude.{◌≡◌, ◌↔◌, ◌<◌, ◌≤◌, ◌^◌, ℕ, List, Some, All, IfOk, pos, ◌-ℤ◌, ◌<ℤ◌, ◌≤ℤ◌, unsigned_abs, length, map, true, false, IsTrue};
+ghost use Rattle.std.specs.Prelude.{ℤ, ◌*ℤ◌, IsSome, ◌≡◌, ◌↔◌, ◌<◌, ◌≤◌, ◌^◌, ℕ, List, Some, All, IfOk, pos, ◌-ℤ◌, ◌<ℤ◌, ◌≤ℤ◌, unsigned_abs, length, map, true, false, IsTrue};
 ghost use Rattle.std.specs.List.{AllAdjacentBelow, list_any};
 ghost use Rattle.std.specs.List.Sorted.{IsPartitionPoint};
 ghost use Rattle.acas_base.specs.Ranges.{IsBetween, IsCycle, IsWithin};
 ghost use Rattle.flight.specs.Inside.{IsInBox};
+ghost use Rattle.flight.specs.declared.place.Place.{Place};
 ghost use Rattle.track_file.specs.Rounding.{mean, nearest};
 ghost use Rattle.track_file.specs.Track.{IsPlaced, IsPoint, IsTime, IsCovered, IsNearTrack, IsTrack, covers, first_from, is_by, is_from, last_by, rounded, rounded_between, time_of, unit_of};
 ghost use Rattle.track_file.specs.declared.track.Point.{Point};
@@ -204,8 +205,14 @@ pub fn rounded(points: &[Point], cycle: u16) -> Place
 
 /// Laws of rounded places.
 ///
-/// - `near`: each coordinate is the multiple of its unit that is nearest to the track, the greater of two as near. So it
-///   differs from the track by at most half a unit, in whatever cycle.
+/// - `covered`: a track that covers a run covers each of its cycles.
+/// - `around`: in a cycle that is covered there are a last point by then and a first one from then on.
+/// - `near`: each coordinate differs from the line between these two by at most half its unit, in whatever cycle.
+/// - `only`: no other place is as near with whole coordinates, the altitude being in whole feet in cycle 1 and in whole
+///   sixtieths later.
 pub fn rounding_law()
+    ensures covered { (points : List Point) (cycles cycle : ℕ) → 1 ≤ cycle → cycle ≤ cycles → covers points cycles ≡ true → IsCovered points cycle }
+    ensures around { (points : List Point) (cycle : ℕ) → IsCovered points cycle → IsSome (last_by points (time_of cycle)) × IsSome (first_from points (time_of cycle)) }
     ensures near { (points : List Point) (cycle : ℕ) (a b : Point) → last_by points (time_of cycle) ≡ Some a → first_from points (time_of cycle) ≡ Some b → IsNearTrack a b cycle (rounded points cycle) }
+    ensures only { (points : List Point) (cycle : ℕ) (a b : Point) (place : Place) (k : ℤ) → last_by points (time_of cycle) ≡ Some a → first_from points (time_of cycle) ≡ Some b → place.z ≡ pos (unit_of cycle) *ℤ k → IsNearTrack a b cycle place → place ≡ rounded points cycle }
 {}
