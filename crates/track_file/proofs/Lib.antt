@@ -1,0 +1,5 @@
+pub mod Spans
+pub mod Placed
+pub mod Halves
+pub mod Covering
+pub mod Flying
