@@ -4,7 +4,8 @@ use Rattle.std.proofs.lemmas.Bool.{cond_both, leb-false}
 use Rattle.std.proofs.lemmas.List.{take_more}
 use Rattle.air_journal.proofs.Dues.{Side, behind, front, same, side}
 use Rattle.air_journal.proofs.Queued.{in-append}
-use Rattle.air_journal.specs.Found.{IsLeast, NoneOf, NotDueIn, earlier, found_as}
+use Rattle.acas_base.specs.declared.entry.Entry.{Entry}
+use Rattle.air_journal.specs.Found.{AreOfTheirSenders, IsLeast, NoneOf, NotDueIn, NotDueInAny, earlier, found_as, sender_at}
 use Rattle.air_journal.specs.Kept.{Kept, queue_at}
 use Rattle.air_journal.specs.Queues.{AreOrdered, IsFirstDueAt, IsIn, NoneDue}
 use Rattle.air_journal.specs.declared.due.Due.{Due}
@@ -72,3 +73,15 @@ best-more kept i n s (Some f) (Some e) o b d =
           (λ k h u a g. let y : f.waiting.send ≤ u.send = b.least k h u a g in omega arith)
           (in-queue (queue_at kept s i) n e.place e.waiting o d);
     })
+
+-- ---- one queue for all
+
+module _ (J : List Entry) (t : Kept) (own made send copy count : ℕ) (of : AreOfTheirSenders J t own count) where
+  sender-is : (sender : ℕ) (w : Waiting) → sender < count → IsIn w (queue_at t sender own) → w.send ≡ send → sender_at J send ≡ Some sender
+  sender-is sender w h i e = subst (λ (p : ℕ). sender_at J p ≡ Some sender) e (of sender w h i)
+
+  pub one-queue : (s : ℕ) → sender_at J send ≡ Some s → NotDueIn (queue_at t s own) made send copy → NotDueInAny t own made send copy count
+  one-queue s some none = λ sender h w i e d.
+      let a = sym some ∙ sender-is sender w h i e in
+      let equal : sender ≡ s = cc in
+      none w (subst (λ (k : ℕ). IsIn w (queue_at t k own)) equal i) e d

@@ -1,5 +1,5 @@
 -- What is found in the tables, told of the journal.
-use Rattle.std.proofs.Common.{◌≡◌, ℕ, ◌+◌, ◌<◌, ◌≤◌, true, false, not, ◌&&◌, eqb, cond, ltb, List, length, Option, Some, None, slice_get, sym, refl, ap, ◌∙◌, subst, arith, inl, inr}
+use Rattle.std.proofs.Common.{◌≡◌, ℕ, ◌+◌, ◌<◌, ◌≤◌, true, false, not, ◌&&◌, eqb, cond, ltb, List, length, Option, Some, None, option_map, slice_get, sym, refl, ap, ◌∙◌, subst, arith, inl, inr}
 use Rattle.std.proofs.lemmas.Bool.{false_from_ne_true}
 use Rattle.std.proofs.lemmas.List.FromFn.{fill_by_all}
 use Rattle.acas_base.specs.Encounter.{Parts}
@@ -17,7 +17,7 @@ use Rattle.air_journal.proofs.Queued.{is-queue}
 use Rattle.air_journal.proofs.Soundness.{sound-of}
 use Rattle.air_journal.specs.Airs.{air_of}
 use Rattle.air_journal.specs.Calls.{IsFirstBehind}
-use Rattle.air_journal.specs.Found.{AreNext, IsDueInOne, IsFirstBehindBy, IsFirstOwedBy, IsLeast, NobodyBehind, NoneOf, NotDueInAny, NothingOwedBy, WaitsAt, kept_in_force, next_by, next_in, owed_by, owed_in}
+use Rattle.air_journal.specs.Found.{AreNext, AreOfTheirSenders, IsDueInOne, IsFirstBehindBy, IsFirstOwedBy, IsLeast, NobodyBehind, NoneOf, NotDueInAny, NothingOwedBy, WaitsAt, kept_in_force, next_by, next_in, owed_by, owed_in}
 use Rattle.air_journal.specs.Kept.{Kept, complement_of, link_at, link_of, made_at, queue_at, waiting}
 use Rattle.air_journal.specs.Queues.{AreOrdered, IsFirstDueAt, IsIn}
 use Rattle.air_journal.specs.States.{IsWhole}
@@ -32,7 +32,7 @@ use Rattle.air_rules.proofs.Waiting.{owed-within}
 use Rattle.air_rules.proofs.Pace.{active-ra, send-shows}
 use Rattle.air_rules.specs.Air.{is_active, rank_of}
 use Rattle.air_rules.specs.Due.{IsFirstDue, NothingDue, is_due}
-use Rattle.air_rules.specs.Journal.{commits}
+use Rattle.air_rules.specs.Journal.{Sent, commits}
 use Rattle.air_rules.specs.Owed.{IsFirstOwed, OwesNothing, owed}
 use Rattle.air_rules.specs.Rules.{cell_for, cells_for}
 use Rattle.air_rules.specs.Takes.{Taken, last_take, vrc_in_force}
@@ -102,6 +102,14 @@ not-due {e} {w} h i n p c hi g none = false_from_ne_true _ (λ d.
     let b : f.sender < length e.crafts = f.below in
     let a : n < f.it.due = none f.sender b f.it (subst (λ (ws : List Waiting). IsIn f.it ws) (sym (h.kept.queue f.sender i (omega arith) hi)) ((is-queue (air_of e) (sound-of e h.is_journal.valid) w.entries h.is_journal.legal f.sender i).whole f.it f.waits)) f.send_is f.copy_is in
     let z : f.it.due ≤ commits w.entries i = f.due in omega arith)
+
+-- A copy that waits from a sender is of a message that this one sent.
+pub are-senders : {e : Parts} {w : Written} {t : Kept} → IsWhole e w t → (i : ℕ) → i < CRAFTS → AreOfTheirSenders w.entries t i (length e.crafts)
+are-senders {e} {w} h i hi = λ sender u b a.
+    let few = few-crafts e h.is_journal.valid in
+    let q = is-queue (air_of e) (sound-of e h.is_journal.valid) w.entries h.is_journal.legal sender i in
+    let s = q.holds u (subst (λ (ws : List Waiting). IsIn u ws) (h.kept.queue sender i (omega arith) hi) a) in
+    ap (option_map (λ (sent : Sent). sent.sender)) s.from.here ∙ ap Some s.from.sender
 
 pub this-waits : {e : Parts} {w : Written} {t : Kept} → IsWhole e w t → (i n p c : ℕ) (f : Found) → i < CRAFTS → n ≡ commits w.entries i → IsDueInOne t i n p c (length e.crafts) f → WaitsAt (air_of e) w.entries i f
 this-waits {e} h i n p c f hi g l =

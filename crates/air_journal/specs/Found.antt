@@ -1,5 +1,5 @@
 -- What is found in the tables.
-use Rattle.std.specs.Prelude.{◌≡◌, ℕ, ◌+◌, ◌<◌, ◌≤◌, true, not, ◌&&◌, ◌==◌, if◌then◌else◌, nat_le, nat_lt, List, length, Option, Some, None, slice_get, slice_index_or}
+use Rattle.std.specs.Prelude.{◌≡◌, ℕ, ◌+◌, ◌<◌, ◌≤◌, true, not, ◌&&◌, ◌==◌, if◌then◌else◌, nat_le, nat_lt, List, length, Option, Some, None, option_map, slice_get, slice_index_or}
 use Rattle.acas_base.specs.Complements.{in_force}
 use Rattle.acas_base.specs.Messages.{message_for}
 use Rattle.acas_base.specs.Next.{following_cell}
@@ -21,7 +21,7 @@ use Rattle.air_journal.specs.declared.kept.Made.{Made}
 use Rattle.air_journal.specs.declared.kept.Waiting.{Waiting}
 use Rattle.air_journal.specs.declared.pace.Behind.{Behind}
 use Rattle.air_rules.specs.Air.{Air, is_active, is_ra, rank_of}
-use Rattle.air_rules.specs.Journal.{commits}
+use Rattle.air_rules.specs.Journal.{Sent, commits, sent_at}
 
 -- ---- what is owed
 
@@ -76,6 +76,14 @@ pub record IsDueIn (queue : List Waiting) (made send copy : ℕ) (due : Due) : T
   pub send_is : due.waiting.send ≡ send
   pub copy_is : due.waiting.copy ≡ copy
   pub in_time : due.waiting.due ≤ made
+
+-- Who sent the message at a position.
+abbrev pub sender_at : List Entry → ℕ → Option ℕ
+sender_at journal position = option_map (λ (sent : Sent). sent.sender) (sent_at journal position)
+
+-- The copies that wait for an aircraft from each of the first `count` senders are of messages that this one sent.
+abbrev pub AreOfTheirSenders : List Entry → Kept → ℕ → ℕ → Type 0
+AreOfTheirSenders journal kept own count = (sender : ℕ) (waiting : Waiting) → sender < count → IsIn waiting (queue_at kept sender own) → sender_at journal waiting.send ≡ Some sender
 
 abbrev pub NotDueInAny : Kept → ℕ → ℕ → ℕ → ℕ → ℕ → Type 0
 NotDueInAny kept own made send copy count = (sender : ℕ) → sender < count → NotDueIn (queue_at kept sender own) made send copy

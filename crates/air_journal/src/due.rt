@@ -1,10 +1,14 @@
 // The copies that are due, by the queues.
-ghost use Rattle.std.specs.Prelude.{◌≡◌, ℕ, ◌<◌, ◌≤◌, MatchOption, MatchBool, length};
+ghost use Rattle.std.specs.Prelude.{◌≡◌, ℕ, ◌<◌, ◌≤◌, MatchOption, MatchBool, length, option_map};
 ghost use Rattle.acas_base.specs.declared.TheConstants.{CRAFTS};
-ghost use Rattle.air_journal.specs.Found.{IsDueIn, IsDueInOne, IsLeast, NoneOf, NotDueIn, NotDueInAny, earlier};
+ghost use Rattle.air_journal.specs.EntryRefs.{entry_of};
+ghost use Rattle.air_journal.specs.Found.{AreOfTheirSenders, IsDueIn, IsDueInOne, IsLeast, NoneOf, NotDueIn, NotDueInAny, earlier, sender_at};
 ghost use Rattle.air_journal.specs.Kept.{queue_at};
 ghost use Rattle.air_journal.specs.Queues.{AreOrdered, IsFirstDueAt, NoneDue};
+ghost use Rattle.air_rules.specs.Journal.{Sent, as_sent};
 
+use crate::entry_ref::EntryRef;
+use crate::journal::Journal;
 use crate::kept::Waiting;
 use crate::tables::{Front, Tables};
 use acas_base::CRAFTS;
@@ -131,8 +135,29 @@ fn find_in(queue: &[Waiting], made: u16, send: u32, copy: u8) -> Option<Due>
     None
 }
 
-/// Where this copy stands, if it is due.
+// The sender of the message that an entry sends.
+fn sender_of(entry: &EntryRef<'_>) -> Option<u8>
+    ensures { result ≡ option_map (λ (sent : Sent). sent.sender) (as_sent (entry_of entry.now)) }
+{
+    match *entry {
+        EntryRef::Send { own, .. } => Some(own),
+        EntryRef::Commit { .. } | EntryRef::Take { .. } => None,
+    }
+}
+
+// The sender of the message that was sent at a position.
+fn sender_at(journal: &Journal, send: u32) -> Option<u8>
+    ensures { result ≡ sender_at journal.now.entries send }
+{
+    match journal.entry(send as usize) {
+        Some(entry) => sender_of(&entry),
+        None => None,
+    }
+}
+
+/// Where this copy stands, if it is due. The journal says who sent the message, so one queue is searched.
 pub(crate) fn find_copy(
+    journal: &Journal,
     tables: &Tables,
     own: u8,
     made: u16,
@@ -142,16 +167,21 @@ pub(crate) fn find_copy(
 ) -> Option<Found>
     requires own { own < CRAFTS }
     requires count { count ≤ CRAFTS }
+    requires senders { AreOfTheirSenders journal.now.entries tables.now own count }
     ensures { MatchOption result (NotDueInAny tables.now own made send copy count) (IsDueInOne tables.now own made send copy count) }
 {
-    for sender in 0..count {
-        if let Some(due) = find_in(tables.queue(sender, own), made, send, copy) {
-            return Some(Found {
-                sender,
-                place: due.place,
-                waiting: due.waiting,
-            });
-        }
+    let Some(sender) = sender_at(journal, send) else {
+        return None;
+    };
+    if sender >= count {
+        return None;
     }
-    None
+    match find_in(tables.queue(sender, own), made, send, copy) {
+        Some(due) => Some(Found {
+            sender,
+            place: due.place,
+            waiting: due.waiting,
+        }),
+        None => None,
+    }
 }

@@ -56,7 +56,7 @@ impl AirState {
     {
         let count = count_of(&self.encounter);
         let made = self.tables.made(own).commits;
-        match find_copy(&self.tables, own, made, send, copy, count) {
+        match find_copy(&self.journal, &self.tables, own, made, send, copy, count) {
             None => TookThis::NotDue,
             Some(found) => {
                 let (position, good) = self.take_found(own, found);

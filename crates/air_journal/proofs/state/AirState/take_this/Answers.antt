@@ -1,7 +1,7 @@
 use Rattle.std.proofs.Common.{◌≡◌, ℕ, ◌<◌, true, false, sym, ap, ◌∙◌, subst, refl}
 use Rattle.acas_base.specs.declared.TheConstants.{CRAFTS}
 use Rattle.air_journal.proofs.Bounds.{active-is, below-all}
-use Rattle.air_journal.proofs.Telling.{count-is, not-due, this-waits}
+use Rattle.air_journal.proofs.Telling.{are-senders, count-is, not-due, this-waits}
 use Rattle.air_journal.specs.Airs.{air_of}
 use Rattle.air_journal.specs.Calls.{TookCopy}
 use Rattle.air_journal.specs.Found.{IsDueInOne, NotDueInAny, WaitsAt}
@@ -21,6 +21,11 @@ own c = below-all c.self.inside.encounter c.self.invariant.whole.is_journal.vali
 
 count : (c : After-made-made) → c.made-made.result.commits ≡ commits c.self.inside.journal.entries c.args.own
 count c = ap (λ m. m.commits) c.made-made.ensures ∙ count-is c.self.invariant.whole c.args.own (own c)
+
+pub find_copy-requires-clause-senders : goal.find_copy-requires-clause-senders
+find_copy-requires-clause-senders c =
+    let a = (goal.at.find_copy-requires-clause-senders c).After-made-made in
+    λ sender waiting h i. are-senders c.self.invariant.whole c.args.own (own a) sender waiting (subst (λ (k : ℕ). sender < k) c.count_of-count.ensures.value h) i
 
 pub returns-in-None-clause-takes : goal.returns-in-None-clause-takes
 returns-in-None-clause-takes c =
