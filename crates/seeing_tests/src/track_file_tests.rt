@@ -104,8 +104,8 @@ fn one_leg_at_a_constant_rate(rt: HostRuntime) -> Result<(), Fail> {
 #[test]
 fn a_point_between_two_cycles(rt: HostRuntime) -> Result<(), Fail> {
     let points = [at(-500, 0, 0, 600_000), at(2_500, 3, -3, 600_001)];
-    // Ties in x and y. At cycle 1 these are 0.5 and -0.5, at cycle 2 1.5 and -1.5, at cycle 3 2.5 and -2.5. The altitude
-    // is 600,000 and 1/6, 1/2 and 5/6.
+    // Ties in x and y. At cycle 1 these are 0.5 and -0.5, at cycle 2 1.5 and -1.5, at cycle 3 2.5 and -2.5. The
+    // altitude is 600,000 and 1/6, 1/2 and 5/6.
     let legs = [leg(1, 1, -1, 1), leg(2, 1, -1, 0)];
     assert!(rt; flies(rt.alloc(), 3, &points, (1, 0, 10_000), &legs)?);
     // 0, 1.4, 2.8, 4.2, 5.6 and 7: the places are 0, 1, 3, 4, 6 and 7.
