@@ -54,8 +54,8 @@ crafts_at [] rows = []
 crafts_at (craft ∷ crafts) [] = []
 crafts_at (craft ∷ crafts) (places ∷ rows) = at_place craft (place_of places 1) ∷ crafts_at crafts rows
 
--- Each leg of an encounter is needed. No leg has the rates of the leg before it, and an aircraft's first leg isn't a leg
--- of rest. All legs begin before the last cycle.
+-- Each leg of an encounter is needed. No leg has the rates of the leg before it, and an aircraft's first leg isn't a
+-- leg of rest. All legs begin before the last cycle.
 abbrev pub HasNeededLegs : Parts → Type 0
 HasNeededLegs e = (craft : ℕ) → craft < length e.crafts → AreNeeded craft e.cycles at_rest 0 (legs_of e craft)
 

@@ -80,8 +80,8 @@ pub fn first_excess(places: &[Place]) -> Option<u16>
 /// Laws of the legs that lead through places.
 ///
 /// - `through`: an aircraft that flies them is at each of the places in its cycle.
-/// - `needed`: each has other rates than the leg before it, and the first isn't a leg of rest. All begin before the last
-///   cycle.
+/// - `needed`: each has other rates than the leg before it, and the first isn't a leg of rest. All begin before the
+///   last cycle.
 /// - `only`: no other legs of that aircraft do both.
 pub fn legs_law()
     ensures through { (craft : ℕ) (places : List Place) → PassThrough places (legs_through craft places) }

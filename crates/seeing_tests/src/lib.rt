@@ -28,4 +28,6 @@ mod tau_test_tests;
 #[cfg(test)]
 mod test_seconds_tests;
 #[cfg(test)]
+mod track_file_tests;
+#[cfg(test)]
 mod vert_test_tests;

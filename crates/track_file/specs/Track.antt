@@ -50,8 +50,8 @@ pub record IsCovered (points : List Point) (cycle : ℕ) : Type 0 where
   pub some_by : list_any (is_by (time_of cycle)) points ≡ true
   pub some_from : list_any (is_from (time_of cycle)) points ≡ true
 
--- One coordinate at a time, on the straight line from one point to another one. Each point counts by how far the time is
--- from the other one.
+-- One coordinate at a time, on the straight line from one point to another one. Each point counts by how far the time
+-- is from the other one.
 abbrev pub on_line : (Point → ℤ) → Point → Point → ℤ → Fraction
 on_line value a b time = mean (value a) (unsigned_abs (b.ms -ℤ time)) (value b) (unsigned_abs (time -ℤ a.ms))
 

@@ -17,11 +17,10 @@ use std::alloc::{AllocError, Global};
 /// What is wrong with the tracks of an encounter's aircraft.
 #[derive(Clone, Copy, Debug, PartialEq, Eq)]
 pub enum TrackFault {
-    /// The track of an aircraft doesn't cover the run: it has no point at cycle 1 or before it, or none at the last cycle
-    /// or after it.
+    /// The track of an aircraft doesn't cover the run: it has no point at cycle 1 or before it, or none at the last
+    /// cycle or after it.
     Cover { craft: u8 },
-    /// From a cycle to the next an aircraft would have to fly faster than a leg can: 2,000 ft/s along `x` or `y`, or
-    /// 10,000 ft/min up or down.
+    /// From a cycle to the next an aircraft would have to fly faster than a leg can.
     Rate { craft: u8, cycle: u16 },
 }
 
@@ -105,9 +104,10 @@ fn first_fast(rows: &[Vec<Place>]) -> Option<TrackFault>
     None
 }
 
-/// The encounter that is like another one, but whose aircraft fly along these tracks, one for each aircraft by index: in
-/// each cycle of the run each aircraft is at the place that [`rounded`] gives. It doesn't matter where the aircraft of the
-/// other encounter are. `Ok(Err(..))` says what is wrong with the tracks. The outer error says that memory was wanting.
+/// The encounter that is like another one, but whose aircraft fly along these tracks, one for each aircraft by index.
+/// In each cycle of the run each aircraft is at the place that [`rounded`] gives. It doesn't matter where the aircraft
+/// of the other encounter are. `Ok(Err(..))` says what is wrong with the tracks: of all faults the first, a track that
+/// doesn't cover the run before a rate. The outer error says that memory was wanting.
 ///
 /// By the law of `leg_rows` it is the only such encounter in which each leg is needed.
 pub fn fly_along(

@@ -13,8 +13,8 @@ use crate::rounding::mean;
 use flight::Place;
 use std::alloc::{AllocError, Global};
 
-/// A point of a track: where an aircraft was `ms` milliseconds after cycle 1, or before it where `ms` is below 0. `x` and
-/// `y` are in ft, and the altitude `z` in 1/60 ft.
+/// A point of a track: where an aircraft was `ms` milliseconds after cycle 1, or before it where `ms` is below 0. `x`
+/// and `y` are in ft, and the altitude `z` in 1/60 ft.
 #[derive(Clone, Copy, Debug, PartialEq, Eq)]
 pub struct Point {
     pub ms: i32,
@@ -57,8 +57,8 @@ fn are_rising(points: &[Point]) -> bool
     points.is_sorted_by(|a, b| a.ms < b.ms)
 }
 
-/// Whether points are a track: their times rise, and are within 1,000 s of cycle 1; `x` and `y` are within 1,000,000 ft of
-/// zero, and the altitude is from -1,000 to 60,000 ft.
+/// Whether points are a track: their times rise, and are within 1,000 s of cycle 1; `x` and `y` are within 1,000,000 ft
+/// of zero, and the altitude is from -1,000 to 60,000 ft.
 pub fn is_track(points: &[Point]) -> bool
     ensures { IsTrue result ↔ IsTrack points.now }
 {
@@ -181,8 +181,8 @@ fn some_from(points: &[Point], time: i32) -> bool
     points.iter().any(|point| time <= point.ms)
 }
 
-/// Whether a track covers a run of some cycles: it has a point at cycle 1 or before it, and one at the last cycle or after
-/// it.
+/// Whether a track covers a run of some cycles: it has a point at cycle 1 or before it, and one at the last cycle or
+/// after it.
 pub fn covers(points: &[Point], cycles: u16) -> bool
     requires { IsCycle cycles }
     ensures { result ≡ covers points.now cycles }
