@@ -3,7 +3,7 @@ ghost use Rattle.std.specs.Prelude.{◌≡◌, ℕ, ◌<◌, [], ◌∷◌, All,
 ghost use Rattle.air_rules.specs.Journal.{commits};
 ghost use Rattle.air_turn.specs.Seats.{AreAllSeats, IsSameSeat, IsSeatOf, SeatState};
 
-use crate::steps::{empty_journal, look};
+use crate::steps::{self, empty_journal, look};
 use acas_base::{Address, CraftSpec, Encounter, Kind};
 use air_journal::{AirState, Commit, Sent, Took};
 use air_turn::{Air, Seat};
@@ -104,6 +104,21 @@ fn first_otherwise_seated(alloc: Global, rows: &[Seated]) -> Result<Option<usize
 #[test]
 fn seats(rt: HostRuntime) -> Result<(), Fail> {
     assert_eq!(rt; first_otherwise_seated(rt.alloc(), &SEATED)?, None);
+    Ok(())
+}
+
+// How many entries come back where the first aircraft of two has committed a cycle, and then the journal is shared.
+fn shared_again(alloc: Global) -> Result<u32, Fail> {
+    let enc = standing(alloc, &[Kind::Ra, Kind::Ra])?;
+    let mut begun = empty_journal(alloc, &enc)?;
+    let _ = steps::commit(&mut begun, 0);
+    let (air, seats) = Air::open(alloc, begun)?;
+    Ok(air.close(seats).count())
+}
+
+#[test]
+fn shares_a_begun_journal(rt: HostRuntime) -> Result<(), Fail> {
+    assert_eq!(rt; shared_again(rt.alloc())?, 1);
     Ok(())
 }
 

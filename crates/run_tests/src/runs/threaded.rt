@@ -63,7 +63,7 @@ fn plays_and_sums(rt: HostRuntime) -> Result<(), Fail> {
 struct Meeting {
     // In how many cycles they wait.
     cycles: u64,
-    // The cycle that each was last called for.
+    // Twice the cycle that each was last called for, and one more where that was no first call for this cycle.
     called: Vec<AtomicU64>,
     // Whether one has given up, or was called for a cycle that is neither the last one nor the next one.
     failed: AtomicU64,
@@ -90,10 +90,10 @@ impl Meeting {
         self.failed.load(Ordering::SeqCst) > 0
     }
 
-    // Whether all but one were called for a cycle, or a later one.
-    fn have_come(&self, but: usize, cycle: u64) -> bool {
+    // Whether all but one have come as far, as `called` counts it.
+    fn have_come(&self, but: usize, far: u64) -> bool {
         for craft in 0..self.called.len() {
-            if craft != but && self.called[craft].load(Ordering::SeqCst) < cycle {
+            if craft != but && self.called[craft].load(Ordering::SeqCst) < far {
                 return false;
             }
         }
@@ -101,9 +101,9 @@ impl Meeting {
     }
 
     // Waits for them, and gives up where they don't come.
-    fn waits(&self, craft: usize, cycle: u64) {
+    fn waits(&self, craft: usize, far: u64) {
         for _turn in 0..20_000_000u64 {
-            if self.have_come(craft, cycle) || self.has_failed() {
+            if self.have_come(craft, far) || self.has_failed() {
                 return;
             }
             yield_now();
@@ -114,7 +114,7 @@ impl Meeting {
     // Whether nobody gave up, and each was called for each cycle up to this one.
     fn has_ended(&self, cycle: u64) -> bool {
         for called in self.called.as_slice() {
-            if called.load(Ordering::SeqCst) != cycle {
+            if called.load(Ordering::SeqCst) / 2 != cycle {
                 return false;
             }
         }
@@ -123,8 +123,9 @@ impl Meeting {
 }
 
 impl Pause for Meeting {
-    // In each of the first cycles it holds an aircraft until all others were called for this cycle. One of them,
-    // another one in each cycle, it holds until they were called for the next cycle. So this one commits last.
+    // In each of the first cycles one aircraft commits last, another one in each cycle. It is held until all others
+    // were called for the next cycle, tried in vain, and were called again. So from the second cycle on it was called
+    // again itself. Another one that is called again is held until all were called for its cycle.
     fn pause(&self, craft: u8, cycle: u16) {
         let own = usize::from(craft);
         let cycle = u64::from(cycle);
@@ -132,17 +133,20 @@ impl Pause for Meeting {
             self.fails();
             return;
         };
-        if cycle.wrapping_sub(called.load(Ordering::SeqCst)) > 1 {
+        let last = called.load(Ordering::SeqCst) / 2;
+        if cycle.wrapping_sub(last) > 1 {
             self.fails();
         }
-        called.store(cycle, Ordering::SeqCst);
-        if cycle > self.cycles {
+        let first = cycle.wrapping_mul(2);
+        let again = first.wrapping_add(1);
+        called.store(if cycle == last { again } else { first }, Ordering::SeqCst);
+        if cycle > self.cycles || (cycle > 1 && cycle != last) {
             return;
         }
         if cycle.checked_rem(self.called.len() as u64) == Some(u64::from(craft)) {
-            self.waits(own, cycle.wrapping_add(1));
-        } else {
-            self.waits(own, cycle);
+            self.waits(own, again.wrapping_add(2));
+        } else if cycle == last {
+            self.waits(own, first);
         }
     }
 }
@@ -245,8 +249,8 @@ fn first_unmet<R: Threads + Wait + Sync + Alloc<A = Global>>(
 
 // This test shows that threads run side by side. A run on one thread can't have one aircraft wait for another one. A
 // run on fewer threads than aircraft can't have one wait for all others. A run that writes the serial journal has
-// another order. The test doesn't pass either where nobody waits, where one waits behind its commit, or where another
-// cycle is named.
+// another order. The test doesn't pass either where nobody waits, where one waits behind its commit, or only before the
+// first of several tries, or where another cycle is named.
 #[test]
 fn meet(rt: HostRuntime) -> Result<(), Fail> {
     assert_eq!(rt; first_unmet(&rt, &TOGETHER)?, None);
