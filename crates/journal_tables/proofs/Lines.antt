@@ -5,7 +5,9 @@ use Rattle.std.specs.List.{join_with_byte}
 use Rattle.acas_base.specs.declared.link.CopyPlan.{CopyPlan}
 use Rattle.acas_lines.specs.Lines.{line_of}
 use Rattle.acas_text.specs.Hex.{hex}
-use Rattle.journal_tables.specs.Messages.{complement_text, copy_line, mark, message_fields, take_fields}
+use Rattle.acas_text.specs.Fields.{mark}
+use Rattle.advisory_report.specs.Words.{complement_text}
+use Rattle.journal_tables.specs.Messages.{copy_line, message_fields, take_fields}
 use Rattle.journal_tables.specs.declared.messages.Message.{Message}
 use Rattle.journal_tables.specs.declared.takes.CopyTake.{CopyTake}
 use Rattle.rec_text.specs.Entries.{outcome}

@@ -12,7 +12,9 @@ use Rattle.acas_base.specs.declared.entry.Entry.{Entry}
 use Rattle.acas_base.specs.declared.entry.Entry.TheVariants.{Commit, Send, Take}
 use Rattle.acas_base.specs.declared.link.CopyPlan.{CopyPlan}
 use Rattle.acas_lines.specs.Lines.{joined, line_of}
+use Rattle.acas_text.specs.Fields.{mark}
 use Rattle.acas_text.specs.Hex.{hex}
+use Rattle.advisory_report.specs.Words.{complement_text}
 use Rattle.air_journal.specs.Airs.{address_of, air_of, plans_of}
 use Rattle.air_rules.specs.Air.{Air}
 use Rattle.air_rules.specs.Journal.{Sent, commits, is_take_of}
@@ -66,14 +68,6 @@ take_of air (entry ∷ earlier) sender receiver send copy =
 
 unfoldable pub message_names : List ℕ
 message_names = codes "sender,receiver,number,sent_cycle,sent_at,sets,cancels,copy,hold,taken_at,taken_cycle,result,changed\n"
-
-abbrev pub complement_text : Vrc → List ℕ
-complement_text Nil = []
-complement_text NotBelow = codes "below"
-complement_text NotAbove = codes "above"
-
-abbrev pub mark : Bool → List ℕ
-mark holds = if holds then codes "1" else codes "0"
 
 -- The complement that a message cancels; Nil where there is no message.
 abbrev pub cancel_read : Option ResMsg → Vrc

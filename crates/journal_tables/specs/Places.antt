@@ -8,6 +8,7 @@ use Rattle.acas_base.specs.Encounter.{Parts}
 use Rattle.acas_base.specs.declared.advisory.Cells.{Cells}
 use Rattle.acas_base.specs.declared.entry.Entry.{Entry}
 use Rattle.acas_lines.specs.Lines.{joined, line_of}
+use Rattle.acas_text.specs.Fields.{if_any, with_point}
 use Rattle.acas_text.specs.Hex.{hex}
 use Rattle.advisory_report.specs.Composite.{composite_of, shown, word_of}
 use Rattle.advisory_report.specs.Phrases.{has_advice}
@@ -15,7 +16,7 @@ use Rattle.air_journal.specs.Airs.{address_of}
 use Rattle.air_journal.specs.Cells.{commit_cells}
 use Rattle.flight.specs.Flight.{position}
 use Rattle.flight.specs.declared.place.Place.{Place}
-use Rattle.journal_tables.specs.Fields.{if_any, modelled_tenths, planned_tenths, with_point}
+use Rattle.journal_tables.specs.Fields.{modelled_tenths, planned_tenths}
 use Rattle.response.specs.Flown.{flown}
 
 -- A commit of an aircraft shows advice.

@@ -8,7 +8,7 @@ ghost use Rattle.air_journal.specs.EntryRefs.{entry_of};
 ghost use Rattle.air_rules.specs.Journal.{Begins, sent_at};
 ghost use Rattle.air_rules.specs.Takes.{complement_read};
 ghost use Rattle.journal_tables.specs.Kept.{AreTakes};
-ghost use Rattle.journal_tables.specs.Messages.{cancel_read, complement_text, copy_line, lines_of_entry, lines_of_message, lost_line, mark, message_fields, message_names, message_of, messages_text, sent_lines, take_fields, taken_fields};
+ghost use Rattle.journal_tables.specs.Messages.{cancel_read, copy_line, lines_of_entry, lines_of_message, lost_line, message_fields, message_names, message_of, messages_text, sent_lines, take_fields, taken_fields};
 ghost use Rattle.rec_text.specs.Entries.{outcome};
 ghost use Rattle.res_message.specs.Words.{read_word};
 
@@ -17,6 +17,7 @@ use acas_base::{Address, CopyPlan, Fate, Vrc};
 use acas_io::{Failed, Sink};
 use acas_lines::{LineSink, Text, fixed_line, write_text};
 use acas_text::Line;
+use advisory_report::complement_text;
 use air_journal::{AirState, EntryRef};
 use journal_reader::Reader;
 use res_message::decode;
@@ -46,29 +47,11 @@ fn message_names() -> Line
     )
 }
 
-fn complement_text(complement: Vrc) -> &'static str
-    ensures text { result.now ≡ complement_text complement }
-    ensures short { length result.now ≤ 5 }
-{
-    match complement {
-        Vrc::Nil => "",
-        Vrc::NotBelow => "below",
-        Vrc::NotAbove => "above",
-    }
-}
-
 fn outcome(good: bool) -> &'static str
     ensures text { result.now ≡ outcome good }
     ensures short { length result.now ≤ 1 }
 {
     if good { "g" } else { "b" }
-}
-
-fn mark(holds: bool) -> &'static str
-    ensures text { result.now ≡ mark holds }
-    ensures short { length result.now ≤ 1 }
-{
-    if holds { "1" } else { "0" }
 }
 
 // A line with what is told of a message, which goes on.
@@ -105,7 +88,7 @@ fn add_take(line: &mut Line, take: &CopyTake)
     line.u32_field(take.at);
     line.u16_field(take.cycle);
     line.text_field(outcome(take.good));
-    line.text_field(mark(take.changed));
+    line.mark_field(take.changed);
 }
 
 // The same, where there is a take.

@@ -6,7 +6,7 @@ ghost use Rattle.flight.specs.Bounds.{IsReachable};
 ghost use Rattle.journal_tables.specs.Places.{lines_in, place_fields, place_line, place_names, places_text, word_by, word_in};
 
 use crate::altitudes::Altitudes;
-use crate::fields::{add_tenths, add_tenths_if_any, planned_tenths};
+use crate::fields::planned_tenths;
 use acas_base::{Address, Cells};
 use acas_io::{Failed, Sink};
 use acas_lines::{LineSink, Text, fixed_line, write_text};
@@ -59,8 +59,8 @@ fn place_line(
     line.address_field(address.value());
     line.i32_field(feet(place.x));
     line.i32_field(feet(place.y));
-    add_tenths(&mut line, planned_tenths(place.z));
-    add_tenths_if_any(&mut line, modelled);
+    line.tenths_field(planned_tenths(place.z));
+    line.tenths_field_if_any(modelled);
     line.text_field(word);
     line.text("\n");
     line
