@@ -6,6 +6,7 @@ mod judged;
 mod pages;
 mod played;
 mod resumed;
+mod summaries;
 mod swept;
 mod threaded;
 mod told;

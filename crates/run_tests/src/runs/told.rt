@@ -26,7 +26,7 @@ const UNSEEN: &[u8] =
     b"encounter,1\nrun,46,0\ncraft,400A01,RA,0,0,35000\ncraft,400B02,RA,91200,0,35000\nleg,400A01,1,760,0,0\nleg,400B02,1,-760,0,0\nmiss,400A01,400B02,22,60\nmiss,400B02,400A01,1,60\n";
 
 // The first message of the lower address is lost, and the other aircraft commits after it was sent.
-const LATE_COMMIT_RECORDING: &[u8] =
+pub const LATE_COMMIT_RECORDING: &[u8] =
     b"recording,1\nencounter,1\nrun,2,0\ngains,0,0,0,0\ncraft,400A01,RA,0,0,35000\ncraft,400B02,RA,0,0,35000\nfate,400A01,400B02,1\nend\njournal,7\nc,0,1,-,-\nc,1,1,-,-\nc,0,2,-,U5.1c\ns,0,1,1,30080007400A01\nc,1,2,U5.1c,-\ns,1,0,1,30080007400B02\nt,0,5,0,g\nreport,2\nr,2,400A01,UP-CLIMB,Climb climb\nr,2,400B02,UP-CLIMB,Climb climb\nclose\n";
 
 // What a tool writes of the recording of an encounter.
@@ -43,7 +43,7 @@ pub fn told<R: Threads + Wait + Sync + Alloc<A = Global>>(
 // The tool, the beginning of an encounter's text, its rest, and what the tool writes.
 type Told = (&'static str, &'static [u8], &'static [u8], &'static [u8]);
 
-const TELLING: [Told; 13] = [
+const TELLING: [Told; 12] = [
     (
         "response",
         APART_LONGER,
@@ -92,12 +92,6 @@ const TELLING: [Told; 13] = [
         BETWEEN,
         b"end\n",
         b"blocks,4\nb,24,400A01,30E2000500300C\nb,24,400B02,30C2000500300C\nb,25,400A01,30E2010500300C\nb,25,400B02,30C2020500300C\n",
-    ),
-    (
-        "summary",
-        TRAFFIC,
-        b"end\n",
-        b"summary,1\naircraft 2: RA 0, TA 2, XPDR 0\ncycles 31, ground 0 ft\nentries 62: commits 62, sends 0, takes 0\n\nPAIR 400A01 400B02\n  closest as planned in cycle 31; the run ends there\n    slant 45600 ft (7.50 NM), horizontal 45600 ft (7.50 NM), vertical 300 ft\n  400A01 TA\n     13- 31  TRAFFIC\n  400B02 TA\n     13- 31  TRAFFIC\n\nMESSAGES 0 sent, 0 lost, 0 spoilt, 0 held back, 0 repeated, 0 not taken by the end\n",
     ),
     (
         "watch",
