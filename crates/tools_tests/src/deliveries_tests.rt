@@ -208,7 +208,7 @@ fn tells_missed_replies(rt: HostRuntime) -> Result<(), Fail> {
 // ---- rows
 
 // What the value says of the messages of examples/lost-messages.enc.
-fn says_rows(deliveries: &Deliveries<'_>) -> bool
+fn says_rows(deliveries: &Deliveries) -> bool
     requires { 2 ≤ length deliveries.now.encounter.crafts }
 {
     let numbers = deliveries.numbers(Mishap::Lost, 0, 1);
