@@ -3,3 +3,4 @@ pub mod Marking
 pub mod Slots
 pub mod Befalling
 pub mod Telling
+pub mod Counting

@@ -1,5 +1,6 @@
 pub mod Rows
 pub mod Mishaps
+pub mod Counts
 pub mod Misses
 pub mod Noted
 pub mod Laws

@@ -6,10 +6,11 @@ ghost use Rattle.air_journal.specs.Airs.{air_of};
 ghost use Rattle.air_journal.specs.EntryRefs.{entry_of};
 ghost use Rattle.air_rules.specs.Journal.{as_sent, sends, sent_at};
 ghost use Rattle.air_rules.specs.Rules.{IsLegal};
-ghost use Rattle.deliveries.specs.Mishaps.{befallen, befallen_of, befalls, befalls_sent};
+ghost use Rattle.deliveries.specs.Counts.{AreCounts};
+ghost use Rattle.deliveries.specs.Mishaps.{befallen_of, befalls};
 ghost use Rattle.deliveries.specs.Noted.{IsEntryOf, copies_for, takes_by};
-ghost use Rattle.deliveries.specs.Text.{sent_count};
 
+use crate::counts::{Counts, counts_of};
 use crate::mishap::Mishap;
 use crate::noting::Notes;
 use crate::rows::Numbers;
@@ -37,16 +38,6 @@ impl Model for Deliveries {
     ghost view = { λ d. d.state };
 
     ghost invariant = { λ d. AreNotes d.state.encounter d.state.journal (length d.state.journal) d.notes.copies.items d.notes.takes.items d.notes.sent };
-}
-
-// Whether an entry sends a message.
-fn is_send(entry: &EntryRef<'_>) -> bool
-    ensures { result ≡ is_some (as_sent (entry_of entry.now)) }
-{
-    match *entry {
-        EntryRef::Send { .. } => true,
-        EntryRef::Commit { .. } | EntryRef::Take { .. } => false,
-    }
 }
 
 impl Deliveries {
@@ -128,18 +119,11 @@ impl Deliveries {
         }
     }
 
-    /// How many messages were sent.
-    pub fn sent_count(&self) -> u32
-        ensures { result ≡ sent_count self.now.journal }
+    /// How many messages were sent, and how many of these each mishap befell.
+    pub fn counts(&self) -> Counts
+        ensures { AreCounts self.now.encounter self.now.journal self.now.journal result }
     {
-        count_sent(&self.state)
-    }
-
-    /// How many of the messages that were sent this befalls.
-    pub fn befallen(&self, mishap: Mishap) -> u32
-        ensures { result ≡ befallen self.now.encounter self.now.journal mishap }
-    {
-        count_befallen(self, &self.state, mishap)
+        counts_of(self, &self.state)
     }
 
     /// Which of the messages that one aircraft sent to another one this befalls, by their numbers.
@@ -154,52 +138,4 @@ impl Deliveries {
         }
         numbers
     }
-}
-
-// Whether an entry of the journal sends a message that this befalls.
-fn befalls_sent(deliveries: &Deliveries, mishap: Mishap, entry: &EntryRef<'_>) -> bool
-    requires { IsEntryOf deliveries.now.encounter deliveries.now.journal (entry_of entry.now) }
-    ensures { result ≡ befalls_sent deliveries.now.encounter deliveries.now.journal mishap (entry_of entry.now) }
-{
-    match *entry {
-        EntryRef::Send {
-            own,
-            target,
-            number,
-            ..
-        } => deliveries.befalls(mishap, own, target, number),
-        EntryRef::Commit { .. } | EntryRef::Take { .. } => false,
-    }
-}
-
-// How many messages were sent in the journal of a state.
-fn count_sent(state: &AirState) -> u32
-    ensures { result ≡ sent_count state.now.journal }
-{
-    let mut found = 0;
-    for at in 0..state.count() {
-        if let Some(entry) = state.entry_ref(at) {
-            if is_send(&entry) {
-                found += 1;
-            }
-        }
-    }
-    found
-}
-
-// How many of them this befalls.
-fn count_befallen(deliveries: &Deliveries, state: &AirState, mishap: Mishap) -> u32
-    requires { deliveries.now ≡ state.now }
-    ensures { result ≡ befallen state.now.encounter state.now.journal mishap }
-{
-    state.legal_law();
-    let mut found = 0;
-    for at in 0..state.count() {
-        if let Some(entry) = state.entry_ref(at) {
-            if befalls_sent(deliveries, mishap, &entry) {
-                found += 1;
-            }
-        }
-    }
-    found
 }

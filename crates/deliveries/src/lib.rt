@@ -4,6 +4,7 @@
 //! sender and a receiver something befalls is told as maximal rows (`specs/Rows`).
 #![tactic(auto)]
 
+mod counts;
 mod deliveries;
 mod laws;
 mod lines;
@@ -14,6 +15,7 @@ mod row_text;
 mod rows;
 mod takes;
 
+pub use counts::Counts;
 pub use deliveries::Deliveries;
 pub use laws::{numbers_law, rows_law};
 pub use lines::write;

@@ -3,9 +3,11 @@ ghost use Rattle.std.specs.Prelude.{◌≡◌, ◌+◌, ◌≤◌, ◌<◌, ◌+
 ghost use Rattle.std.specs.List.{flat_map};
 ghost use Rattle.acas_io.specs.Stream.{Puts};
 ghost use Rattle.acas_text.specs.declared.line.TheConstants.{LINE_BYTES};
+ghost use Rattle.deliveries.specs.Counts.{AreCounts};
 ghost use Rattle.deliveries.specs.Mishaps.{befallen_of};
 ghost use Rattle.deliveries.specs.Text.{all_link_lines, all_missed_lines, count_part, counts_head, counts_line, deliveries_text, link_head, link_line, link_lines, lines_from, mishap_part, mishap_text, mishaps, missed_by, missed_head, missed_lines, missed_text, replies_lines, some_flag, some_mishap};
 
+use crate::counts::Counts;
 use crate::deliveries::Deliveries;
 use crate::mishap::Mishap;
 use crate::misses::{has_misses, missed};
@@ -38,28 +40,30 @@ fn craft_count(encounter: &Encounter) -> u8
 
 // ---- the counts
 
-// Adds how many messages this befalls.
-fn add_count(line: &mut Line, deliveries: &Deliveries, mishap: Mishap)
-    requires { length line.old + 33 ≤ LINE_BYTES }
+// Adds how many messages this befell.
+fn add_count(line: &mut Line, deliveries: &Deliveries, counts: Counts, mishap: Mishap)
+    requires counts { AreCounts deliveries.now.encounter deliveries.now.journal deliveries.now.journal counts }
+    requires room { length line.old + 33 ≤ LINE_BYTES }
     ensures added { line.new ≡ line.old ++ count_part deliveries.now.encounter deliveries.now.journal mishap }
     ensures short { length line.new ≤ length line.old + 33 }
 {
     line.text(", ");
-    line.u32(deliveries.befallen(mishap));
+    line.u32(counts.of(mishap));
     line.text(" ");
     line.text(mishap_text(mishap));
 }
 
-fn add_counts(line: &mut Line, deliveries: &Deliveries)
-    requires { length line.old + 165 ≤ LINE_BYTES }
+fn add_counts(line: &mut Line, deliveries: &Deliveries, counts: Counts)
+    requires counts { AreCounts deliveries.now.encounter deliveries.now.journal deliveries.now.journal counts }
+    requires room { length line.old + 165 ≤ LINE_BYTES }
     ensures added { line.new ≡ line.old ++ flat_map (count_part deliveries.now.encounter deliveries.now.journal) mishaps }
     ensures short { length line.new ≤ length line.old + 165 }
 {
-    add_count(line, deliveries, Mishap::Lost);
-    add_count(line, deliveries, Mishap::Spoilt);
-    add_count(line, deliveries, Mishap::HeldBack);
-    add_count(line, deliveries, Mishap::Repeated);
-    add_count(line, deliveries, Mishap::Untaken);
+    add_count(line, deliveries, counts, Mishap::Lost);
+    add_count(line, deliveries, counts, Mishap::Spoilt);
+    add_count(line, deliveries, counts, Mishap::HeldBack);
+    add_count(line, deliveries, counts, Mishap::Repeated);
+    add_count(line, deliveries, counts, Mishap::Untaken);
 }
 
 fn counts_head(sent: u32) -> Line
@@ -76,8 +80,9 @@ fn counts_head(sent: u32) -> Line
 fn counts_line(deliveries: &Deliveries) -> Line
     ensures { result ≡ counts_line deliveries.now.encounter deliveries.now.journal }
 {
-    let mut line = counts_head(deliveries.sent_count());
-    add_counts(&mut line, deliveries);
+    let counts = deliveries.counts();
+    let mut line = counts_head(counts.sent);
+    add_counts(&mut line, deliveries, counts);
     line.text("\n");
     line
 }

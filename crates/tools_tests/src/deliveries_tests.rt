@@ -224,8 +224,8 @@ fn says_rows(deliveries: &Deliveries) -> bool
     rows && numbers.len() == 6
         && back.len() == 6
         && deliveries.befalls(Mishap::Lost, 0, 1, 2)
-        && deliveries.befallen(Mishap::Lost) == 3
-        && deliveries.sent_count() == 12
+        && deliveries.counts().of(Mishap::Lost) == 3
+        && deliveries.counts().sent == 12
 }
 
 // The same, and the cycles of a miss that the run cuts.

@@ -8,4 +8,4 @@ pub returns : goal.returns
 returns c =
     let s = c.args.deliveries.now in
     whole-line (counts_head (sent_count s.journal)) (flat_map (count_part s.encounter s.journal) mishaps) (codes "\n") c.counts_head-line.result c.add_counts.new.line c.text.new.self
-    (c.counts_head-line.ensures.value ∙ ap counts_head c.sent_count.ensures) c.add_counts.ensures.added c.text.ensures.added
+    (c.counts_head-line.ensures.value ∙ ap counts_head c.counts-counts.ensures.sent) c.add_counts.ensures.added c.text.ensures.added
