@@ -28,3 +28,5 @@ pub mod SameAircraft
 pub mod Shapes
 pub mod ShapeSends
 pub mod OneShape
+pub mod SameSteps
+pub mod SameRounds

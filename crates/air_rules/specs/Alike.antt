@@ -1,5 +1,5 @@
 -- Two airs that are alike in all but a few things.
-use Rattle.std.specs.Prelude.{◌≡◌, ℕ}
+use Rattle.std.specs.Prelude.{◌≡◌, ℕ, ◌≤◌}
 use Rattle.acas_base.specs.declared.advisory.ResMsg.{ResMsg}
 use Rattle.air_rules.specs.Air.{Air}
 
@@ -20,3 +20,9 @@ pub record HaveTheSameAircraft (one two : Air) : Type 0 where
 pub record AreAlikeButCopies (one two : Air) : Type 0 where
   pub aircraft : HaveTheSameAircraft one two
   pub view : (own other cycle : ℕ) → one.view own other cycle ≡ two.view own other cycle
+
+-- Two airs are alike up to a cycle. What is seen in later cycles can differ.
+pub record AreAlikeUpTo (one two : Air) (last : ℕ) : Type 0 where
+  pub aircraft : HaveTheSameAircraft one two
+  pub copies : (sender receiver number : ℕ) → one.copies sender receiver number ≡ two.copies sender receiver number
+  pub view : (own other cycle : ℕ) → 1 ≤ cycle → cycle ≤ last → one.view own other cycle ≡ two.view own other cycle

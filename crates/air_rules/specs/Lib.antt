@@ -17,3 +17,4 @@ pub mod Example
 pub mod ThreeAircraft
 pub mod Alike
 pub mod Shape
+pub mod Rounds
