@@ -73,7 +73,7 @@ even-commit air own cycle cells K i j before = go (cases_Bool (eqb own i)) befor
     go (inr n) (done h s) = done (cond-false (eqb own i) false _ n ∙ h) (let e : commits (Commit own cycle cells ∷ K) i ≡ commits K i = count-no (is_commit_of i) (Commit own cycle cells) K n in omega arith)
 
 -- Nothing is owed to whom something was sent since the last commit.
-sent-owes-none : (air : Air) (K : List Entry) (i j : ℕ) (m : ResMsg) → owed air K i j ≡ Some m → has_sent K i j ≡ false
+pub sent-owes-none : (air : Air) (K : List Entry) (i j : ℕ) (m : ResMsg) → owed air K i j ≡ Some m → has_sent K i j ≡ false
 sent-owes-none air K i j m e =
     let a = and_parts (is_ra air i) _ (owed-message air K i j m e).0 in
     let b = and_parts (is_ra air j) _ a.1 in
@@ -81,7 +81,7 @@ sent-owes-none air K i j m e =
     not-true (has_sent K i j) c.1
 
 -- Nor where nothing was committed yet.
-fresh-owes-none : (air : Air) (K : List Entry) (i j : ℕ) (m : ResMsg) → commits K i ≡ 0 → said air K i j ≡ Nil → owed air K i j ≡ Some m → ⊥
+pub fresh-owes-none : (air : Air) (K : List Entry) (i j : ℕ) (m : ResMsg) → commits K i ≡ 0 → said air K i j ≡ Nil → owed air K i j ≡ Some m → ⊥
 fresh-owes-none air K i j m c v e =
     let none : message_for (last_cell K i j) (said air K i j) (has_many_threats K i) (air.address i) ≡ None =
     ap₂ (λ (cell : Cell) (w : Vrc). message_for cell w (has_many_threats K i) (air.address i)) (none-yet K i j c) v in

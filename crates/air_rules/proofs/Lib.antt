@@ -24,3 +24,9 @@ pub mod Deciding
 pub mod ExampleWords
 pub mod ExampleSteps
 pub mod ThreeAircraftSteps
+pub mod SameAircraft
+pub mod Shapes
+pub mod ShapeSends
+pub mod OneShape
+pub mod SameSteps
+pub mod SameRounds

@@ -117,7 +117,7 @@ pub in-order-begins : (air : Air) (K J : List Entry) → Begins K J → IsInOrde
 in-order-begins air K J whole o = o
 in-order-begins air K J (more {entry = x} {journal = L} b) o = in-order-begins air K L b (in-order-before air x L o)
 
-same-length : (air : Air) (J L : List Entry) → IsInOrder air J → IsInOrder air L → length J ≡ length L → J ≡ L
+pub same-length : (air : Air) (J L : List Entry) → IsInOrder air J → IsInOrder air L → length J ≡ length L → J ≡ L
 same-length air [] [] o p e = refl
 same-length air [] (y ∷ L) o p e = absurd (omega arith)
 same-length air (x ∷ J) [] o p e = absurd (omega arith)
@@ -127,13 +127,13 @@ same-length air (x ∷ J) (y ∷ L) o p e =
     λ t. first t ∷ rest t
 
 -- The entry at a position, with the journal before it.
-record Placed (L : List Entry) (n : ℕ) : Type 0 where
-  entry : Entry
-  before : List Entry
-  there : Begins (entry ∷ before) L
-  position : length before ≡ n
+pub record Placed (L : List Entry) (n : ℕ) : Type 0 where
+  pub entry : Entry
+  pub before : List Entry
+  pub there : Begins (entry ∷ before) L
+  pub position : length before ≡ n
 
-placed : (L : List Entry) (n : ℕ) → n < length L → Placed L n
+pub placed : (L : List Entry) (n : ℕ) → n < length L → Placed L n
 placed [] n h = absurd (omega arith)
 placed (x ∷ L) n h =
     let ih = placed L n in

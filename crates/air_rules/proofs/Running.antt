@@ -90,7 +90,7 @@ run-sense (Commit own cycle cells ∷ K) j i t b e =
 run-sense (Send own target number word ∷ K) j i t b e = run-sense K j i t b e
 run-sense (Take own p c good ∷ K) j i t b e = run-sense K j i t b e
 
-message-vrc : (c : Cell) (v : Vrc) (b : Bool) (own : ℕ) (t : Sense) (m : ResMsg) → sense_of c ≡ Some t → message_for c v b own ≡ Some m → m.vrc ≡ complement_of t
+pub message-vrc : (c : Cell) (v : Vrc) (b : Bool) (own : ℕ) (t : Sense) (m : ResMsg) → sense_of c ≡ Some t → message_for c v b own ≡ Some m → m.vrc ≡ complement_of t
 message-vrc Clear v b own t m s e = cc
 message-vrc Traffic v b own t m s e = cc
 message-vrc (Ra it) v b own t m s e =

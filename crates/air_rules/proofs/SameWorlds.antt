@@ -73,7 +73,7 @@ same-map f g a (suc n) h = ap₂ (λ x xs. x ∷ xs) (h a) (same-map f g (a + 1)
 next-same : {c d : Cell} {v w : View} {r q : Vrc} {k l : Rank} → c ≡ d → v ≡ w → r ≡ q → k ≡ l → following_cell c v r k ≡ following_cell d w q l
 next-same a b x y = λ t. following_cell (a t) (b t) (x t) (y t)
 
-same-cells : (one two : Air) (K M : List Entry) (i n : ℕ) → commits K i ≡ n → commits M i ≡ n → one.count ≡ two.count → one.places ≡ two.places →
+pub same-cells : (one two : Air) (K M : List Entry) (i n : ℕ) → commits K i ≡ n → commits M i ≡ n → one.count ≡ two.count → one.places ≡ two.places →
     ((j : ℕ) → last_cell K i j ≡ last_cell M i j) → ((j : ℕ) → one.view i j (n + 1) ≡ two.view i j (n + 1)) → ((j : ℕ) → complement_from one K i j ≡ complement_from two M i j) → ((j : ℕ) → rank_of one i j ≡ rank_of two i j) →
     cells_for one K i ≡ cells_for two M i
 same-cells one two K M i n ek em counts places cells_before views complements ranks =

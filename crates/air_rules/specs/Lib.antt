@@ -15,3 +15,6 @@ pub mod Length
 pub mod Own
 pub mod Example
 pub mod ThreeAircraft
+pub mod Alike
+pub mod Shape
+pub mod Rounds

@@ -11,7 +11,7 @@ mod example;
 mod own;
 mod progress;
 
-pub use coordination::{priority_law, safe_law, settled_law, worlds_law};
+pub use coordination::{priority_law, safe_law, settled_law, shape_law, worlds_law};
 pub use example::{example_law, three_aircraft_law};
 pub use own::own_law;
-pub use progress::{beginning_law, length_law, onward_law, serial_law};
+pub use progress::{beginning_law, causality_law, length_law, onward_law, serial_law};

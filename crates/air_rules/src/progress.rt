@@ -1,10 +1,12 @@
 // How legal journals grow and end.
-ghost use Rattle.std.specs.Prelude.{◌≡◌, ◌≤◌, List, length};
+ghost use Rattle.std.specs.Prelude.{◌≡◌, ℕ, ◌≤◌, List, length};
 ghost use Rattle.acas_base.specs.declared.entry.Entry.{Entry};
 ghost use Rattle.air_rules.specs.Air.{Air, IsSound};
+ghost use Rattle.air_rules.specs.Alike.{AreAlikeUpTo};
 ghost use Rattle.air_rules.specs.Journal.{Begins};
 ghost use Rattle.air_rules.specs.Length.{IsBounded};
 ghost use Rattle.air_rules.specs.Onward.{IsNeverStuck};
+ghost use Rattle.air_rules.specs.Rounds.{AreTheSameTo};
 ghost use Rattle.air_rules.specs.Rules.{IsLegal, IsComplete};
 ghost use Rattle.air_rules.specs.Serial.{IsInOrder, IsSerial};
 
@@ -36,6 +38,14 @@ pub fn serial_law()
         IsSound air → IsSerial air journal → IsComplete air journal }
     ensures only { (air : Air) (one : List Entry) (two : List Entry) →
         IsSerial air one → IsSerial air two → one ≡ two }
+{}
+
+/// A law: what comes first doesn't follow from what is seen later. The serial journals of two airs that are alike up to
+/// a cycle are the same up to the end of that round.
+pub fn causality_law()
+    ensures { (one : Air) (two : Air) (last : ℕ) (journal_one : List Entry) (journal_two : List Entry) →
+        IsSound one → IsSound two → AreAlikeUpTo one two last →
+        IsSerial one journal_one → IsSerial two journal_two → AreTheSameTo journal_one journal_two last }
 {}
 
 /// A law: how many entries a legal journal has at most. Each active aircraft has a commit in each cycle. Each ordered
