@@ -6,10 +6,7 @@ ghost use Rattle.enc_file.specs.Reading.{missing_after};
 
 use crate::record::{Copies, Course};
 use crate::refusal::Code;
-use acas_base::{CopyPlan, CraftSpec, Fate, Leg, LinkPlan, Miss};
-
-// The most bits that a mask flips.
-const BITS: u32 = 3;
+use acas_base::{CopyPlan, CraftSpec, Fate, Leg, LinkPlan, Miss, flips_few};
 
 /// What is missing where no record follows the first `count` ones.
 pub(crate) fn missing_after(count: u32) -> Code
@@ -34,7 +31,7 @@ pub(crate) fn has_ceiling(crafts: &[CraftSpec], craft: usize) -> bool
 fn is_mask_bad(copy: CopyPlan) -> bool
     ensures { result ≡ is_mask_bad copy }
 {
-    BITS < copy.mask.count_ones()
+    !flips_few(copy.mask)
 }
 
 pub(crate) fn are_masks_bad(first: CopyPlan, second: CopyPlan, third: CopyPlan) -> bool

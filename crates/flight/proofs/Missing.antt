@@ -10,7 +10,7 @@ use Rattle.std.proofs.lemmas.List.Folds.{list_any_at, list_any_none}
 use Rattle.acas_base.proofs.KeyOrder.{below-trans}
 use Rattle.acas_base.specs.Order.{IsRising, is_below, miss_below}
 use Rattle.acas_base.specs.declared.craft.Miss.{Miss}
-use Rattle.flight.specs.Measurement.{covers, lasts_in}
+use Rattle.flight.specs.Measurement.{covers, is_of_own, lasts_in}
 
 -- No miss ends before it begins.
 abbrev pub AreOrdered : List Miss → Type 0
@@ -97,14 +97,15 @@ pub covered-none : (misses : List Miss) (own target cycle n : ℕ) → PartedAt 
 covered-none misses own target cycle n parted past =
     list_any_none (covers own target cycle) misses (λ k d h. front-uncovers misses own target cycle n parted k d (omega arith) h)
 
--- Where no miss lasts in a cycle, none covers it.
-pub none-covers : (misses : List Miss) (own target cycle : ℕ) → list_any (lasts_in cycle) misses ≡ false → list_any (covers own target cycle) misses ≡ false
+-- Where no miss of an own aircraft lasts in a cycle, none of its targets is covered.
+pub none-covers : (misses : List Miss) (own target cycle : ℕ) → list_any (is_of_own own cycle) misses ≡ false → list_any (covers own target cycle) misses ≡ false
 none-covers [] own target cycle none = refl
 none-covers (miss ∷ rest) own target cycle none =
-    by_test (miss.own == own && miss.target == target) (lasts_in cycle miss) (list_any (covers own target cycle) rest) (list_any (lasts_in cycle) rest) none
+    by_test (miss.own == own) (miss.target == target) (lasts_in cycle miss) (list_any (covers own target cycle) rest) (list_any (is_of_own own cycle) rest) none
     (none-covers rest own target cycle)
   where
-    by_test : (pair lasts covered lasting : Bool) → (lasts || lasting) ≡ false → (lasting ≡ false → covered ≡ false) → ((pair && lasts) || covered) ≡ false
-    by_test pair true covered lasting h f = absurd (cc h)
-    by_test true false covered lasting h f = f h
-    by_test false false covered lasting h f = f h
+    by_test : (one other lasts covered marked : Bool) → ((one && lasts) || marked) ≡ false → (marked ≡ false → covered ≡ false) → (((one && other) && lasts) || covered) ≡ false
+    by_test false other lasts covered marked h f = f h
+    by_test true other true covered marked h f = absurd (cc h)
+    by_test true false false covered marked h f = f h
+    by_test true true false covered marked h f = f h

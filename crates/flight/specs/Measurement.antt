@@ -1,8 +1,9 @@
 -- What one aircraft measures of another one.
-use Rattle.std.specs.Prelude.{ℕ, ◌+◌, ◌*◌, ◌/◌, ◌≤◌, ◌==◌, ◌&&◌, nat_lt, nat_le, if◌then◌else◌, Bool, ℤ, pos, ◌+ℤ◌, ◌-ℤ◌, ◌*ℤ◌, unsigned_abs, Option, Some, None}
+use Rattle.std.specs.Prelude.{◌≡◌, ℕ, ◌+◌, ◌*◌, ◌/◌, ◌<◌, ◌≤◌, ◌==◌, ◌&&◌, nat_lt, nat_le, if◌then◌else◌, Bool, false, ℤ, pos, ◌+ℤ◌, ◌-ℤ◌, ◌*ℤ◌, unsigned_abs, List, slice_index_or, Option, Some, None}
 use Rattle.std.specs.Int.{int_div_euclid}
 use Rattle.std.specs.List.{list_any}
 use Rattle.acas_base.specs.Encounter.{Parts}
+use Rattle.acas_base.specs.declared.TheConstants.{CRAFTS}
 use Rattle.acas_base.specs.declared.craft.Miss.{Miss}
 use Rattle.acas_num.specs.Root.{root}
 use Rattle.flight.specs.Flight.{position}
@@ -49,9 +50,13 @@ covers own target cycle miss = (miss.own == own && miss.target == target) && las
 abbrev pub is_missed : Parts → ℕ → ℕ → ℕ → Bool
 is_missed e own target cycle = list_any (covers own target cycle) e.misses
 
--- Whether a record says that some measurement is missed in a cycle.
-abbrev pub misses_in : Parts → ℕ → Bool
-misses_in e cycle = list_any (lasts_in cycle) e.misses
+-- A record of a miss of this own aircraft that lasts in a cycle.
+abbrev pub is_of_own : ℕ → ℕ → Miss → Bool
+is_of_own own cycle miss = miss.own == own && lasts_in cycle miss
+
+-- For each own aircraft whether a record says that it misses some target in a cycle.
+abbrev pub AreMissing : Parts → ℕ → List Bool → Type 0
+AreMissing e cycle owns = (own : ℕ) → own < CRAFTS → slice_index_or owns own false ≡ list_any (is_of_own own cycle) e.misses
 
 -- The range from one place to another one, and the altitude reported there; none where the range is too long.
 abbrev pub measured : Place → Place → Option Meas

@@ -3,9 +3,9 @@ ghost use Rattle.std.specs.Prelude.{◌≡◌, ◌≤◌, true, false, All, leng
 ghost use Rattle.std.specs.List.Sorted.{IsPartitionPoint};
 ghost use Rattle.acas_base.specs.Order.{IsRising, is_below, miss_below};
 ghost use Rattle.acas_base.specs.declared.craft.Miss.{Miss};
-ghost use Rattle.flight.specs.Measurement.{covers, is_missed, lasts_in, misses_in};
+ghost use Rattle.flight.specs.Measurement.{AreMissing, covers, is_missed, lasts_in};
 
-use acas_base::{Encounter, Miss, Record};
+use acas_base::{CRAFTS, Encounter, Miss, Record};
 
 /// Whether a record says that this own aircraft misses the reply of this target in a cycle.
 pub fn is_missed(encounter: &Encounter, own: u8, target: u8, cycle: u16) -> bool
@@ -19,11 +19,18 @@ pub fn is_missed(encounter: &Encounter, own: u8, target: u8, cycle: u16) -> bool
     covers(&misses[first], own, target, cycle)
 }
 
-// Whether some record covers a cycle, of whatever own aircraft and target.
-pub(crate) fn misses_in(encounter: &Encounter, cycle: u16) -> bool
-    ensures { result ≡ misses_in encounter.now cycle }
+// For each own aircraft whether it misses some target in a cycle.
+pub(crate) fn owns_missing(encounter: &Encounter, cycle: u16) -> [bool; CRAFTS]
+    ensures { AreMissing encounter.now cycle result }
 {
-    encounter.misses().iter().any(|miss| lasts_in(miss, cycle))
+    let misses = encounter.misses();
+    let mut owns = [false; CRAFTS];
+    for miss in misses {
+        if lasts_in(miss, cycle) {
+            owns[usize::from(miss.own)] = true;
+        }
+    }
+    owns
 }
 
 // How many records stand before those that can cover the cycle.

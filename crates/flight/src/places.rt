@@ -9,7 +9,7 @@ ghost use Rattle.flight.specs.Inside.{IsInBox, IsInside};
 ghost use Rattle.flight.specs.Measurement.{is_missed, measurement, own_altitude};
 
 use crate::measuring::{feet, measured};
-use crate::misses::{is_missed, misses_in};
+use crate::misses::{is_missed, owns_missing};
 use crate::{Meas, Place, position};
 use acas_base::{CRAFTS, Encounter};
 use std::array::from_fn;
@@ -21,21 +21,20 @@ pub struct Places<'a> {
     encounter: &'a Encounter,
     cycle: u16,
     list: [Place; CRAFTS],
-    // Whether some measurement is missed in that cycle. In most cycles none is.
-    misses: bool,
+    // Which own aircraft miss some target in that cycle. Most miss none.
+    missing: [bool; CRAFTS],
 }
 
 impl<'a> Model for Places<'a> {
     ghost use Rattle.acas_base.specs.Ranges.{IsCycle};
     ghost use Rattle.flight.specs.Flight.{ArePlaces, Moment};
-    ghost use Rattle.flight.specs.Measurement.{misses_in};
-    ghost use Rattle.std.specs.Prelude.{◌≡◌};
+    ghost use Rattle.flight.specs.Measurement.{AreMissing};
 
     ghost Value = { Moment };
 
     ghost view = { λ p. record { encounter = p.encounter.now; cycle = p.cycle } };
 
-    ghost invariant = { λ p. IsCycle p.cycle × ArePlaces p.encounter.now p.cycle p.list × (p.misses ≡ misses_in p.encounter.now p.cycle) };
+    ghost invariant = { λ p. IsCycle p.cycle × ArePlaces p.encounter.now p.cycle p.list × AreMissing p.encounter.now p.cycle p.missing };
 }
 
 impl<'a> Places<'a> {
@@ -48,7 +47,7 @@ impl<'a> Places<'a> {
             encounter,
             cycle,
             list: from_fn(|craft| { place_at(encounter, craft, cycle) }),
-            misses: misses_in(encounter, cycle),
+            missing: owns_missing(encounter, cycle),
         }
     }
 
@@ -80,9 +79,12 @@ impl<'a> Places<'a> {
 
     // Whether a record says that an own aircraft misses a target in that cycle.
     fn is_missed(&self, own: u8, target: u8) -> bool
+        requires { own < length self.now.encounter.crafts }
         ensures { result ≡ is_missed self.now.encounter own target self.now.cycle }
     {
-        self.misses && is_missed(self.encounter, own, target, self.cycle)
+        // For the proof: no encounter has more than 16 aircraft.
+        self.encounter.valid_law();
+        self.missing[usize::from(own)] && is_missed(self.encounter, own, target, self.cycle)
     }
 
     /// What [`crate::own_altitude`] gives in that cycle.

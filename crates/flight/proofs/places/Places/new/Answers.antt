@@ -8,5 +8,5 @@ invariant_of-result c = (
     at = λ craft d within. let call = c.from_fn.ensures.items.at craft d within in search rules;
     reachable = λ craft within. search rules;
   },
-  c.misses_in.ensures,
+  c.owns_missing.ensures,
 )
