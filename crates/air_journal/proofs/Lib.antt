@@ -23,3 +23,4 @@ pub mod Usually
 pub mod Addresses
 pub mod Activity
 pub mod Looked
+pub mod Fates

@@ -15,3 +15,4 @@ pub mod Usual
 pub mod EntryRefs
 pub use Rattle.acas_base.specs.Encounter
 pub use Rattle.air_rules.specs.Air
+pub mod Alike

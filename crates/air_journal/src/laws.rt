@@ -3,10 +3,13 @@ ghost use Rattle.std.specs.Prelude.{ℕ, List, All, length};
 ghost use Rattle.acas_base.specs.Encounter.{Parts, IsEncounter};
 ghost use Rattle.acas_base.specs.declared.entry.Entry.{Entry};
 ghost use Rattle.air_journal.specs.Airs.{air_of};
+ghost use Rattle.air_journal.specs.Alike.{AreAlikeButFates};
 ghost use Rattle.air_journal.specs.Pinned.{HasSmallCopies, IsAirOf};
 ghost use Rattle.air_journal.specs.Ranges.{IsEntry};
 ghost use Rattle.air_rules.specs.Air.{IsSound};
+ghost use Rattle.air_rules.specs.Alike.{AreAlikeButCopies};
 ghost use Rattle.air_rules.specs.Rules.{IsLegal};
+ghost use Rattle.air_rules.specs.Shape.{HaveOneShape};
 ghost use Rattle.air_rules.specs.Worlds.{SeesTheSame};
 ghost use Rattle.craft_view.specs.Facts.{SeesAlike};
 
@@ -28,6 +31,18 @@ pub fn air_law()
 pub fn alike_law()
     ensures { (e f : Parts) (own last : ℕ) → SeesAlike e f own last → SeesTheSame (air_of e) (air_of f) own last }
 {}
+
+/// A law: the airs of two encounters that differ in fates and plans alone are alike but for the copies of messages. So
+/// their legal journals have one shape: no order of the steps and no loss of a message makes an advisory come, go, or
+/// come a second later.
+pub fn shape_law()
+    ensures alike { (e f : Parts) → AreAlikeButFates e f → AreAlikeButCopies (air_of e) (air_of f) }
+    ensures shape { (e f : Parts) (one two : List Entry) → IsEncounter e → IsEncounter f → AreAlikeButFates e f →
+        IsLegal (air_of e) one → IsLegal (air_of f) two → HaveOneShape (air_of e) (air_of f) one two }
+{
+    sound_law();
+    air_rules::shape_law();
+}
 
 /// A law: in each entry of a legal journal of an encounter all parts are in their ranges, and in the cells of a
 /// commit the own place and those past the last aircraft are Clear.
