@@ -24,3 +24,4 @@ pub mod Addresses
 pub mod Activity
 pub mod Looked
 pub mod Fates
+pub mod UpTo

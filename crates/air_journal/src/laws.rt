@@ -3,12 +3,14 @@ ghost use Rattle.std.specs.Prelude.{ℕ, List, All, length};
 ghost use Rattle.acas_base.specs.Encounter.{Parts, IsEncounter};
 ghost use Rattle.acas_base.specs.declared.entry.Entry.{Entry};
 ghost use Rattle.air_journal.specs.Airs.{air_of};
-ghost use Rattle.air_journal.specs.Alike.{AreAlikeButFates};
+ghost use Rattle.air_journal.specs.Alike.{AreAlikeButFates, FlyAlikeUpTo};
 ghost use Rattle.air_journal.specs.Pinned.{HasSmallCopies, IsAirOf};
 ghost use Rattle.air_journal.specs.Ranges.{IsEntry};
 ghost use Rattle.air_rules.specs.Air.{IsSound};
-ghost use Rattle.air_rules.specs.Alike.{AreAlikeButCopies};
+ghost use Rattle.air_rules.specs.Alike.{AreAlikeButCopies, AreAlikeUpTo};
+ghost use Rattle.air_rules.specs.Rounds.{AreTheSameTo};
 ghost use Rattle.air_rules.specs.Rules.{IsLegal};
+ghost use Rattle.air_rules.specs.Serial.{IsSerial};
 ghost use Rattle.air_rules.specs.Shape.{HaveOneShape};
 ghost use Rattle.air_rules.specs.Worlds.{SeesTheSame};
 ghost use Rattle.craft_view.specs.Facts.{SeesAlike};
@@ -42,6 +44,17 @@ pub fn shape_law()
 {
     sound_law();
     air_rules::shape_law();
+}
+
+/// A law: what comes first doesn't follow from what is flown later. Where the aircraft of two encounters are at the same
+/// places up to a cycle, the airs are alike up to it, and the serial journals are the same up to the end of that round.
+pub fn causality_law()
+    ensures alike { (e f : Parts) (last : ℕ) → FlyAlikeUpTo e f last → AreAlikeUpTo (air_of e) (air_of f) last }
+    ensures same { (e f : Parts) (last : ℕ) (one two : List Entry) → IsEncounter e → IsEncounter f → FlyAlikeUpTo e f last →
+        IsSerial (air_of e) one → IsSerial (air_of f) two → AreTheSameTo one two last }
+{
+    sound_law();
+    air_rules::causality_law();
 }
 
 /// A law: in each entry of a legal journal of an encounter all parts are in their ranges, and in the cells of a

@@ -32,6 +32,6 @@ pub use answers::{Commit, Sent, Took, TookThis};
 pub use crafts::{is_ra, rank};
 pub use entry_ref::EntryRef;
 pub use kept::Waiting;
-pub use laws::{air_law, alike_law, entries_law, shape_law, sound_law};
+pub use laws::{air_law, alike_law, causality_law, entries_law, shape_law, sound_law};
 pub use state::AirState;
 pub use state_laws::{priority_law, settled_law, worlds_law};
