@@ -13,6 +13,6 @@ mod words;
 pub use aural::{Aural, aural_of, has_advice};
 pub use cells::{CELL_BYTES, add_cell, sense_letter, strength_digit};
 pub use composite::{Composite, composite_of, shown, word};
-pub use report::{is_quiet, line, set_line};
+pub use report::{is_quiet, line};
 pub use stretches::{Stretch, has_same_word};
 pub use words::{complement_text, sense_text};

@@ -1,5 +1,5 @@
 // The lines of the report.
-ghost use Rattle.std.specs.Prelude.{◌≡◌, ◌↔◌, false, IsNone, IsTrue, Some};
+ghost use Rattle.std.specs.Prelude.{◌≡◌, ◌↔◌, IsNone, IsTrue};
 ghost use Rattle.advisory_report.specs.Composite.{word_of};
 ghost use Rattle.advisory_report.specs.Phrases.{aural_of};
 ghost use Rattle.advisory_report.specs.Report.{is_quiet, is_same_word, is_silent, line_text, report_line};
@@ -31,27 +31,18 @@ pub fn is_quiet(before: &Composite, after: &Composite) -> bool
     is_same_word(before, after) && is_silent(aural_of(before, after))
 }
 
-// Makes the line of a commit after which the crew hears this, in place of what a line held.
-fn set_text(line: &mut Line, cycle: u16, own: Address, before: &Composite, after: &Composite)
-    ensures { line.new ≡ line_text cycle own before.now after.now }
+// The line of a commit after which the crew hears this.
+fn line_text(cycle: u16, own: Address, before: &Composite, after: &Composite) -> Line
+    ensures { result ≡ line_text cycle own before.now after.now }
 {
-    line.clear();
+    let mut line = Line::new();
     line.text("r");
     line.u16_field(cycle);
     line.address_field(own.value());
     line.text_field(word(after));
     line.text_field(phrase(aural_of(before, after)));
     line.text("\n");
-}
-
-/// Makes the line that [`line`] gives for a commit, in place of what a line held. The commit has to have one. A caller
-/// that makes many lines clears no memory for each of them.
-#[tactic(auto, unfolding(crate::specs::Report::report_line))]
-pub fn set_line(line: &mut Line, cycle: u16, own: Address, before: &Composite, after: &Composite)
-    requires { is_quiet before.now after.now ≡ false }
-    ensures { report_line cycle own before.now after.now ≡ Some line.new }
-{
-    set_text(line, cycle, own, before, after);
+    line
 }
 
 /// The line of the report for a commit, from the composite before it to its own one, with its line feed:
@@ -66,7 +57,5 @@ pub fn line(cycle: u16, own: Address, before: &Composite, after: &Composite) -> 
     if is_quiet(before, after) {
         return None;
     }
-    let mut line = Line::new();
-    set_line(&mut line, cycle, own, before, after);
-    Some(line)
+    Some(line_text(cycle, own, before, after))
 }

@@ -8,14 +8,27 @@ ghost use Rattle.rec_text.specs.Report.{AreShown, commit_report, report_in, repo
 
 use acas_base::{Address, CRAFTS, Cells};
 use acas_lines::{LineSink, Text, count_lines};
-use acas_text::Line;
-use advisory_report::{Composite, composite_of, is_quiet, set_line};
+use advisory_report::{Composite, composite_of, is_quiet, line};
 use air_journal::AirState;
 
-// Puts the line of a commit, where the report has one. It is made in `line`, in place of what that held: no memory is
-// cleared for it.
+// Puts the line of a commit, where the report has one. A function clears its memory for a line at its start: so it is
+// only called for a commit that may have one.
+fn put_line<S: LineSink>(
+    cycle: u16,
+    address: Address,
+    before: &Composite,
+    after: &Composite,
+    sink: &mut S,
+)
+    ensures { S.took sink.old sink.new (option_to_list (report_line cycle address before.now after.now)) }
+{
+    if let Some(line) = line(cycle, address, before, after) {
+        sink.line(&line);
+    }
+}
+
+// Does the same sooner, since most commits have no line.
 fn put_change<S: LineSink>(
-    line: &mut Line,
     cycle: u16,
     address: Address,
     before: &Composite,
@@ -27,13 +40,11 @@ fn put_change<S: LineSink>(
     if is_quiet(before, after) {
         return;
     }
-    set_line(line, cycle, address, before, after);
-    sink.line(line);
+    put_line(cycle, address, before, after, sink);
 }
 
 // Puts the line of a commit, where the report has one, and gives what the aircraft shows after it.
 fn put_commit<S: LineSink>(
-    line: &mut Line,
     cycle: u16,
     address: Address,
     before: &Composite,
@@ -47,7 +58,7 @@ fn put_commit<S: LineSink>(
         return Composite::clear();
     };
     let after = composite_of(cells);
-    put_change(line, cycle, address, before, &after, sink);
+    put_change(cycle, address, before, &after, sink);
     after
 }
 
@@ -57,7 +68,6 @@ fn put_cycle<S: LineSink>(
     state: &AirState,
     cycle: u16,
     composites: &mut [Composite; CRAFTS],
-    line: &mut Line,
     sink: &mut S,
 )
     requires first { 1 ≤ cycle }
@@ -69,7 +79,7 @@ fn put_cycle<S: LineSink>(
     for own in 0..crafts.len() {
         let cells = state.cells(own as u8, cycle);
         let address = crafts[own].address;
-        composites[own] = put_commit(line, cycle, address, &composites[own], cells, sink);
+        composites[own] = put_commit(cycle, address, &composites[own], cells, sink);
     }
 }
 
@@ -79,9 +89,8 @@ pub(crate) fn put_report<S: LineSink>(state: &AirState, sink: &mut S)
 {
     state.legal_law();
     let mut composites = [Composite::clear(); CRAFTS];
-    let mut line = Line::new();
     for cycle in 0..state.enc().cycles() {
-        put_cycle(state, cycle + 1, &mut composites, &mut line, sink);
+        put_cycle(state, cycle + 1, &mut composites, sink);
     }
 }
 

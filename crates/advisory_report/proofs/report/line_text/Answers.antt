@@ -1,5 +1,5 @@
 use Rattle.std.proofs.Common.{append_assoc}
-use Rattle.advisory_report.proofs.report.set_text.Goals as goal
+use Rattle.advisory_report.proofs.report.line_text.Goals as goal
 
 pub returns : goal.returns
 returns c =
@@ -14,5 +14,5 @@ returns c =
       c.value.ensures.value,
       c.u16_field.ensures.added,
       c.text.ensures.added,
-      c.clear.ensures,
+      c.new-line.ensures,
     ) (simp append_assoc)
