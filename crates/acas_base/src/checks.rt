@@ -1,5 +1,5 @@
 // Whether the parts of an encounter are in their ranges and orders.
-ghost use Rattle.std.specs.Prelude.{◌≡◌, ◌≢◌, ◌↔◌, ◌≤◌, All, AllPairs, IsTrue, IfSome, None, count_ones};
+ghost use Rattle.std.specs.Prelude.{◌≡◌, ◌≢◌, ◌↔◌, ◌≤◌, All, AllPairs, IsTrue, IfSome, None};
 ghost use Rattle.acas_base.specs.Encounter.{AreApart, AreCopies, AreCrafts, AreRates, IsAltitude, IsCopy, IsCraft, IsElevation, IsGains, IsPair, IsPlain, IsRun, IsVersion, most_crafts};
 ghost use Rattle.acas_base.specs.Ranges.{IsBetween, IsCycle};
 
@@ -75,19 +75,12 @@ pub(crate) fn is_pair(count: usize, a: u8, b: u8) -> bool
     usize::from(a) < count && usize::from(b) < count && a != b
 }
 
-/// Whether a mask flips at most three bits. Most masks flip none.
-pub fn flips_few(mask: u8) -> bool
-    ensures { IsTrue result ↔ (count_ones mask ≤ 3) }
-{
-    mask == 0 || mask.count_ones() <= 3
-}
-
 // A plan that isn't used is zero.
 fn is_copy(place: u8, copies: u8, plan: CopyPlan) -> bool
     ensures { IsTrue result ↔ IsCopy place copies plan }
 {
     plan.hold <= 60
-        && flips_few(plan.mask)
+        && plan.mask.count_ones() <= 3
         && (place < copies || plan == CopyPlan { hold: 0, mask: 0 })
 }
 

@@ -19,7 +19,6 @@ mod view;
 
 pub use address::Address;
 pub use advisory::{Cell, Cells, Intent, Rank, ResMsg, Sense, Strength, Vrc};
-pub use checks::flips_few;
 pub use craft::{
     CraftSpec, Gains, Kind, Leg, Miss, USUAL_ALTITUDE_GAINS, USUAL_RANGE_GAINS, is_active_at,
     most_crafts, some_active,

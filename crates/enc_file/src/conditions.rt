@@ -6,7 +6,10 @@ ghost use Rattle.enc_file.specs.Reading.{missing_after};
 
 use crate::record::{Copies, Course};
 use crate::refusal::Code;
-use acas_base::{CopyPlan, CraftSpec, Fate, Leg, LinkPlan, Miss, flips_few};
+use acas_base::{CopyPlan, CraftSpec, Fate, Leg, LinkPlan, Miss};
+
+// The most bits that a mask flips.
+const BITS: u32 = 3;
 
 /// What is missing where no record follows the first `count` ones.
 pub(crate) fn missing_after(count: u32) -> Code
@@ -31,7 +34,7 @@ pub(crate) fn has_ceiling(crafts: &[CraftSpec], craft: usize) -> bool
 fn is_mask_bad(copy: CopyPlan) -> bool
     ensures { result ≡ is_mask_bad copy }
 {
-    !flips_few(copy.mask)
+    BITS < copy.mask.count_ones()
 }
 
 pub(crate) fn are_masks_bad(first: CopyPlan, second: CopyPlan, third: CopyPlan) -> bool
