@@ -117,15 +117,18 @@ wanting P count Q (Ok x) h = absurd h
 wanting P count Q (Err e) h = rw h tt
 
 -- The end.
-pub end-no-run : (earlier : List Record) → run_of earlier ≡ None → fault_of earlier said.End ≡ Some code.Count
-end-no-run earlier none = by-count earlier said.End refl refl (ap (λ o. is_none o || not (list_any is_active (crafts_of earlier))) none)
+pub end-no-run : (earlier : List Record) → run_of earlier ≡ None → miscounts earlier said.End ≡ true
+end-no-run earlier none = ap (λ o. is_none o || not (list_any is_active (crafts_of earlier))) none
 
 or-not : (a b : Bool) → b ≡ false → (a || not b) ≡ true
 or-not true b e = refl
 or-not false b e = rw e refl
 
-pub end-nobody : (earlier : List Record) → list_any is_active (crafts_of earlier) ≡ false → fault_of earlier said.End ≡ Some code.Count
-end-nobody earlier nobody = by-count earlier said.End refl refl (or-not (is_none (run_of earlier)) (list_any is_active (crafts_of earlier)) nobody)
+pub end-nobody : (earlier : List Record) → list_any is_active (crafts_of earlier) ≡ false → miscounts earlier said.End ≡ true
+end-nobody earlier nobody = or-not (is_none (run_of earlier)) (list_any is_active (crafts_of earlier)) nobody
+
+pub end-miscounted : (earlier : List Record) → miscounts earlier said.End ≡ true → fault_of earlier said.End ≡ Some code.Count
+end-miscounted earlier missing = by-count earlier said.End refl refl missing
 
 not-true : (b : Bool) → (IsTrue b → ⊥) → not b ≡ true
 not-true true h = absurd (h refl)

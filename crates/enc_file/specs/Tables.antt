@@ -5,10 +5,11 @@ use Rattle.std.specs.Result.{IsErrAnd}
 use Rattle.acas_base.specs.Encounter.{Parts}
 use Rattle.acas_base.specs.declared.TheConstants.{CRAFTS}
 use Rattle.enc_file.specs.Earlier.{crafts_of, encounter_by, fate_group, fates_of, gains_of, has_ended, in_group, leg_group, legs_of, miss_group, misses_of, plan_group, plans_of, run_of, version_of}
-use Rattle.enc_file.specs.Faults.{fault_of}
+use Rattle.enc_file.specs.Faults.{fault_of, miscounts}
 use Rattle.enc_file.specs.Reading.{next_record, refusal_after}
 use Rattle.enc_file.specs.WellRead.{AreRead}
 use Rattle.enc_file.specs.declared.record.Record.{Record}
+use Rattle.enc_file.specs.declared.record.Record.TheVariants.{End}
 use Rattle.enc_file.specs.declared.refusal.Code.{Code}
 use Rattle.enc_file.specs.declared.refusal.ReadError.{ReadError}
 use Rattle.enc_file.specs.declared.refusal.ReadError.TheVariants.{Refused, OutOfMemory}
@@ -35,6 +36,10 @@ pub record Holds (earlier : List Record) (tables : Tables) : Type 0 where
   pub plans : tables.plans ≡ grouped plan_group (CRAFTS * CRAFTS) (plans_of earlier)
   pub fates : tables.fates ≡ grouped fate_group (CRAFTS * CRAFTS) (fates_of earlier)
   pub made : IsMade earlier tables.made
+
+-- The encounter that the records so far say. There is none where they give no run, or no active aircraft.
+abbrev pub IsSoFar : List Record → Option Parts → Type 0
+IsSoFar earlier made = MatchOption made (miscounts earlier End ≡ true) (λ e. (miscounts earlier End ≡ false) × (e ≡ encounter_by earlier))
 
 -- The tables hold what some records give.
 pub record IsHeld (tables : Tables) : Type 0 where

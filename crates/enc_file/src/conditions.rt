@@ -1,12 +1,12 @@
 // What may be wrong with a record after those before it, and what it gives.
 ghost use Rattle.std.specs.Prelude.{◌≡◌};
-ghost use Rattle.enc_file.specs.Earlier.{fate_by, leg_by, miss_by, plan_by};
+ghost use Rattle.enc_file.specs.Earlier.{fate_by, index_of, leg_by, miss_by, plan_by};
 ghost use Rattle.enc_file.specs.Faults.{are_masks_bad, has_ceiling, is_mask_bad};
 ghost use Rattle.enc_file.specs.Reading.{missing_after};
 
 use crate::record::{Copies, Course};
 use crate::refusal::Code;
-use acas_base::{CopyPlan, CraftSpec, Fate, Leg, LinkPlan, Miss};
+use acas_base::{Address, CopyPlan, CraftSpec, Fate, Leg, LinkPlan, Miss};
 
 // The most bits that a mask flips.
 const BITS: u32 = 3;
@@ -20,6 +20,13 @@ pub(crate) fn missing_after(count: u32) -> Code
     } else {
         Code::NoEnd
     }
+}
+
+/// The index of the aircraft with an address.
+pub fn index_of(crafts: &[CraftSpec], address: Address) -> Option<usize>
+    ensures { result ≡ index_of crafts.now address }
+{
+    crafts.iter().position(|craft| craft.address == address)
 }
 
 pub(crate) fn has_ceiling(crafts: &[CraftSpec], craft: usize) -> bool

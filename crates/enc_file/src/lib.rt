@@ -14,7 +14,11 @@ mod tables;
 mod values;
 
 pub use canonical::{CanonicalText, write};
+pub use conditions::index_of;
 pub use laws::{canonical_records_law, canonical_text_law, passed_law, refusal_law};
 pub use reading::read;
+pub use record::{Addresses, Copies, Course, Record, Run, TrackGains};
 pub use refusal::{Code, ReadError, Refusal};
-pub use values::{address_in, count_in, kind_in, mask_in, number_in};
+pub use saying::{record_of, version_in};
+pub use tables::Tables;
+pub use values::{address_in, count_in, field, kind_in, mask_in, number_in};

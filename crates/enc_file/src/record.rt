@@ -3,46 +3,46 @@ use acas_base::{Address, CopyPlan, CraftSpec, Gains};
 
 /// How many cycles a run has, and the elevation of the ground in ft.
 #[derive(Clone, Copy)]
-pub(crate) struct Run {
-    pub(crate) cycles: u16,
-    pub(crate) elevation: i32,
+pub struct Run {
+    pub cycles: u16,
+    pub elevation: i32,
 }
 
 /// The gains of the range tracks and of the altitude tracks.
 #[derive(Clone, Copy)]
-pub(crate) struct TrackGains {
-    pub(crate) range: Gains,
-    pub(crate) altitude: Gains,
+pub struct TrackGains {
+    pub range: Gains,
+    pub altitude: Gains,
 }
 
-/// The rates of a leg from a cycle on.
+/// The rates of a leg from a cycle on: `vx` and `vy` in ft/s, `vz` in ft/min.
 #[derive(Clone, Copy)]
-pub(crate) struct Course {
-    pub(crate) from: u16,
-    pub(crate) vx: i32,
-    pub(crate) vy: i32,
-    pub(crate) vz: i32,
+pub struct Course {
+    pub from: u16,
+    pub vx: i32,
+    pub vy: i32,
+    pub vz: i32,
 }
 
 /// The copies of a message. Those past their count are zero.
 #[derive(Clone, Copy)]
-pub(crate) struct Copies {
-    pub(crate) count: u8,
-    pub(crate) first: CopyPlan,
-    pub(crate) second: CopyPlan,
-    pub(crate) third: CopyPlan,
+pub struct Copies {
+    pub count: u8,
+    pub first: CopyPlan,
+    pub second: CopyPlan,
+    pub third: CopyPlan,
 }
 
 /// An own aircraft and its target, or a sender and its receiver.
 #[derive(Clone, Copy)]
-pub(crate) struct Addresses {
-    pub(crate) first: Address,
-    pub(crate) second: Address,
+pub struct Addresses {
+    pub first: Address,
+    pub second: Address,
 }
 
 /// A record of an encounter's text, read by itself. Its fields are in their ranges.
 #[derive(Clone, Copy)]
-pub(crate) enum Record {
+pub enum Record {
     Header(u8),
     Run(Run),
     Gains(TrackGains),

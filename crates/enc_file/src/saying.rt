@@ -13,7 +13,7 @@ use csv::ByteRecord;
 
 /// The version of the format that a header says.
 #[tactic(auto, unfolding(crate::specs::Saying::version_in))]
-pub(crate) fn version_in(row: &ByteRecord) -> Option<u8>
+pub fn version_in(row: &ByteRecord) -> Option<u8>
     ensures value { result ≡ version_in (fields_of row.now) }
     ensures range { IfSome result IsVersion }
 {
@@ -273,7 +273,7 @@ fn of_format_2(version: u8, row: &ByteRecord) -> Result<Record, Code>
 
 /// A later record, by its kind.
 #[tactic(auto, unfolding(crate::specs::Saying::record_of))]
-pub(crate) fn record_of(version: u8, row: &ByteRecord) -> Result<Record, Code>
+pub fn record_of(version: u8, row: &ByteRecord) -> Result<Record, Code>
     ensures value { result ≡ record_of version (fields_of row.now) }
     ensures ranges { IfOk result IsSaid }
     ensures format { IfOk result (IsOfFormat version) }

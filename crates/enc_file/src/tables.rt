@@ -1,16 +1,16 @@
 // What the records so far give, and what is wrong with the next one.
-ghost use Rattle.std.specs.Prelude.{◌≡◌, ◌-◌, ◌*◌, ◌<◌, ◌^◌, [], List, IfOk, Some, true};
+ghost use Rattle.std.specs.Prelude.{◌≡◌, ◌-◌, ◌*◌, ◌<◌, ◌^◌, ◌∷◌, [], List, IfOk, Some, true};
 ghost use Rattle.std.specs.List.{list_any};
-ghost use Rattle.acas_base.specs.Encounter.{is_active};
+ghost use Rattle.acas_base.specs.Encounter.{IsVersion, is_active};
 ghost use Rattle.acas_base.specs.declared.TheConstants.{CRAFTS};
 ghost use Rattle.csv.specs.Records.{fields_of};
-ghost use Rattle.enc_file.specs.Earlier.{encounter_by, for_pair, index_of, version_of};
+ghost use Rattle.enc_file.specs.Earlier.{crafts_of, encounter_by, for_pair, index_of, version_of};
 ghost use Rattle.enc_file.specs.Reading.{IsReading, read_from, refusal_after};
-ghost use Rattle.enc_file.specs.Tables.{Adds, AreGoing, Holds, IsHeld, Settles, Takes};
+ghost use Rattle.enc_file.specs.Tables.{Adds, AreGoing, Holds, IsHeld, IsSoFar, Settles, Takes};
 ghost use Rattle.enc_file.specs.WellRead.{IsOfFormat, IsSaid};
 ghost use Rattle.enc_file.specs.declared.record.Record.{Record};
 
-use crate::conditions::{fate_by, has_ceiling, leg_by, miss_by, missing_after, plan_by};
+use crate::conditions::{fate_by, has_ceiling, index_of, leg_by, miss_by, missing_after, plan_by};
 use crate::groups::Groups;
 use crate::record::{Addresses, Copies, Course, Record, Run, TrackGains};
 use crate::refusal::{Code, ReadError, Refusal};
@@ -29,10 +29,10 @@ const USUAL_GAINS: TrackGains = TrackGains {
     altitude: USUAL_ALTITUDE_GAINS,
 };
 
-/// What the records so far give. The records of each aircraft and of each pair stand in groups. So the next record is
-/// compared with the last one of its group alone.
+/// What the records of an encounter's text give, up to some record. They are read one after the other. The records of
+/// each aircraft and of each pair stand in groups. So the next record is compared with the last one of its group alone.
 #[derive(Drop)]
-pub(crate) struct Tables {
+pub struct Tables {
     count: u32,
     version: u8,
     run: Option<Run>,
@@ -46,8 +46,8 @@ pub(crate) struct Tables {
 }
 
 impl Tables {
-    /// The tables before the first record.
-    pub(crate) fn new(alloc: Global) -> Result<Tables, AllocError>
+    /// The tables before the first record. The error says that memory was wanting.
+    pub fn new(alloc: Global) -> Result<Tables, AllocError>
         ensures { IfOk result (Holds []) }
     {
         Ok(Tables {
@@ -62,6 +62,24 @@ impl Tables {
             fates: Groups::new(alloc, CRAFTS * CRAFTS)?,
             made: None,
         })
+    }
+
+    /// The tables after the header of a format. The error says that memory was wanting.
+    pub fn begun(alloc: Global, version: u8) -> Result<Tables, AllocError>
+        requires { IsVersion version }
+        ensures { IfOk result (Holds (Record.Header version ∷ [])) }
+    {
+        let mut tables = Tables::new(alloc)?;
+        tables.version = version;
+        tables.count = 1;
+        Ok(tables)
+    }
+
+    /// The aircraft so far, each with its ceiling.
+    pub fn crafts(&self) -> &[CraftSpec]
+        ensures { (earlier : List Record) → Holds earlier self.now → result.now ≡ crafts_of earlier }
+    {
+        &self.crafts
     }
 
     // The refusal of the next record.
@@ -93,9 +111,7 @@ impl Tables {
     fn index_of(&self, address: Address) -> Option<usize>
         ensures { result ≡ index_of self.now.crafts.items address }
     {
-        self.crafts
-            .iter()
-            .position(|craft| craft.address == address)
+        index_of(&self.crafts, address)
     }
 
     // The two different aircraft with these addresses, by their indices.
@@ -236,8 +252,8 @@ impl Tables {
         self.settle(fault)
     }
 
-    // The encounter that the records so far say.
-    fn encounter(&self, alloc: Global, run: Run) -> Result<Encounter, AllocError>
+    // The encounter that the records so far say, with their run.
+    fn encounter_in(&self, alloc: Global, run: Run) -> Result<Encounter, AllocError>
         requires run { self.now.run ≡ Some run }
         requires active { list_any is_active self.now.crafts.items ≡ true }
         requires held { IsHeld self.now }
@@ -262,19 +278,32 @@ impl Tables {
         }
     }
 
+    /// The encounter that the records so far say. None comes exactly where they give no run, or no aircraft of kind RA
+    /// or TA. The error says that memory was wanting.
+    ///
+    /// Whether its aircraft stay in the box isn't asked.
+    pub fn encounter(&self, alloc: Global) -> Result<Option<Encounter>, AllocError>
+        requires { IsHeld self.now }
+        ensures { (earlier : List Record) → Holds earlier self.now → IfOk result (IsSoFar earlier) }
+    {
+        let Some(run) = self.run else {
+            return Ok(None);
+        };
+        if !some_active(&self.crafts) {
+            return Ok(None);
+        }
+        Ok(Some(self.encounter_in(alloc, run)?))
+    }
+
     // The end: the encounter is made.
     fn add_end(&mut self, alloc: Global) -> Result<(), ReadError>
         requires room { self.old.count < 2 ^ 32 - 1 }
         requires held { IsHeld self.old }
         ensures { (earlier : List Record) → AreGoing earlier → Holds earlier self.old → Adds earlier Record.End self.new result }
     {
-        let Some(run) = self.run else {
+        let Some(encounter) = self.encounter(alloc)? else {
             return Err(self.refused(Code::Count));
         };
-        if !some_active(&self.crafts) {
-            return Err(self.refused(Code::Count));
-        }
-        let encounter = self.encounter(alloc, run)?;
         if !inside(&encounter) {
             return Err(self.refused(Code::Box));
         }
@@ -283,8 +312,12 @@ impl Tables {
         Ok(())
     }
 
-    // A record after the header, before the end.
-    fn add(&mut self, alloc: Global, now: Record) -> Result<(), ReadError>
+    /// Adds a record after the header, before the end.
+    ///
+    /// - `Refused`: the record is wrong after those before it. It names the record's place among those that were added,
+    ///   and the lowest code of its faults.
+    /// - `OutOfMemory`: memory was wanting.
+    pub fn add(&mut self, alloc: Global, now: Record) -> Result<(), ReadError>
         requires room { self.old.count < 2 ^ 32 - 1 }
         requires held { IsHeld self.old }
         requires said { IsSaid now }
@@ -309,8 +342,8 @@ impl Tables {
         }
     }
 
-    /// Takes the next record.
-    pub(crate) fn take(&mut self, alloc: Global, row: &ByteRecord) -> Result<(), ReadError>
+    /// Takes the next record, as its fields stand in the text. The errors are those of [`crate::read`].
+    pub fn take(&mut self, alloc: Global, row: &ByteRecord) -> Result<(), ReadError>
         requires room { self.old.count < 2 ^ 32 - 1 }
         requires held { IsHeld self.old }
         ensures { (earlier : List Record) → Holds earlier self.old → Takes earlier (fields_of row.now) self.new result }

@@ -11,7 +11,7 @@ use acas_text::{parse, parse_hex};
 use csv::ByteRecord;
 
 /// The field at a place, from 0; an empty one past the last.
-pub(crate) fn field(row: &ByteRecord, place: usize) -> &[u8]
+pub fn field(row: &ByteRecord, place: usize) -> &[u8]
     ensures { result.now ≡ field (fields_of row.now) place }
 {
     match row.get(place) {

@@ -10,3 +10,10 @@ pub mod FirstField
 pub mod FirstBytes
 pub mod Marked
 pub mod Quoted
+pub mod Said
+pub mod Passing
+pub mod Repeats
+pub mod Rising
+pub mod LastLine
+pub mod AfterOthers
+pub mod NamedAgainst

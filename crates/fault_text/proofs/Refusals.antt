@@ -76,7 +76,7 @@ going-same : (rows : List (List (List ℕ))) (refusal : Refusal) (r : IsRefused 
 going-same rows refusal r None test = refl
 going-same rows refusal r (Some fields) test = refl
 
-abbrev next_of : (rows : List (List (List ℕ))) (refusal : Refusal) → IsRefused rows refusal → Option (List (List ℕ))
+abbrev pub next_of : (rows : List (List (List ℕ))) (refusal : Refusal) → IsRefused rows refusal → Option (List (List ℕ))
 next_of rows refusal r = slice_get rows (length r.earlier)
 
 pub going : (rows : List (List (List ℕ))) (refusal : Refusal) (r : IsRefused rows refusal) (test : List (List ℕ) → Bool) → if_going r.earlier (next_of rows refusal r) test ≡ true
@@ -84,12 +84,12 @@ pub going : (rows : List (List (List ℕ))) (refusal : Refusal) (r : IsRefused r
 going rows refusal r test h = going-is (is_first r.earlier) (has_ended r.earlier) (next_of rows refusal r) test (sym (going-same rows refusal r (next_of rows refusal r) test) ∙ h)
 
 -- Its kind.
-record HasKind (found : Option stated.RecordKind) (test : stated.RecordKind → Bool) : Type 0 where
-  kind : stated.RecordKind
-  named : found ≡ Some kind
-  passes : test kind ≡ true
+pub record HasKind (found : Option stated.RecordKind) (test : stated.RecordKind → Bool) : Type 0 where
+  pub kind : stated.RecordKind
+  pub named : found ≡ Some kind
+  pub passes : test kind ≡ true
 
-kind-by : (named : Option stated.RecordKind) (test : stated.RecordKind → Bool) → if_said named test ≡ true → HasKind named test
+pub kind-by : (named : Option stated.RecordKind) (test : stated.RecordKind → Bool) → if_said named test ≡ true → HasKind named test
 kind-by None test h = absurd (false≢true h)
 kind-by (Some kind) test h = record { kind = kind; named = refl; passes = h }
 
@@ -147,20 +147,20 @@ pub counted-at : (text : List ℕ) (refusal : Refusal) → reading_of text ≡ E
 counted-at text refusal h = let r = refused-text text refusal h in omega (arith, r.at)
 
 -- The line holds the record.
-line-is : (text : List ℕ) (refusal : Refusal) (line : List ℕ) (fields : List (List ℕ)) (r : IsRefused (records_of text) refusal) → IsRecord (file_lines text) refusal.at line → next_of (records_of text) refusal r ≡ Some fields → fields_in line ≡ fields
+pub line-is : (text : List ℕ) (refusal : Refusal) (line : List ℕ) (fields : List (List ℕ)) (r : IsRefused (records_of text) refusal) → IsRecord (file_lines text) refusal.at line → next_of (records_of text) refusal r ≡ Some fields → fields_in line ≡ fields
 line-is text refusal line fields r place is =
     let at : refusal.at - 1 ≡ length r.earlier = omega (arith, r.at) in
     (stands-record text refusal.at place.0 line fields place.1 (ap (slice_get (records_of text)) at ∙ is)).1
 
 -- The version that the first line says is that of the records so far.
-version-is : (text : List ℕ) (refusal : Refusal) (version : ℕ) (r : IsRefused (records_of text) refusal) → is_first r.earlier ≡ false → IsFormat text version → version_of r.earlier ≡ version
+pub version-is : (text : List ℕ) (refusal : Refusal) (version : ℕ) (r : IsRefused (records_of text) refusal) → is_first r.earlier ≡ false → IsFormat text version → version_of r.earlier ≡ version
 version-is text refusal version r first format =
     let head = refused-first (records_of text) refusal r first in
     let placed : slice_get (records_of text) 0 ≡ Some (fields_in format.line) = ap (λ rows. slice_get rows 0) (records-are-lines text) ∙ placed-record (file_lines text) 1 format.number format.line format.first in
     let same : fields_in format.line ≡ head.0 = same_Some (fields_in format.line) head.0 (sym placed ∙ head.1) in
     same_Some (version_of r.earlier) version (sym head.2 ∙ ap version_in (sym same) ∙ format.said)
 
-headed-by : (text : List ℕ) (refusal : Refusal) (r : IsRefused (records_of text) refusal) → is_first r.earlier ≡ false → IsHeaded text
+pub headed-by : (text : List ℕ) (refusal : Refusal) (r : IsRefused (records_of text) refusal) → is_first r.earlier ≡ false → IsHeaded text
 headed-by text refusal r first =
     let head = refused-first (records_of text) refusal r first in
     record { fields = head.0; first = head.1; header = ap is_some head.2 }

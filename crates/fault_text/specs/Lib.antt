@@ -4,3 +4,4 @@ pub mod Names
 pub mod Told
 pub mod Hints
 pub mod Sentences
+pub mod Before

@@ -1,10 +1,12 @@
 -- The sentence of a fault.
-use Rattle.std.specs.Prelude.{ℕ, ℤ, ◌==◌, ◌&&◌, ◌||◌, if◌then◌else◌, Bool, List, [], ◌∷◌, ◌++◌, codes}
+use Rattle.std.specs.Prelude.{ℕ, ℤ, ◌==◌, ◌&&◌, ◌||◌, if◌then◌else◌, Bool, List, [], ◌∷◌, ◌++◌, codes, Option, None, Some}
 use Rattle.std.specs.Fmt.{decimal, signed_decimal}
 use Rattle.std.specs.Str.{bytes_eq}
+use Rattle.acas_text.specs.Hex.{hex}
 use Rattle.fault_text.specs.Hints.{address_hint, number_hint}
 use Rattle.fault_text.specs.Names.{content_of, name_text, word_text}
 use Rattle.fault_text.specs.Shown.{shown}
+use Rattle.fault_text.specs.declared.earlier.Sought.{Sought}
 use Rattle.fault_text.specs.declared.fault.Fault.{Fault}
 use Rattle.fault_text.specs.declared.fault.Why.{Why}
 use Rattle.fault_text.specs.declared.fault.Why.TheVariants as why
@@ -73,6 +75,39 @@ field_count_text of count = word_text of ++ codes " has " ++ decimal count ++ fi
 abbrev pub found_text : FieldName → List ℕ → List ℕ
 found_text n found = name_text n ++ codes " is " ++ shown found
 
+-- An address behind some words, where there is one.
+abbrev pub named_text : List ℕ → Option ℕ → List ℕ
+named_text words None = []
+named_text words (Some address) = words ++ hex 6 address
+
+-- The records that there may be once.
+abbrev pub again_text : Sought → ℕ → List ℕ
+again_text of number =
+    codes "a second " ++ word_text of.kind ++ codes " record" ++ named_text (codes " of ") of.first ++ named_text (codes " to ") of.second ++ codes "; the first one is in line " ++ decimal number
+
+-- The fields with a number that has to exceed the earlier one, and with that one.
+abbrev pub rising_name : RecordKind → FieldName
+rising_name kind.Fate = name.Number
+rising_name other = name.From
+
+abbrev pub reached_name : RecordKind → FieldName
+reached_name kind.Fate = name.Number
+reached_name kind.Miss = name.To
+reached_name other = name.From
+
+abbrev pub rising_text : RecordKind → ℕ → List ℕ
+rising_text of found = name_text (rising_name of) ++ codes " is " ++ decimal found
+
+abbrev pub reached_text : RecordKind → ℕ → List ℕ
+reached_text of number = codes ", the " ++ name_text (reached_name of) ++ codes " of line " ++ decimal number
+
+abbrev pub not_above_text : RecordKind → ℕ → ℕ → ℕ → List ℕ
+not_above_text of found reached number = rising_text of found ++ codes ", and has to be above " ++ decimal reached ++ reached_text of number
+
+abbrev pub many_crafts_text : ℕ → List ℕ
+many_crafts_text version =
+    if version == 1 then codes "one aircraft too many: format 1 has at most 8, and format 2 has at most 16" else codes "one aircraft too many: format 2 has at most 16"
+
 abbrev pub why_text : Why → List ℕ
 why_text why.NoRecord = codes "there is no record; the first one has to be \"encounter,1\" or \"encounter,2\""
 why_text (why.NoHeader found) = codes "the first record has to be \"encounter,1\" or \"encounter,2\", and is " ++ shown found.now
@@ -82,6 +117,14 @@ why_text (why.NoValue n found) = found_text n found.now ++ codes ", and has to b
 why_text (why.Turned from to) = codes "TO is " ++ decimal to ++ codes ", and may not be below FROM, " ++ decimal from
 why_text (why.NoAddress n found) = found_text n found.now ++ codes ", and has to be an address: six digits 0-9A-F" ++ address_hint found.now
 why_text (why.ManyBits n found bits) = found_text n found.now ++ codes ": " ++ decimal bits ++ codes " of its bits are 1, and at most three may be"
+why_text (why.Again of number) = again_text of number
+why_text (why.NotAbove of found reached number) = not_above_text of found reached number
+why_text (why.Unknown n address) = name_text n ++ codes " is " ++ hex 6 address ++ codes ", which has no craft record before this line"
+why_text (why.Equal address) = codes "the two addresses are equal, " ++ hex 6 address
+why_text (why.ManyCrafts version) = many_crafts_text version
+why_text why.NoRun = codes "there is no run record"
+why_text why.NoneActive = codes "there is no aircraft of kind RA or TA"
+why_text why.Outside = codes "an aircraft leaves the box: x and y have to be from -1000000 to 1000000 ft, and the altitude from -1000 to 60000 ft, in each cycle of the run"
 why_text why.NoEnd = codes "the last record has to be \"end\", and there is none; was the text cut off?"
 why_text (why.After end) = codes "a record after \"end\", which is in line " ++ decimal end
 

@@ -1,14 +1,17 @@
 -- What is told of a refusal: in which line the record stands, and what is wrong with it.
 use Rattle.std.specs.Borrow.{Bor}
-use Rattle.std.specs.Prelude.{◌≡◌, ℕ, ◌-◌, ◌<◌, Bool, false, true, List, [], length, drop, count_ones, option_map, Option, Some, None, MatchOption, codes, slice_get, IsSome}
+use Rattle.std.specs.Prelude.{◌≡◌, ℕ, ◌+◌, ◌-◌, ◌≤◌, ◌<◌, Bool, false, true, List, [], length, drop, count_ones, option_map, Option, Some, None, codes, slice_get, IsSome}
 use Rattle.enc_file.specs.Conditions as stated
+use Rattle.enc_file.specs.Conditions.{IsRefused, is_first}
 use Rattle.enc_file.specs.Records.{records_of}
 use Rattle.enc_file.specs.Saying.{version_in}
 use Rattle.enc_file.specs.Values.{count_in, field, mask_in}
+use Rattle.enc_file.specs.declared.record.Record.{Record}
 use Rattle.enc_file.specs.declared.refusal.Code.{Code}
 use Rattle.enc_file.specs.declared.refusal.Code.TheVariants as code
 use Rattle.enc_file.specs.declared.refusal.Refusal.{Refusal}
-use Rattle.fault_text.specs.Lines.{IsPlaced, Stands, fields_in, file_lines, is_written}
+use Rattle.fault_text.specs.Before.{TellsCounted, TellsRepeat, TellsUnknown}
+use Rattle.fault_text.specs.Lines.{IsPlaced, Stands, fields_in, file_lines, is_written, written}
 use Rattle.fault_text.specs.Names.{first_failing, names_of, word_text}
 use Rattle.fault_text.specs.declared.fault.Fault.{Fault}
 use Rattle.fault_text.specs.declared.fault.Why.{Why}
@@ -128,30 +131,60 @@ abbrev pub TellsAfter : List ℕ → ℕ → Why → Type 0
 TellsAfter text at (why.After end) = (line : List ℕ) × IsPlaced (file_lines text) (at - 1) end line × (line ≡ codes "end")
 TellsAfter text at other = ⊥
 
--- What is wrong, by the code. The codes that aren't told yet have no sentence.
+-- A record has a fault of one of these codes after those before it.
+abbrev pub against_by : Code → List Record → stated.RecordKind → List (List ℕ) → Bool
+against_by code.Repeat earlier kind fields = stated.is_repeat earlier kind fields
+against_by code.Unknown earlier kind fields = stated.is_unknown earlier kind fields
+against_by code.Count earlier kind fields = stated.is_miscounted earlier kind fields
+against_by other earlier kind fields = false
+
+-- A record of this kind has a fault after those before it, which aren't none.
+pub record IsAgainst (text : List ℕ) (refusal : Refusal) (kind : RecordKind) (line : List ℕ) : Type 0 where
+  pub refused : IsRefused (records_of text) refusal
+  pub fault : against_by refusal.code refused.earlier (stated_kind kind) (fields_in line) ≡ true
+  pub some : is_first refused.earlier ≡ false
+  pub enough : refusal.at ≤ length (written (file_lines text)) + 1
+
+-- The same of a record whose kind its first field names.
+pub record IsNamedAgainst (text : List ℕ) (refusal : Refusal) (version : ℕ) (line : List ℕ) : Type 0 where
+  pub kind : stated.RecordKind
+  pub named : stated.kind_named version (field (fields_in line) 0) ≡ Some kind
+  pub against : (of : RecordKind) → stated_kind of ≡ kind → IsAgainst text refusal of line
+
+-- What is wrong with a record after those before it, by the code.
+abbrev pub TellsAgainst : Code → List ℕ → List Record → RecordKind → List (List ℕ) → Why → Type 0
+TellsAgainst code.Repeat text earlier kind fields w = TellsRepeat text earlier kind fields w
+TellsAgainst code.Unknown text earlier kind fields w = TellsUnknown earlier kind fields w
+TellsAgainst code.Count text earlier kind fields w = TellsCounted earlier kind w
+TellsAgainst other text earlier kind fields w = ⊥
+
+-- The records before the refused one are those that `IsRefused` names.
+pub record TellsEarlier (text : List ℕ) (refusal : Refusal) (kind : RecordKind) (line : List ℕ) (w : Why) : Type 0 where
+  pub refused : IsRefused (records_of text) refusal
+  pub tells : TellsAgainst refusal.code text refused.earlier kind (fields_in line) w
+
+pub record TellsAfterEarlier (text : List ℕ) (refusal : Refusal) (line : List ℕ) (w : Why) : Type 0 where
+  pub kind : RecordKind
+  pub named : IsNamed line kind
+  pub earlier : TellsEarlier text refusal kind line w
+
+-- What is wrong, by the code. Of the code Box it isn't told which aircraft leaves the box, where and when.
 abbrev pub Tells : Code → List ℕ → ℕ → List ℕ → Why → Type 0
 Tells code.Header text at line w = TellsHeader line w
 Tells code.Kind text at line w = TellsName text line w
 Tells code.Fields text at line w = TellsRecord code.Fields line w
 Tells code.Number text at line w = TellsRecord code.Number line w
 Tells code.Address text at line w = TellsRecord code.Address line w
+Tells code.Repeat text at line w = TellsAfterEarlier text (record { at = at; code = code.Repeat }) line w
+Tells code.Unknown text at line w = TellsAfterEarlier text (record { at = at; code = code.Unknown }) line w
+Tells code.Count text at line w = TellsAfterEarlier text (record { at = at; code = code.Count }) line w
 Tells code.Mask text at line w = TellsRecord code.Mask line w
 Tells code.NoEnd text at line w = w ≡ why.NoEnd
 Tells code.After text at line w = TellsAfter text at w
-Tells other text at line w = ⊥
+Tells code.Box text at line w = w ≡ why.Outside
 
 -- The line of the refused record, and what is wrong with it.
 pub record Explains (text : List ℕ) (refusal : Refusal) (fault : Fault) : Type 0 where
   pub line : List ℕ
   pub place : Stands (file_lines text) refusal.at fault.line line
   pub tells : Tells refusal.code text refusal.at line fault.why
-
-abbrev pub is_told : Code → Bool
-is_told code.Repeat = false
-is_told code.Unknown = false
-is_told code.Count = false
-is_told code.Box = false
-is_told other = true
-
-abbrev pub Explained : List ℕ → Refusal → Option Fault → Type 0
-Explained text refusal found = MatchOption found (is_told refusal.code ≡ false) (Explains text refusal)

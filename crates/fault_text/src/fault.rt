@@ -1,14 +1,17 @@
 // Why a text is refused, as a value.
-ghost use Rattle.std.specs.Prelude.{◌≡◌, ◌≤◌, ◌-◌, ◌<◌, ◌^◌, Err, MatchOption, false, length, true};
+ghost use Rattle.std.specs.Prelude.{◌≡◌, ◌≤◌, ◌-◌, ◌<◌, ◌^◌, Err, false, length, true};
 ghost use Rattle.enc_file.specs.Conditions.{is_address_wrong, is_count_wrong, is_masked, is_number_wrong, is_turned};
 ghost use Rattle.enc_file.specs.Reading.{reading_of};
 ghost use Rattle.fault_text.specs.Lines.{fields_in, file_lines};
-ghost use Rattle.fault_text.specs.Told.{Explained, IsAtFault, IsFormat, IsHeaded, IsRecord, Tells, TellsAddress, TellsHeader, TellsMask, TellsNumber, TellsRecord, TellsTurned, is_told, stated_kind};
+ghost use Rattle.fault_text.specs.Told.{Explains, IsAtFault, IsFormat, IsHeaded, IsNamedAgainst, IsRecord, Tells, TellsAddress, TellsAfterEarlier, TellsHeader, TellsMask, TellsNumber, TellsRecord, TellsTurned, stated_kind};
 
+use crate::against::against_why;
+use crate::earlier::Sought;
 use crate::fields::{count, field, kind_of, version_of};
 use crate::lines::place_of;
 use crate::names::{FieldName, RecordKind};
 use crate::search::leftmost;
+use acas_base::Address;
 use enc_file::{Code, Refusal, count_in, mask_in};
 
 /// What is wrong with a refused text, and where.
@@ -61,6 +64,38 @@ pub enum Why<'a> {
         found: &'a [u8],
         bits: u32,
     },
+    /// There may be one such record alone. An earlier one stands in this line, the last such before this one.
+    Again {
+        of: Sought,
+        line: u32,
+    },
+    /// The number isn't above the one that the last earlier record of this kind about the same aircraft or pair has.
+    /// That record stands in this line.
+    NotAbove {
+        kind: RecordKind,
+        found: u16,
+        reached: u16,
+        line: u32,
+    },
+    /// No earlier aircraft has the address that stands in the field.
+    Unknown {
+        name: FieldName,
+        address: Address,
+    },
+    /// The two addresses are equal.
+    Equal {
+        address: Address,
+    },
+    /// One aircraft too many for the text's format, 1 or 2.
+    ManyCrafts {
+        version: u8,
+    },
+    /// At the end: there is no run.
+    NoRun,
+    /// At the end: no aircraft is of kind RA or TA.
+    NoneActive,
+    /// At the end: an aircraft leaves the box in some cycle of the run.
+    Outside,
     /// The text has no `end`.
     NoEnd,
     /// The record stands after `end`, which is in this line.
@@ -156,6 +191,19 @@ fn record_why(code: Code, version: u8, line: &[u8]) -> Why<'_>
     }
 }
 
+// What is wrong with a record of a known kind after those before it.
+fn earlier_why(text: &[u8], refusal: Refusal, version: u8, line: &[u8]) -> Why<'static>
+    requires few { length text.now < 2 ^ 32 - 1 }
+    requires version { IsFormat text.now version }
+    requires against { IsNamedAgainst text.now refusal version line.now }
+    ensures { TellsAfterEarlier text.now refusal line.now result }
+{
+    let Some(kind) = kind_of(version, field(line, 0)) else {
+        unreachable!();
+    };
+    against_why(text, refusal, version, kind, line)
+}
+
 // The format that the first record says.
 fn format_of(text: &[u8]) -> u8
     requires few { length text.now < 2 ^ 32 - 1 }
@@ -166,44 +214,44 @@ fn format_of(text: &[u8]) -> u8
 }
 
 // What is wrong with the refused record.
-fn why_of<'a>(text: &'a [u8], refusal: Refusal, line: &'a [u8]) -> Option<Why<'a>>
+fn why_of<'a>(text: &'a [u8], refusal: Refusal, line: &'a [u8]) -> Why<'a>
     requires few { length text.now < 2 ^ 32 - 1 }
     requires part { length line.now ≤ length text.now }
     requires refused { reading_of text.now ≡ Err refusal }
     requires place { IsRecord (file_lines text.now) refusal.at line.now }
-    ensures { MatchOption result (is_told refusal.code ≡ false) (Tells refusal.code text.now refusal.at line.now) }
+    ensures { Tells refusal.code text.now refusal.at line.now result }
 {
     match refusal.code {
-        Code::Header => Some(header_why(line)),
-        Code::Kind => Some(Why::NoKind {
+        Code::Header => header_why(line),
+        Code::Kind => Why::NoKind {
             version: format_of(text),
             found: field(line, 0),
-        }),
+        },
         Code::Fields | Code::Number | Code::Address | Code::Mask => {
-            Some(record_why(refusal.code, format_of(text), line))
+            record_why(refusal.code, format_of(text), line)
         }
-        Code::NoEnd => Some(Why::NoEnd),
-        Code::After => Some(Why::After {
+        Code::Repeat | Code::Unknown | Code::Count => {
+            earlier_why(text, refusal, format_of(text), line)
+        }
+        Code::Box => Why::Outside,
+        Code::NoEnd => Why::NoEnd,
+        Code::After => Why::After {
             end: place_of(text, refusal.at - 1).number,
-        }),
-        Code::Repeat | Code::Unknown | Code::Count | Code::Box => None,
+        },
     }
 }
 
-/// What is wrong with a refused text. None comes exactly for the codes Repeat, Unknown, Count and Box.
+/// What is wrong with a refused text.
 ///
-/// It looks at one record again, and at what stands before it.
-pub fn explain(text: &[u8], refusal: Refusal) -> Option<Fault<'_>>
+/// It looks at one record again, and at most three times at those before it.
+pub fn explain(text: &[u8], refusal: Refusal) -> Fault<'_>
     requires few { length text.now < 2 ^ 32 - 1 }
     requires refused { reading_of text.now ≡ Err refusal }
-    ensures { Explained text.now refusal result }
+    ensures { Explains text.now refusal result }
 {
     let place = place_of(text, refusal.at);
-    match why_of(text, refusal, place.line) {
-        Some(why) => Some(Fault {
-            line: place.number,
-            why,
-        }),
-        None => None,
+    Fault {
+        line: place.number,
+        why: why_of(text, refusal, place.line),
     }
 }

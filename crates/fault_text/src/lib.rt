@@ -1,6 +1,8 @@
 //! What is wrong with a text that is refused, in a sentence.
 #![tactic(auto)]
 
+mod against;
+mod earlier;
 mod fault;
 mod fields;
 mod hints;
@@ -10,6 +12,7 @@ mod search;
 mod sentence;
 mod shown;
 
+pub use earlier::Sought;
 pub use fault::{Fault, Why, explain};
 pub use lines::records_law;
 pub use names::{FieldName, RecordKind};

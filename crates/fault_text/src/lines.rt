@@ -30,7 +30,7 @@ pub(crate) struct Place<'a> {
 }
 
 // A text without a byte order mark at its start.
-fn unmarked(text: &[u8]) -> &[u8]
+pub(crate) fn unmarked(text: &[u8]) -> &[u8]
     ensures bare { result.now ≡ strip_bom text.now }
     ensures short { length result.now ≤ length text.now }
 {
@@ -54,7 +54,7 @@ fn behind_end(bytes: &[u8]) -> &[u8]
 }
 
 // The first line, without its end, and what stands behind that end.
-fn cut(bytes: &[u8]) -> (&[u8], &[u8])
+pub(crate) fn cut(bytes: &[u8]) -> (&[u8], &[u8])
     requires { 0 < length bytes.now }
     ensures first { lines_after false bytes.now ≡ result.0.now ∷ lines_after false result.1.now }
     ensures part { length result.0.now ≤ length bytes.now }

@@ -1,11 +1,14 @@
 // The sentence of a fault.
 ghost use Rattle.std.specs.Prelude.{◌≡◌, ◌+◌, ◌≤◌, ◌++◌, length};
-ghost use Rattle.fault_text.specs.Sentences.{field_count_text, fields_text, form_text, found_text, is_later_word, kinds_text, no_kind_text, range_text, sentence, unit_text, wanted, why_text};
+ghost use Rattle.acas_text.specs.Hex.{hex};
+ghost use Rattle.fault_text.specs.Sentences.{again_text, field_count_text, fields_text, form_text, found_text, is_later_word, kinds_text, many_crafts_text, named_text, no_kind_text, not_above_text, range_text, reached_name, reached_text, rising_name, rising_text, sentence, unit_text, wanted, why_text};
 
+use crate::earlier::Sought;
 use crate::fault::{Fault, Why};
 use crate::hints::{address_hint, number_hint};
 use crate::names::{Content, FieldName, RecordKind};
 use crate::shown::add_shown;
+use acas_base::Address;
 use acas_text::{LINE_BYTES, Line};
 
 fn unit_text(name: FieldName) -> &'static str
@@ -136,6 +139,109 @@ fn add_found(line: &mut Line, name: FieldName, found: &[u8])
     add_shown(line, found);
 }
 
+// Adds the six digits of an address.
+fn add_address(line: &mut Line, address: Address)
+    requires { length line.old + 6 ≤ LINE_BYTES }
+    ensures added { line.new ≡ line.old ++ hex 6 address }
+    ensures short { length line.new ≤ length line.old + 6 }
+{
+    line.hex(u64::from(address.value()), 6);
+}
+
+// Adds an address behind some words, where there is one.
+fn add_named(line: &mut Line, words: &str, address: Option<Address>)
+    requires room { length line.old + 10 ≤ LINE_BYTES }
+    requires few { length words.now ≤ 4 }
+    ensures added { line.new ≡ line.old ++ named_text words.now address }
+    ensures short { length line.new ≤ length line.old + 10 }
+{
+    if let Some(address) = address {
+        line.text(words);
+        add_address(line, address);
+    }
+}
+
+// Adds that there may be one such record alone.
+fn add_again(line: &mut Line, of: Sought, number: u32)
+    requires { length line.old + 90 ≤ LINE_BYTES }
+    ensures added { line.new ≡ line.old ++ again_text of number }
+    ensures short { length line.new ≤ length line.old + 90 }
+{
+    line.text("a second ");
+    line.text(of.kind.word());
+    line.text(" record");
+    add_named(line, " of ", of.first);
+    add_named(line, " to ", of.second);
+    line.text("; the first one is in line ");
+    line.u32(number);
+}
+
+fn rising_name(kind: RecordKind) -> FieldName
+    ensures { result ≡ rising_name kind }
+{
+    match kind {
+        RecordKind::Fate => FieldName::Number,
+        _ => FieldName::From,
+    }
+}
+
+fn reached_name(kind: RecordKind) -> FieldName
+    ensures { result ≡ reached_name kind }
+{
+    match kind {
+        RecordKind::Fate => FieldName::Number,
+        RecordKind::Miss => FieldName::To,
+        _ => FieldName::From,
+    }
+}
+
+// Adds the number that isn't above the earlier one.
+fn add_rising(line: &mut Line, of: RecordKind, found: u16)
+    requires { length line.old + 17 ≤ LINE_BYTES }
+    ensures added { line.new ≡ line.old ++ rising_text of found }
+    ensures short { length line.new ≤ length line.old + 17 }
+{
+    let name = rising_name(of);
+    line.text(name.text());
+    line.text(" is ");
+    line.u16(found);
+}
+
+// Adds where the earlier number stands.
+fn add_reached(line: &mut Line, of: RecordKind, number: u32)
+    requires { length line.old + 33 ≤ LINE_BYTES }
+    ensures added { line.new ≡ line.old ++ reached_text of number }
+    ensures short { length line.new ≤ length line.old + 33 }
+{
+    let name = reached_name(of);
+    line.text(", the ");
+    line.text(name.text());
+    line.text(" of line ");
+    line.u32(number);
+}
+
+// Adds that a number isn't above the earlier one.
+fn add_not_above(line: &mut Line, of: RecordKind, found: u16, reached: u16, number: u32)
+    requires { length line.old + 90 ≤ LINE_BYTES }
+    ensures added { line.new ≡ line.old ++ not_above_text of found reached number }
+    ensures short { length line.new ≤ length line.old + 90 }
+{
+    add_rising(line, of, found);
+    line.text(", and has to be above ");
+    line.u16(reached);
+    add_reached(line, of, number);
+}
+
+fn many_crafts_text(version: u8) -> &'static str
+    ensures text { result.now ≡ many_crafts_text version }
+    ensures short { length result.now ≤ 100 }
+{
+    if version == 1 {
+        return "one aircraft too many: format 1 has at most 8, and format 2 has at most 16";
+    }
+    "one aircraft too many: format 2 has at most 16"
+}
+
 // Adds what is wrong.
 fn add_why(line: &mut Line, why: &Why<'_>)
     requires { length line.old + 300 ≤ LINE_BYTES }
@@ -178,6 +284,31 @@ fn add_why(line: &mut Line, why: &Why<'_>)
             line.text(": ");
             line.u32(bits);
             line.text(" of its bits are 1, and at most three may be");
+        }
+        Why::Again { of, line: number } => add_again(line, of, number),
+        Why::NotAbove {
+            kind,
+            found,
+            reached,
+            line: number,
+        } => add_not_above(line, kind, found, reached, number),
+        Why::Unknown { name, address } => {
+            line.text(name.text());
+            line.text(" is ");
+            add_address(line, address);
+            line.text(", which has no craft record before this line");
+        }
+        Why::Equal { address } => {
+            line.text("the two addresses are equal, ");
+            add_address(line, address);
+        }
+        Why::ManyCrafts { version } => line.text(many_crafts_text(version)),
+        Why::NoRun => line.text("there is no run record"),
+        Why::NoneActive => line.text("there is no aircraft of kind RA or TA"),
+        Why::Outside => {
+            line.text(
+                "an aircraft leaves the box: x and y have to be from -1000000 to 1000000 ft, and the altitude from -1000 to 60000 ft, in each cycle of the run",
+            );
         }
         Why::NoEnd => {
             line.text(

@@ -11,7 +11,51 @@ const FRONT: &[u8] =
     b"encounter,1\nrun,31,0\ncraft,400A01,TA,0,0,35000\ncraft,400B02,TA,91200,0,35300\nleg,400A01,1,760,0,0\nleg,400B02,1,-760,0,0\n";
 
 // A record, or the rest of a text, after six right ones, and the line that tells its fault.
-const AFTER_SIX: [(&[u8], &[u8]); 12] = [
+const AFTER_SIX: [(&[u8], &[u8]); 23] = [
+    (
+        b"run,31,0\nend\n",
+        b"line 7: a second run record; the first one is in line 2\n",
+    ),
+    (
+        b"\ncraft,400B02,RA,0,0,35000\nend\n",
+        b"line 8: a second craft record of 400B02; the first one is in line 4\n",
+    ),
+    (
+        b"leg,400A01,1,0,0,0\nend\n",
+        b"line 7: FROM is 1, and has to be above 1, the FROM of line 5\n",
+    ),
+    (
+        b"leg,400A01,4,0,0,0\nleg,400B02,9,0,0,0\nleg,400A01,3,0,0,0\nend\n",
+        b"line 9: FROM is 3, and has to be above 4, the FROM of line 7\n",
+    ),
+    (
+        b"miss,400A01,400B02,3,5\nmiss,400B02,400A01,7,9\n\nmiss,400A01,400B02,5,7\nend\n",
+        b"line 10: FROM is 5, and has to be above 5, the TO of line 7\n",
+    ),
+    (
+        b"fate,400A01,400B02,2,0,00\nfate,400A01,400B02,2\nend\n",
+        b"line 8: NUMBER is 2, and has to be above 2, the NUMBER of line 7\n",
+    ),
+    (
+        b"leg,400C03,1,0,0,0\nend\n",
+        b"line 7: ADDRESS is 400C03, which has no craft record before this line\n",
+    ),
+    (
+        b"miss,400A01,400C03,1,2\ncraft,400C03,RA,0,0,0\nend\n",
+        b"line 7: TARGET is 400C03, which has no craft record before this line\n",
+    ),
+    (
+        b"fate,400C03,400C03,1\nend\n",
+        b"line 7: SENDER is 400C03, which has no craft record before this line\n",
+    ),
+    (
+        b"miss,400B02,400B02,1,2\nend\n",
+        b"line 7: the two addresses are equal, 400B02\n",
+    ),
+    (
+        b"craft,400C03,RA,0,0,0\ncraft,400C04,RA,0,0,0\ncraft,400C05,RA,0,0,0\ncraft,400C06,RA,0,0,0\ncraft,400C07,RA,0,0,0\ncraft,400C08,RA,0,0,0\ncraft,400C09,RA,0,0,0\nend\n",
+        b"line 13: one aircraft too many: format 1 has at most 8, and format 2 has at most 16\n",
+    ),
     (
         b"climb,400A01,37000\nend\n",
         b"line 7: \"climb\" is a kind of record of format 2 alone; the first record is \"encounter,1\"\n",
@@ -62,8 +106,36 @@ const AFTER_SIX: [(&[u8], &[u8]); 12] = [
     ),
 ];
 
+// The line of an encounter whose `end` in line 5 is refused, since an aircraft leaves the box.
+const BOX: &[u8] =
+    b"line 5: an aircraft leaves the box: x and y have to be from -1000000 to 1000000 ft, and the altitude from -1000 to 60000 ft, in each cycle of the run\n";
+
 // A text from its start, and the line that tells its fault.
-const WHOLE: [(&[u8], &[u8]); 20] = [
+const WHOLE: [(&[u8], &[u8]); 26] = [
+    (
+        b"encounter,1\ngains,1,1,1,1\ngains,1,1,1,1\n",
+        b"line 3: a second gains record; the first one is in line 2\n",
+    ),
+    (
+        b"encounter,2\ncraft,400A01,RA,0,0,0\nclimb,400A01,3000\nclimb,400A01,4000\n",
+        b"line 4: a second climb record of 400A01; the first one is in line 3\n",
+    ),
+    (
+        b"encounter,2\ncraft,400A01,RA,0,0,0\ncraft,400B02,RA,0,0,0\nplan,400A01,400B02\nplan,400B02,400A01\nplan,400A01,400B02\n",
+        b"line 6: a second plan record of 400A01 to 400B02; the first one is in line 4\n",
+    ),
+    (
+        b"encounter,1\ncraft,400A01,XPDR,0,0,0\nend\n",
+        b"line 3: there is no run record\n",
+    ),
+    (
+        b"encounter,1\nrun,1,0\ncraft,400A01,XPDR,0,0,0\nend\n",
+        b"line 4: there is no aircraft of kind RA or TA\n",
+    ),
+    (
+        b"encounter,1\nrun,3,0\ncraft,400A01,RA,999000,0,35000\nleg,400A01,1,1000,0,0\nend\n",
+        BOX,
+    ),
     (
         b"",
         b"line 1: there is no record; the first one has to be \"encounter,1\" or \"encounter,2\"\n",
@@ -146,7 +218,7 @@ const WHOLE: [(&[u8], &[u8]); 20] = [
     ),
 ];
 
-// The line that tells the fault of a text; none where it is accepted, or refused with a code that isn't told.
+// The line that tells the fault of a text; none where it is accepted.
 fn told(alloc: Global, text: &[u8]) -> Result<Option<Line>, AllocError> {
     if text.len() > 1_000 {
         return Ok(None);
@@ -154,10 +226,7 @@ fn told(alloc: Global, text: &[u8]) -> Result<Option<Line>, AllocError> {
     match read(alloc, text) {
         Ok(_) => Ok(None),
         Err(ReadError::OutOfMemory) => Err(AllocError),
-        Err(ReadError::Refused(refusal)) => match explain(text, refusal) {
-            Some(fault) => Ok(Some(fault.sentence())),
-            None => Ok(None),
-        },
+        Err(ReadError::Refused(refusal)) => Ok(Some(explain(text, refusal).sentence())),
     }
 }
 

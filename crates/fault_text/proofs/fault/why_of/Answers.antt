@@ -1,6 +1,7 @@
 use Rattle.std.proofs.Common.{◌∙◌, ap}
 use Rattle.enc_file.specs.Conditions.{kind_named}
 use Rattle.fault_text.proofs.Refusals.{after-at, after-counted, is-kinded, kinded-at, kinded-headed, unnamed-at, unnamed-headed}
+use Rattle.fault_text.proofs.NamedAgainst.{after-headed, is-after, named-against, told-after}
 use Rattle.fault_text.proofs.fault.why_of.Goals as goal
 
 pub format_of-requires-clause-headed : goal.format_of-requires-clause-headed
@@ -28,3 +29,13 @@ pub returns-in-After : goal.returns-in-After
 returns-in-After c =
     let at = after-at c.args.text.now c.args.refusal c.place_of.result.number c.place_of.result.line.now c.requires.refused c.in-After.is c.place_of.ensures.place in
     rw c.in-After.is (c.place_of.result.line.now, at.0, at.1)
+
+pub format_of-requires-in-Repeat-clause-headed : goal.format_of-requires-in-Repeat-clause-headed
+format_of-requires-in-Repeat-clause-headed c = after-headed c.args.text.now c.args.refusal c.requires.refused (is-after c.args.refusal.code c.in-Repeat.is)
+
+pub earlier_why-requires-clause-against : goal.earlier_why-requires-clause-against
+earlier_why-requires-clause-against c =
+    named-against c.args.text.now c.args.refusal c.args.line.now c.format_of-in-Repeat.result c.requires.refused (is-after c.args.refusal.code c.in-Repeat.is) c.requires.place c.format_of-in-Repeat.ensures
+
+pub returns-in-Repeat : goal.returns-in-Repeat
+returns-in-Repeat c = told-after c.args.text.now c.args.refusal c.args.line.now c.earlier_why.result c.in-Repeat.is c.earlier_why.ensures

@@ -1,0 +1,194 @@
+-- What the records before a refused one say.
+use Rattle.std.specs.Prelude.{◌≡◌, ℕ, ◌+◌, ◌-◌, ◌≤◌, ◌⊎◌, ◌==◌, ◌&&◌, Bool, true, false, List, ◌∷◌, ◌++◌, codes, length, Option, Some, None, MatchOption, is_some, slice_get}
+use Rattle.std.specs.List.{list_any}
+use Rattle.std.specs.Str.{bytes_eq}
+use Rattle.acas_base.specs.Encounter.{is_active, most_crafts}
+use Rattle.enc_file.specs.Conditions.{if_said, is_given, is_stranger}
+use Rattle.enc_file.specs.Earlier.{crafts_of, run_of, version_of}
+use Rattle.enc_file.specs.Values.{address_in, count_in, field}
+use Rattle.enc_file.specs.declared.record.Record.{Record}
+use Rattle.enc_file.specs.declared.record.Record.TheVariants as said
+use Rattle.fault_text.specs.Lines.{IsPlaced, fields_in, file_lines, is_written, written}
+use Rattle.fault_text.specs.Names.{names_of, word_text}
+use Rattle.fault_text.specs.declared.earlier.Sought.{Sought}
+use Rattle.fault_text.specs.declared.fault.Why.{Why}
+use Rattle.fault_text.specs.declared.fault.Why.TheVariants as why
+use Rattle.fault_text.specs.declared.lines.Place.{Place}
+use Rattle.fault_text.specs.declared.names.FieldName.{FieldName}
+use Rattle.fault_text.specs.declared.names.RecordKind.{RecordKind}
+use Rattle.fault_text.specs.declared.names.RecordKind.TheVariants as kind
+
+-- The word of a record.
+abbrev pub word_said : Record → List ℕ
+word_said (said.Header version) = codes "encounter"
+word_said (said.Run run) = codes "run"
+word_said (said.Gains gains) = codes "gains"
+word_said (said.Craft craft) = codes "craft"
+word_said (said.Climb address limit) = codes "climb"
+word_said (said.Leg address course) = codes "leg"
+word_said (said.Miss pair from to) = codes "miss"
+word_said (said.Plan pair copies) = codes "plan"
+word_said (said.Fate pair number copies) = codes "fate"
+word_said said.End = codes "end"
+
+-- The address that a record says first, and the one that it says second.
+abbrev pub first_said : Record → Option ℕ
+first_said (said.Craft craft) = Some craft.address
+first_said (said.Climb address limit) = Some address
+first_said (said.Leg address course) = Some address
+first_said (said.Miss pair from to) = Some pair.first
+first_said (said.Plan pair copies) = Some pair.first
+first_said (said.Fate pair number copies) = Some pair.first
+first_said other = None
+
+abbrev pub second_said : Record → Option ℕ
+second_said (said.Miss pair from to) = Some pair.second
+second_said (said.Plan pair copies) = Some pair.second
+second_said (said.Fate pair number copies) = Some pair.second
+second_said other = None
+
+-- The number that a later record of the same kind, about the same aircraft or pair, has to exceed.
+abbrev pub reached_said : Record → Option ℕ
+reached_said (said.Leg address course) = Some course.from
+reached_said (said.Miss pair from to) = Some to
+reached_said (said.Fate pair number copies) = Some number
+reached_said other = None
+
+-- An address is the one that is asked for. Where none is asked for, all pass.
+abbrev pub is_asked : Option ℕ → Option ℕ → Bool
+is_asked None other = true
+is_asked (Some address) other = if_said other (λ n. n == address)
+
+-- A record with this word, about the addresses that are asked for.
+abbrev pub is_about : Sought → Record → Bool
+is_about sought now = bytes_eq (word_said now) (word_text sought.kind) && (is_asked sought.first (first_said now) && is_asked sought.second (second_said now))
+
+-- The same of a record's fields.
+abbrev pub are_about : Sought → List (List ℕ) → Bool
+are_about sought fields = bytes_eq (field fields 0) (word_text sought.kind) && (is_asked sought.first (address_in (field fields 1)) && is_asked sought.second (address_in (field fields 2)))
+
+-- Which addresses a record of a kind says.
+abbrev pub has_first : RecordKind → Bool
+has_first kind.Run = false
+has_first kind.Gains = false
+has_first kind.End = false
+has_first other = true
+
+abbrev pub has_second : RecordKind → Bool
+has_second kind.Miss = true
+has_second kind.Plan = true
+has_second kind.Fate = true
+has_second other = false
+
+abbrev pub address_if : Bool → List ℕ → Option ℕ
+address_if true found = address_in found
+address_if false found = None
+
+-- The records of this kind that are about the same aircraft or pair as these fields.
+abbrev pub alike : RecordKind → List (List ℕ) → Sought
+alike kind fields = record { kind = kind; first = address_if (has_first kind) (field fields 1); second = address_if (has_second kind) (field fields 2) }
+
+-- The last line of these that holds a record that is sought, and its number, from 1. With None there is no such line.
+abbrev pub holds_sought : Sought → List ℕ → Bool
+holds_sought sought line = are_about sought (fields_in line)
+
+pub record IsLastLine (sought : Sought) (lines : List (List ℕ)) (place : Place) : Type 0 where
+  pub before : List (List ℕ)
+  pub after : List (List ℕ)
+  pub whole : lines ≡ before ++ place.line.now ∷ after
+  pub number : place.number ≡ length before + 1
+  pub full : is_written place.line.now ≡ true
+  pub holds : holds_sought sought place.line.now ≡ true
+  pub last : list_any (holds_sought sought) (written after) ≡ false
+
+abbrev pub IsLastIn : Sought → List (List ℕ) → Option Place → Type 0
+IsLastIn sought lines found = MatchOption found (list_any (holds_sought sought) (written lines) ≡ false) (IsLastLine sought lines)
+
+-- The same of the records before the one with a number.
+pub record IsLastBefore (sought : Sought) (lines : List (List ℕ)) (at : ℕ) (found : Option Place) : Type 0 where
+  pub before : List (List ℕ)
+  pub after : List (List ℕ)
+  pub whole : lines ≡ before ++ after
+  pub count : length (written before) + 1 ≡ at
+  pub last : IsLastIn sought before found
+
+-- The last of some records that passes a test, and its number, from 1. The newest record stands first.
+pub record IsLast (earlier : List Record) (test : Record → Bool) (at : ℕ) (now : Record) : Type 0 where
+  pub newer : List Record
+  pub older : List Record
+  pub whole : earlier ≡ newer ++ now ∷ older
+  pub number : at ≡ length older + 1
+  pub passes : test now ≡ true
+  pub last : list_any test newer ≡ false
+
+-- The last earlier record of the same kind, about the same aircraft or pair. It stands in the line with this number.
+pub record Collides (text : List ℕ) (earlier : List Record) (kind : RecordKind) (fields : List (List ℕ)) (number : ℕ) (now : Record) : Type 0 where
+  pub at : ℕ
+  pub is : IsLast earlier (is_about (alike kind fields)) at now
+  pub line : List ℕ
+  pub placed : IsPlaced (file_lines text) at number line
+
+-- The field with the number that has to exceed the earlier one.
+abbrev pub rising_place : RecordKind → ℕ
+rising_place kind.Leg = 2
+rising_place other = 3
+
+-- The field with the number that a later record has to exceed.
+abbrev pub reached_place : RecordKind → ℕ
+reached_place kind.Leg = 2
+reached_place kind.Miss = 4
+reached_place other = 3
+
+abbrev pub rises : RecordKind → Bool
+rises kind.Leg = true
+rises kind.Miss = true
+rises kind.Fate = true
+rises other = false
+
+-- Of some kinds there is one record alone, or one about each aircraft or pair. Of the other kinds each record about an
+-- aircraft or pair has to exceed the one before.
+pub record TellsAgain (text : List ℕ) (earlier : List Record) (kind : RecordKind) (fields : List (List ℕ)) (sought : Sought) (number : ℕ) : Type 0 where
+  pub once : rises kind ≡ false
+  pub same : sought ≡ alike kind fields
+  pub now : Record
+  pub collides : Collides text earlier kind fields number now
+
+pub record TellsNotAbove (text : List ℕ) (earlier : List Record) (kind : RecordKind) (fields : List (List ℕ)) (named : RecordKind) (found reached number : ℕ) : Type 0 where
+  pub rising : rises kind ≡ true
+  pub same : named ≡ kind
+  pub now : Record
+  pub collides : Collides text earlier kind fields number now
+  pub found-is : count_in 1 600 (field fields (rising_place kind)) ≡ Some found
+  pub reached-is : reached_said now ≡ Some reached
+  pub order : found ≤ reached
+
+abbrev pub TellsRepeat : List ℕ → List Record → RecordKind → List (List ℕ) → Why → Type 0
+TellsRepeat text earlier kind fields (why.Again of number) = TellsAgain text earlier kind fields of number
+TellsRepeat text earlier kind fields (why.NotAbove of found reached number) = TellsNotAbove text earlier kind fields of found reached number
+TellsRepeat text earlier kind fields other = ⊥
+
+-- The address in a field, which no earlier aircraft has.
+pub record TellsStranger (earlier : List Record) (kind : RecordKind) (fields : List (List ℕ)) (place : ℕ) (name : FieldName) (address : ℕ) : Type 0 where
+  pub called : slice_get (names_of kind) (place - 1) ≡ Some name
+  pub spelled : address_in (field fields place) ≡ Some address
+  pub unknown : is_given earlier address ≡ false
+
+-- The two addresses are equal, and an earlier aircraft has them.
+pub record TellsEqual (earlier : List Record) (fields : List (List ℕ)) (address : ℕ) : Type 0 where
+  pub first : address_in (field fields 1) ≡ Some address
+  pub second : address_in (field fields 2) ≡ Some address
+  pub known : is_given earlier address ≡ true
+
+-- The leftmost unknown address; or, where all are known, two equal ones.
+abbrev pub TellsUnknown : List Record → RecordKind → List (List ℕ) → Why → Type 0
+TellsUnknown earlier kind fields (why.Unknown name address) =
+    TellsStranger earlier kind fields 1 name address ⊎ (TellsStranger earlier kind fields 2 name address × (is_stranger earlier fields 1 ≡ false))
+TellsUnknown earlier kind fields (why.Equal address) = TellsEqual earlier fields address
+TellsUnknown earlier kind fields other = ⊥
+
+-- One aircraft too many. At the end: no run; or, where there is one, nobody active.
+abbrev pub TellsCounted : List Record → RecordKind → Why → Type 0
+TellsCounted earlier of (why.ManyCrafts version) = (of ≡ kind.Craft) × (version ≡ version_of earlier) × (most_crafts version ≤ length (crafts_of earlier))
+TellsCounted earlier of why.NoRun = (of ≡ kind.End) × (run_of earlier ≡ None)
+TellsCounted earlier of why.NoneActive = (of ≡ kind.End) × (is_some (run_of earlier) ≡ true) × (list_any is_active (crafts_of earlier) ≡ false)
+TellsCounted earlier of other = ⊥

@@ -1,0 +1,198 @@
+// What is wrong with a record after those before it.
+ghost use Rattle.std.specs.Prelude.{◌≡◌, ◌+◌, ◌-◌, ◌≤◌, ◌<◌, ◌^◌, IsSome, MatchOption, Some, false, length, slice_get, true};
+ghost use Rattle.enc_file.specs.Conditions.{IsRefused, is_given, is_stranger};
+ghost use Rattle.enc_file.specs.Records.{records_of};
+ghost use Rattle.enc_file.specs.Values.{address_in, count_in};
+ghost use Rattle.enc_file.specs.Values.{field as stated_field};
+ghost use Rattle.enc_file.specs.declared.refusal.Code.{Code};
+ghost use Rattle.enc_file.specs.declared.refusal.Code.TheVariants as code;
+ghost use Rattle.fault_text.specs.Before.{has_first, has_second, reached_place, rises, rising_place};
+ghost use Rattle.fault_text.specs.Lines.{fields_in, file_lines, written};
+ghost use Rattle.fault_text.specs.Names.{names_of};
+ghost use Rattle.fault_text.specs.Told.{IsAgainst, IsFormat, TellsEarlier};
+
+use crate::earlier::{Sought, has_second, last_before};
+use crate::fault::Why;
+use crate::fields::field;
+use crate::names::{FieldName, RecordKind};
+use acas_base::Address;
+use enc_file::{Code, Refusal, address_in, count_in};
+
+fn rises(kind: RecordKind) -> bool
+    ensures { result ≡ rises kind }
+{
+    matches!(kind, RecordKind::Leg | RecordKind::Miss | RecordKind::Fate)
+}
+
+// The place of the number that has to exceed the earlier one, and of the one that it has to exceed.
+fn rising_place(kind: RecordKind) -> usize
+    ensures { result ≡ rising_place kind }
+{
+    match kind {
+        RecordKind::Leg => 2,
+        _ => 3,
+    }
+}
+
+fn reached_place(kind: RecordKind) -> usize
+    ensures { result ≡ reached_place kind }
+{
+    match kind {
+        RecordKind::Leg => 2,
+        RecordKind::Miss => 4,
+        _ => 3,
+    }
+}
+
+// The number of a record at a place.
+fn number_at(line: &[u8], place: usize) -> u16
+    requires { IsSome (count_in 1 600 (stated_field (fields_in line.now) place)) }
+    ensures { count_in 1 600 (stated_field (fields_in line.now) place) ≡ Some result }
+{
+    match count_in(field(line, place), 1, 600) {
+        Some(number) => number,
+        None => unreachable!(),
+    }
+}
+
+// Which earlier record a record repeats.
+fn repeat_why(text: &[u8], refusal: Refusal, kind: RecordKind, line: &[u8]) -> Why<'static>
+    requires few { length text.now < 2 ^ 32 - 1 }
+    requires code { refusal.code ≡ code.Repeat }
+    requires against { IsAgainst text.now refusal kind line.now }
+    ensures { TellsEarlier text.now refusal kind line.now result }
+{
+    let sought = Sought::alike(kind, line);
+    let Some(place) = last_before(text, refusal.at, sought) else {
+        unreachable!();
+    };
+    if rises(kind) {
+        let found = number_at(line, rising_place(kind));
+        let reached = number_at(place.line, reached_place(kind));
+        return Why::NotAbove {
+            kind,
+            found,
+            reached,
+            line: place.number,
+        };
+    }
+    let of = Sought::alike(kind, line);
+    Why::Again {
+        of,
+        line: place.number,
+    }
+}
+
+// The address that stands at a place, where no earlier aircraft has it.
+fn stranger(text: &[u8], at: u32, line: &[u8], place: usize) -> Option<Address>
+    requires few { length text.now < 2 ^ 32 - 1 }
+    requires counted { 1 ≤ at }
+    requires enough { at ≤ length (written (file_lines text.now)) + 1 }
+    ensures { (code : Code) (r : IsRefused (records_of text.now) (record { at = at; code = code }))
+        → MatchOption result (is_stranger r.earlier (fields_in line.now) place ≡ false) (λ address. (address_in (stated_field (fields_in line.now) place) ≡ Some address) × (is_given r.earlier address ≡ false)) }
+{
+    let address = address_in(field(line, place))?;
+    let of = Sought {
+        kind: RecordKind::Craft,
+        first: Some(address),
+        second: None,
+    };
+    match last_before(text, at, of) {
+        Some(_) => None,
+        None => Some(address),
+    }
+}
+
+// The name of the address that a record says first, and of the one that it says second.
+fn first_name(kind: RecordKind) -> FieldName
+    requires { has_first kind ≡ true }
+    ensures { slice_get (names_of kind) 0 ≡ Some result }
+{
+    match kind {
+        RecordKind::Miss => FieldName::Own,
+        RecordKind::Plan | RecordKind::Fate => FieldName::Sender,
+        _ => FieldName::Address,
+    }
+}
+
+fn second_name(kind: RecordKind) -> FieldName
+    requires { has_second kind ≡ true }
+    ensures { slice_get (names_of kind) 1 ≡ Some result }
+{
+    match kind {
+        RecordKind::Miss => FieldName::Target,
+        _ => FieldName::Receiver,
+    }
+}
+
+// Which address is unknown, or that two are equal.
+fn unknown_why(text: &[u8], refusal: Refusal, kind: RecordKind, line: &[u8]) -> Why<'static>
+    requires few { length text.now < 2 ^ 32 - 1 }
+    requires code { refusal.code ≡ code.Unknown }
+    requires against { IsAgainst text.now refusal kind line.now }
+    ensures { TellsEarlier text.now refusal kind line.now result }
+{
+    if let Some(address) = stranger(text, refusal.at, line, 1) {
+        let name = first_name(kind);
+        return Why::Unknown { name, address };
+    }
+    if has_second(kind) {
+        if let Some(address) = stranger(text, refusal.at, line, 2) {
+            let name = second_name(kind);
+            return Why::Unknown { name, address };
+        }
+    }
+    match address_in(field(line, 1)) {
+        Some(address) => Why::Equal { address },
+        None => unreachable!(),
+    }
+}
+
+// What is too many or wanting.
+fn count_why(
+    text: &[u8],
+    refusal: Refusal,
+    version: u8,
+    kind: RecordKind,
+    line: &[u8],
+) -> Why<'static>
+    requires few { length text.now < 2 ^ 32 - 1 }
+    requires code { refusal.code ≡ code.Count }
+    requires version { IsFormat text.now version }
+    requires against { IsAgainst text.now refusal kind line.now }
+    ensures { TellsEarlier text.now refusal kind line.now result }
+{
+    if let RecordKind::Craft = kind {
+        return Why::ManyCrafts { version };
+    }
+    let of = Sought {
+        kind: RecordKind::Run,
+        first: None,
+        second: None,
+    };
+    match last_before(text, refusal.at, of) {
+        Some(_) => Why::NoneActive,
+        None => Why::NoRun,
+    }
+}
+
+/// What is wrong with a record after those before it. Its code is Repeat, Unknown or Count.
+pub(crate) fn against_why(
+    text: &[u8],
+    refusal: Refusal,
+    version: u8,
+    kind: RecordKind,
+    line: &[u8],
+) -> Why<'static>
+    requires few { length text.now < 2 ^ 32 - 1 }
+    requires version { IsFormat text.now version }
+    requires against { IsAgainst text.now refusal kind line.now }
+    ensures { TellsEarlier text.now refusal kind line.now result }
+{
+    match refusal.code {
+        Code::Repeat => repeat_why(text, refusal, kind, line),
+        Code::Unknown => unknown_why(text, refusal, kind, line),
+        Code::Count => count_why(text, refusal, version, kind, line),
+        _ => unreachable!(),
+    }
+}

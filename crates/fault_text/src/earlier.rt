@@ -1,0 +1,103 @@
+// The records before a refused one.
+ghost use Rattle.std.specs.Prelude.{◌≡◌, ◌+◌, ◌-◌, ◌≤◌, ◌<◌, ◌^◌, length};
+ghost use Rattle.enc_file.specs.Values.{address_in, field};
+ghost use Rattle.fault_text.specs.Before.{IsLastBefore, address_if, alike, has_first, has_second, holds_sought, is_asked};
+ghost use Rattle.fault_text.specs.Lines.{fields_in, file_lines, written};
+
+use crate::fields::field;
+use crate::lines::{Place, cut, unmarked};
+use crate::names::RecordKind;
+use acas_base::Address;
+use enc_file::address_in;
+
+/// The records of a kind that say these addresses. Where an address is none, all pass.
+#[derive(Clone, Copy)]
+pub struct Sought {
+    pub kind: RecordKind,
+    pub first: Option<Address>,
+    pub second: Option<Address>,
+}
+
+// Whether a kind of record says an address first, and second.
+fn has_first(kind: RecordKind) -> bool
+    ensures { result ≡ has_first kind }
+{
+    !matches!(kind, RecordKind::Run | RecordKind::Gains | RecordKind::End)
+}
+
+pub(crate) fn has_second(kind: RecordKind) -> bool
+    ensures { result ≡ has_second kind }
+{
+    matches!(kind, RecordKind::Miss | RecordKind::Plan | RecordKind::Fate)
+}
+
+// The address that a field says, where one is asked for.
+fn address_if(asked: bool, found: &[u8]) -> Option<Address>
+    ensures { result ≡ address_if asked found.now }
+{
+    if asked { address_in(found) } else { None }
+}
+
+// Whether a field says the address that is asked for.
+fn is_asked(asked: Option<Address>, found: &[u8]) -> bool
+    ensures { result ≡ is_asked asked (address_in found.now) }
+{
+    match asked {
+        Some(address) => match address_in(found) {
+            Some(other) => other == address,
+            None => false,
+        },
+        None => true,
+    }
+}
+
+impl Sought {
+    /// The records that are about the same aircraft or pair as this one.
+    pub(crate) fn alike(kind: RecordKind, line: &[u8]) -> Sought
+        ensures { result ≡ alike kind (fields_in line.now) }
+    {
+        Sought {
+            kind,
+            first: address_if(has_first(kind), field(line, 1)),
+            second: address_if(has_second(kind), field(line, 2)),
+        }
+    }
+
+    // Whether a line holds such a record.
+    fn is_in(&self, line: &[u8]) -> bool
+        ensures { result ≡ holds_sought self.now line.now }
+    {
+        if field(line, 0) != self.kind.word().as_bytes() {
+            return false;
+        }
+        is_asked(self.first, field(line, 1)) && is_asked(self.second, field(line, 2))
+    }
+}
+
+/// The last record that is sought before the one with the number `at`, and its line.
+pub(crate) fn last_before(text: &[u8], at: u32, sought: Sought) -> Option<Place<'_>>
+    requires few { length text.now < 2 ^ 32 - 1 }
+    requires counted { 1 ≤ at }
+    requires enough { at ≤ length (written (file_lines text.now)) + 1 }
+    ensures { IsLastBefore sought (file_lines text.now) at result }
+{
+    let mut rest = unmarked(text);
+    let mut number = 1;
+    let mut left = at;
+    let mut found = None;
+    while left > 1 {
+        if rest.is_empty() {
+            return found;
+        }
+        let (line, after) = cut(rest);
+        if !line.is_empty() {
+            if sought.is_in(line) {
+                found = Some(Place { number, line });
+            }
+            left -= 1;
+        }
+        number += 1;
+        rest = after;
+    }
+    found
+}
