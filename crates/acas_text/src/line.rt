@@ -146,6 +146,15 @@ impl Line {
         self.add(piece.as_bytes());
     }
 
+    /// Adds one byte.
+    pub fn byte(&mut self, byte: u8)
+        requires { length self.old + 1 ≤ LINE_BYTES }
+        ensures added { self.new ≡ self.old ++ byte ∷ [] }
+        ensures longer { length self.new ≡ length self.old + 1 }
+    {
+        self.push(byte);
+    }
+
     /// Adds a comma and a number as a plain decimal.
     pub fn u16_field(&mut self, value: u16)
         requires { length self.old + 1 + U16_BYTES ≤ LINE_BYTES }

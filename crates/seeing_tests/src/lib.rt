@@ -18,11 +18,15 @@ mod craft_view_tests;
 #[cfg(test)]
 mod flight_tests;
 #[cfg(test)]
+mod plot_axes_tests;
+#[cfg(test)]
 mod project_tests;
 #[cfg(test)]
 mod range_track_tests;
 #[cfg(test)]
 mod sens_table_tests;
+#[cfg(test)]
+mod svg_text_tests;
 #[cfg(test)]
 mod tau_test_tests;
 #[cfg(test)]
