@@ -26,7 +26,9 @@ pub mod ExampleSteps
 pub mod ThreeAircraftSteps
 pub mod SameAircraft
 pub mod Shapes
+pub mod Asked
 pub mod ShapeSends
+pub mod SameSeen
 pub mod OneShape
 pub mod SameSteps
 pub mod SameRounds

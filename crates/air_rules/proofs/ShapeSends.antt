@@ -1,22 +1,19 @@
 -- What is seen decides how many messages an aircraft has sent wherever it owes nothing.
-use Rattle.std.proofs.Common.{◌≡◌, ◌⊎◌, ℕ, zero, suc, ◌+◌, Bool, true, false, ◌&&◌, ◌||◌, eqb, List, [], ◌∷◌, Some, None, sym, refl, ap, ap₂, ◌∙◌, subst, subst₂, arith, inl, inr, eqb-true}
-use Rattle.std.proofs.lemmas.Bool.{cond-false, cond-true, and_from, and_left, and_parts, and_right, cases_Bool, not_from_false, or_right}
-use Rattle.acas_base.specs.Complements.{complement_of}
-use Rattle.acas_base.specs.Messages.{cancel_of, has_advisory, message_for}
+use Rattle.std.proofs.Common.{◌≡◌, ◌⊎◌, ℕ, suc, ◌+◌, Bool, true, false, ◌&&◌, eqb, List, [], ◌∷◌, Some, None, sym, refl, ap, ◌∙◌, subst, subst₂, arith, inl, inr, eqb-true}
+use Rattle.std.proofs.lemmas.Bool.{cond-false, cond-true, and_from, and_parts, cases_Bool, not_from_false}
+use Rattle.acas_base.specs.Messages.{has_advisory}
 use Rattle.acas_base.specs.declared.advisory.Cell.{Cell}
 use Rattle.acas_base.specs.declared.advisory.Cell.TheVariants.{Clear, Ra, Traffic}
 use Rattle.acas_base.specs.declared.advisory.Cells.{Cells}
 use Rattle.acas_base.specs.declared.advisory.ResMsg.{ResMsg}
-use Rattle.acas_base.specs.declared.advisory.Sense.{Sense}
-use Rattle.acas_base.specs.declared.advisory.Sense.TheVariants.{Down, Up}
-use Rattle.acas_base.specs.declared.advisory.Vrc.{Vrc}
-use Rattle.acas_base.specs.declared.advisory.Vrc.TheVariants.{Nil, NotAbove, NotBelow}
+use Rattle.acas_base.specs.declared.advisory.Vrc.TheVariants.{Nil}
 use Rattle.acas_base.specs.declared.entry.Entry.{Entry}
 use Rattle.acas_base.specs.declared.entry.Entry.TheVariants.{Commit, Send, Take}
+use Rattle.air_rules.proofs.Asked.{asked, called-for, is_set, none-asked, not-asked, not-called-for, seen}
 use Rattle.air_rules.proofs.FewSends.{fresh-owes-none, sent-owes-none}
 use Rattle.air_rules.proofs.Legal.{allowed, earlier}
 use Rattle.air_rules.proofs.Pace.{count-no, count-yes}
-use Rattle.air_rules.proofs.Running.{message-vrc, owed-message, owed-own}
+use Rattle.air_rules.proofs.Running.{owed-message, owed-own}
 use Rattle.air_rules.proofs.Shapes.{shaped}
 use Rattle.air_rules.specs.Air.{Air, IsSound, is_ra}
 use Rattle.air_rules.specs.Journal.{commits, has_sent, is_commit_of, is_send_of, last_cell, sends}
@@ -25,55 +22,7 @@ use Rattle.air_rules.specs.Rules.{IsLegal, MaySend}
 use Rattle.air_rules.specs.Shape.{Shape, clear, coordinate, messages_to, resolution, shape_of, traffic, untold_cell}
 use Rattle.air_rules.specs.Takes.{complement_read}
 
--- ---- when something is owed
-
-abbrev is_set : Vrc → Bool
-is_set Nil = false
-is_set NotBelow = true
-is_set NotAbove = true
-
-complement-set : (s : Sense) → is_set (complement_of s) ≡ true
-complement-set Up = refl
-complement-set Down = refl
-
--- A message is owed with an advisory, and where a complement was said that has to be cancelled. The message sets a
--- complement where there is an advisory.
-record IsCalledFor (c : Cell) (v : Vrc) (m : ResMsg) : Type 0 where
-  why : has_advisory c || is_set v ≡ true
-  sets : is_set m.vrc ≡ has_advisory c
-
-cancels : (c : Cell) (v : Vrc) (b : Bool) (own : ℕ) (m : ResMsg) → has_advisory c ≡ false → cancel_of v b own ≡ Some m → IsCalledFor c v m
-cancels c Nil b own m n e = absurd (cc)
-cancels c NotBelow b own m n e =
-    let r : ResMsg = record { many = b; cancel = NotBelow; vrc = Nil; sender = own } in
-    let f : r ≡ m = cc in
-    record { why = or_right (has_advisory c) true refl; sets = sym (ap (λ (x : ResMsg). is_set x.vrc) f) ∙ sym n }
-cancels c NotAbove b own m n e =
-    let r : ResMsg = record { many = b; cancel = NotAbove; vrc = Nil; sender = own } in
-    let f : r ≡ m = cc in
-    record { why = or_right (has_advisory c) true refl; sets = sym (ap (λ (x : ResMsg). is_set x.vrc) f) ∙ sym n }
-
-called-for : (c : Cell) (v : Vrc) (b : Bool) (own : ℕ) (m : ResMsg) → message_for c v b own ≡ Some m → IsCalledFor c v m
-called-for Clear v b own m e = cancels Clear v b own m refl e
-called-for Traffic v b own m e = cancels Traffic v b own m refl e
-called-for (Ra it) v b own m e =
-    record { why = refl; sets = ap is_set (message-vrc (Ra it) v b own it.sense m refl e) ∙ complement-set it.sense }
-
--- Nothing is owed only where there is no advisory, and nothing to cancel.
-not-called-for : (c : Cell) (v : Vrc) (b : Bool) (own : ℕ) → message_for c v b own ≡ None → (has_advisory c ≡ false) × (is_set v ≡ false)
-not-called-for Clear Nil b own e = (refl, refl)
-not-called-for Clear NotBelow b own e = absurd (cc)
-not-called-for Clear NotAbove b own e = absurd (cc)
-not-called-for Traffic Nil b own e = (refl, refl)
-not-called-for Traffic NotBelow b own e = absurd (cc)
-not-called-for Traffic NotAbove b own e = absurd (cc)
-not-called-for (Ra it) v b own e = absurd (cc)
-
--- ---- by the views
-
--- The aircraft has an advisory in a cycle, by what it sees.
-abbrev seen : Air → ℕ → ℕ → ℕ → Bool
-seen air i j n = has_advisory (untold_cell air i j n)
+-- ---- how far an aircraft is
 
 abbrev is-resolution : Shape → Bool
 is-resolution clear = false
@@ -116,7 +65,7 @@ through air K l i j c none (behind h n made s t) =
     let now : seen air i j (suc n) ≡ false = sym (ap (seen air i j) made) ∙ sym (advised air K l i j) ∙ parts.0 in
     let was : seen air i j n ≡ false = sym t ∙ parts.1 in
     record {
-      number = s ∙ sym (cond-false (coordinate air i j && (seen air i j (suc n) || seen air i j n)) _ _ (ap₂ (λ (x y : Bool). coordinate air i j && (x || y)) now was ∙ and_right (coordinate air i j) false refl)) ∙ ap (messages_to air i j) (sym made);
+      number = s ∙ sym (not-asked air i j n now was) ∙ ap (messages_to air i j) (sym made);
       told = parts.1 ∙ sym now ∙ ap (seen air i j) (sym made);
     }
 
@@ -155,9 +104,7 @@ stands-send air sound own target number word K l may i j c before = go (cases_Bo
     go (inl y) (behind h n made s t) =
         let why = called-for (last_cell K i j) (said air K i j) (has_many_threats K i) (air.address i) may.message (owed-message air K i j may.message (owes y)).1 in
         let now : has_advisory (last_cell K i j) ≡ seen air i j (suc n) = advised air K l i j ∙ ap (seen air i j) made in
-        let reason : (has_advisory (last_cell K i j) || is_set (said air K i j)) ≡ true = why.why in
-        let asked : (seen air i j (suc n) || seen air i j n) ≡ true = ap₂ (λ (a b : Bool). a || b) (sym now) (sym t) ∙ reason in
-        let one : messages_to air i j (suc n) ≡ messages_to air i j n + 1 = cond-true (coordinate air i j && (seen air i j (suc n) || seen air i j n)) _ _ (and_from _ _ c asked) in
+        let one = asked air i j n (last_cell K i j) (said air K i j) c why.why now t in
         let sent : sends (x ∷ K) i j ≡ sends K i j + 1 = count-yes (is_send_of i j) x K y in
         done (cond-true (eqb own i && eqb target j) true _ y)
         (sent ∙ ap (λ (k : ℕ). k + 1) s ∙ sym one ∙ ap (messages_to air i j) (sym made))
@@ -178,10 +125,6 @@ stands air sound (Send own target number word ∷ K) l i j c = stands-send air s
 stands air sound (Take own send copy good ∷ K) l i j c = stands-take air own send copy good K i j (stands air sound K (earlier l) i j c)
 
 -- ---- who doesn't coordinate sends nothing
-
-pub none-asked : (air : Air) (i j n : ℕ) → coordinate air i j ≡ false → messages_to air i j n ≡ 0
-none-asked air i j zero c = refl
-none-asked air i j (suc n) c = cond-false (coordinate air i j && (seen air i j (suc n) || seen air i j n)) _ _ (and_left (coordinate air i j) _ c) ∙ none-asked air i j n c
 
 coordinates : (air : Air) (K : List Entry) (i j : ℕ) (m : ResMsg) → owed air K i j ≡ Some m → coordinate air i j ≡ true
 coordinates air K i j m o =
