@@ -17,3 +17,4 @@ pub mod Rising
 pub mod LastLine
 pub mod AfterOthers
 pub mod NamedAgainst
+pub mod Counted

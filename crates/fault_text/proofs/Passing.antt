@@ -70,7 +70,7 @@ map-parts : (xs ys : List (List ℕ)) → map fields_in (xs ++ ys) ≡ map field
 map-parts [] ys = refl
 map-parts (x ∷ xs) ys = ap (λ t. fields_in x ∷ t) (map-parts xs ys)
 
-map-size : (xs : List (List ℕ)) → length (map fields_in xs) ≡ length xs
+pub map-size : (xs : List (List ℕ)) → length (map fields_in xs) ≡ length xs
 map-size [] = refl
 map-size (x ∷ xs) = omega (arith, map-size xs)
 

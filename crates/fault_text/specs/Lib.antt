@@ -5,3 +5,4 @@ pub mod Told
 pub mod Hints
 pub mod Sentences
 pub mod Before
+pub mod Faultless

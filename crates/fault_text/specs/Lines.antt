@@ -1,7 +1,8 @@
 -- The lines of a file, and the records in them.
 use Rattle.std.specs.Borrow.{Bor}
-use Rattle.std.specs.Prelude.{Option, None, Some, ◌≡◌, ℕ, ◌+◌, ◌<◌, ◌⊎◌, ◌==◌, if◌then◌else◌, Bool, true, false, List, [], ◌∷◌, ◌++◌, filter, length, slice_index, MatchBool}
+use Rattle.std.specs.Prelude.{Option, None, Some, ◌≡◌, ℕ, ◌+◌, ◌<◌, ◌⊎◌, ◌==◌, if◌then◌else◌, Bool, true, false, List, [], ◌∷◌, ◌++◌, filter, length, slice_index, MatchBool, codes, take}
 use Rattle.std.specs.List.{list_any, onto_first, slice_split}
+use Rattle.std.specs.Str.{bytes_eq}
 use Rattle.csv.specs.Reading.{strip_bom}
 
 -- The lines of a text without their ends. A line ends at a line feed, at a carriage return, at the two together, or at
@@ -62,3 +63,7 @@ pub record BeginsWithEnd (bytes : List ℕ) : Type 0 where
 abbrev pub fields_left : Option (Bor (List ℕ)) → List (List ℕ)
 fields_left None = []
 fields_left (Some rest) = fields_in rest.now
+
+-- Bytes begin as a recording. One byte order mark may stand before.
+abbrev pub begins_recording : List ℕ → Bool
+begins_recording bytes = bytes_eq (take 10 (strip_bom bytes)) (codes "recording,")

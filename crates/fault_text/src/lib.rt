@@ -4,6 +4,7 @@
 mod against;
 mod earlier;
 mod fault;
+mod faultless;
 mod fields;
 mod hints;
 mod lines;
@@ -14,6 +15,7 @@ mod shown;
 
 pub use earlier::Sought;
 pub use fault::{Fault, Why, explain};
-pub use lines::records_law;
+pub use faultless::faultless_line;
+pub use lines::{begins_recording, records_law};
 pub use names::{FieldName, RecordKind};
 pub use shown::shown_law;

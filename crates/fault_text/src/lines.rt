@@ -2,7 +2,7 @@
 ghost use Rattle.std.specs.Prelude.{◌≡◌, ◌≤◌, ◌<◌, ◌-◌, ◌^◌, ◌∷◌, [], ℕ, List, false, length, map};
 ghost use Rattle.csv.specs.Reading.{strip_bom};
 ghost use Rattle.enc_file.specs.Records.{records_of};
-ghost use Rattle.fault_text.specs.Lines.{BeginsWithEnd, Stands, fields_in, file_lines, lines_after, written};
+ghost use Rattle.fault_text.specs.Lines.{BeginsWithEnd, Stands, begins_recording, fields_in, file_lines, lines_after, written};
 
 use memchr::memchr2;
 
@@ -96,4 +96,30 @@ pub(crate) fn place_of(text: &[u8], at: u32) -> Place<'_>
         number: behind,
         line: rest,
     }
+}
+
+/// How many records a text has.
+pub(crate) fn record_count(text: &[u8]) -> u32
+    requires { length text.now < 2 ^ 32 - 1 }
+    ensures { result ≡ length (records_of text.now) }
+{
+    let mut rest = unmarked(text);
+    let mut count = 0;
+    while !rest.is_empty() {
+        let (line, after) = cut(rest);
+        if !line.is_empty() {
+            count += 1;
+        }
+        rest = after;
+    }
+    count
+}
+
+/// Whether bytes begin as a recording. One byte order mark may stand before its first word.
+pub fn begins_recording(bytes: &[u8]) -> bool
+    ensures { result ≡ begins_recording bytes.now }
+{
+    let rest = unmarked(bytes);
+    let most = rest.len().min(10);
+    &rest[..most] == b"recording,".as_slice()
 }
