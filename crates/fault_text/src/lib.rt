@@ -11,6 +11,7 @@ mod sentence;
 mod shown;
 
 pub use fault::{Fault, Why, explain};
-pub use lines::records_law;
+pub use fields::{field, kind_of};
+pub use lines::{FileLines, records_law};
 pub use names::{FieldName, RecordKind};
 pub use shown::shown_law;
