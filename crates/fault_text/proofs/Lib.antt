@@ -1,4 +1,5 @@
 pub mod RecordLines
+pub mod FewLines
 pub mod FirstLine
 pub mod Visible
 pub mod Pieces

@@ -64,7 +64,7 @@ pub(crate) fn count(line: &[u8]) -> u32
 }
 
 /// The field at a place, from 0; an empty one past the last.
-pub(crate) fn field(line: &[u8], place: usize) -> &[u8]
+pub fn field(line: &[u8], place: usize) -> &[u8]
     ensures { result.now ≡ field (fields_in line.now) place }
 {
     let mut fields = Fields::of(line);
@@ -80,7 +80,7 @@ pub(crate) fn field(line: &[u8], place: usize) -> &[u8]
 }
 
 /// The kind of record that a word names in a format.
-pub(crate) fn kind_of(version: u8, word: &[u8]) -> Option<RecordKind>
+pub fn kind_of(version: u8, word: &[u8]) -> Option<RecordKind>
     ensures { stated_kinds result ≡ kind_named version word.now }
 {
     if word == b"run".as_slice() {

@@ -16,6 +16,7 @@ mod shown;
 pub use earlier::Sought;
 pub use fault::{Fault, Why, explain};
 pub use faultless::faultless_line;
-pub use lines::{begins_recording, records_law};
+pub use fields::{field, kind_of};
+pub use lines::{FileLines, begins_recording, records_law};
 pub use names::{FieldName, RecordKind};
 pub use shown::shown_law;

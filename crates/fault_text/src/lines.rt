@@ -1,10 +1,11 @@
 // The lines of a file, and the records in them.
-ghost use Rattle.std.specs.Prelude.{◌≡◌, ◌≤◌, ◌<◌, ◌-◌, ◌^◌, ◌∷◌, [], ℕ, List, false, length, map};
+ghost use Rattle.std.specs.Prelude.{◌≡◌, ◌≤◌, ◌<◌, ◌-◌, ◌^◌, ◌∷◌, [], ℕ, List, MatchOption, false, length, map};
 ghost use Rattle.csv.specs.Reading.{strip_bom};
 ghost use Rattle.enc_file.specs.Records.{records_of};
 ghost use Rattle.fault_text.specs.Lines.{BeginsWithEnd, Stands, begins_recording, fields_in, file_lines, lines_after, written};
 
 use memchr::memchr2;
+use std::marker::Model;
 
 const LINE_FEED: u8 = b'\n';
 
@@ -66,6 +67,45 @@ pub(crate) fn cut(bytes: &[u8]) -> (&[u8], &[u8])
             (line, behind_end(rest))
         }
         None => (bytes, &[]),
+    }
+}
+
+/// The lines of a file that are still to come, each without its end. Blank lines are among them.
+#[derive(Drop)]
+pub struct FileLines<'a> {
+    rest: &'a [u8],
+}
+
+impl<'a> Model for FileLines<'a> {
+    ghost use Rattle.std.specs.Prelude.{false, List, ℕ};
+    ghost use Rattle.fault_text.specs.Lines.{lines_after};
+
+    ghost Value = { List (List ℕ) };
+
+    ghost view = { λ a. lines_after false a.rest.now };
+}
+
+impl<'a> FileLines<'a> {
+    /// All lines of a file. There are no more lines than bytes.
+    pub fn of(text: &'a [u8]) -> FileLines<'a>
+        ensures lines { result ≡ file_lines text.now }
+        ensures few { length result ≤ length text.now }
+    {
+        FileLines {
+            rest: unmarked(text),
+        }
+    }
+
+    /// The next line.
+    pub fn next(&mut self) -> Option<&'a [u8]>
+        ensures { MatchOption result ((self.old ≡ []) × (self.new ≡ [])) (λ line. self.old ≡ line.now ∷ self.new) }
+    {
+        if self.rest.is_empty() {
+            return None;
+        }
+        let (line, rest) = cut(self.rest);
+        self.rest = rest;
+        Some(line)
     }
 }
 

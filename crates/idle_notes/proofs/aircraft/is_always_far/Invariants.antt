@@ -1,0 +1,8 @@
+use Rattle.std.proofs.Common.{◌+◌, true}
+use Rattle.idle_notes.proofs.Ranges.{Gives}
+use Rattle.idle_notes.specs.Aircraft.{is_far_in}
+use Rattle.idle_notes.proofs.aircraft.is_always_far.Given as goal
+
+-- The test holds in each cycle so far.
+abbrev pub invariant-loop-before : goal.invariant-loop-before
+invariant-loop-before l = Gives (is_far_in l.encounter l.craft l.other) true 1 (l.before + 1)
