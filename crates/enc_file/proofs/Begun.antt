@@ -151,7 +151,7 @@ pub refused-first : (rows : List (List (List ℕ))) (refusal : Refusal) (r : IsR
 refused-first rows refusal r first = first-passed (length r.earlier) rows r.earlier first r.passed
 
 -- Only the record `end` ends a text.
-Ends : List (List ℕ) → Result Record Code → Type 0
+pub Ends : List (List ℕ) → Result Record Code → Type 0
 Ends fields (Err why) = Unit {0}
 Ends fields (Ok now) = (earlier : List Record) → has_ended earlier ≡ false → has_ended (now ∷ earlier) ≡ true → fields ≡ codes "end" ∷ []
 
@@ -248,13 +248,13 @@ end-ends false true fields y one name h = tt
 end-ends true false fields y one name h = h
 end-ends false false fields y one name h = h
 
-record-ends : (version : ℕ) (fields : List (List ℕ)) → Ends fields (record_of version fields)
+pub record-ends : (version : ℕ) (fields : List (List ℕ)) → Ends fields (record_of version fields)
 unfolding record_of end_of
 record-ends version fields =
     let last = end-ends (length fields == 1) (bytes_eq (field fields 0) (codes "end")) fields in
     search (ends-if, fate-ends, leg-ends, miss-ends, craft-ends, run-ends, gains-ends, climb-ends, plan-ends, ends-fault, last) depth 14
 
-ends-known : (fields : List (List ℕ)) (r : Result Record Code) (now : Record) → Ends fields r → r ≡ Ok now → (earlier : List Record) → has_ended earlier ≡ false → has_ended (now ∷ earlier) ≡ true → fields ≡ codes "end" ∷ []
+pub ends-known : (fields : List (List ℕ)) (r : Result Record Code) (now : Record) → Ends fields r → r ≡ Ok now → (earlier : List Record) → has_ended earlier ≡ false → has_ended (now ∷ earlier) ≡ true → fields ≡ codes "end" ∷ []
 unfolding Ends
 ends-known fields (Err why) now h e = absurd (cc e)
 ends-known fields (Ok other) now h e =

@@ -41,10 +41,10 @@ at-number code.Mask = refl
 at-number code.NoEnd = refl
 at-number code.After = refl
 
-same-code : (a b : Code) → code_number a ≡ code_number b → a ≡ b
+pub same-code : (a b : Code) → code_number a ≡ code_number b → a ≡ b
 same-code a b e = sym (at-number a) ∙ ap code_at e ∙ at-number b
 
-number-within : (why : Code) → (1 ≤ code_number why) × (code_number why ≤ 12)
+pub number-within : (why : Code) → (1 ≤ code_number why) × (code_number why ≤ 12)
 number-within code.Header = (omega arith, omega arith)
 number-within code.Kind = (omega arith, omega arith)
 number-within code.Fields = (omega arith, omega arith)

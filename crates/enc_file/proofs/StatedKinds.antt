@@ -92,7 +92,7 @@ gains-told : (earlier : List Record) (fields : List (List ℕ)) → IsTold earli
 unfolding gains_of
 gains-told earlier fields = gains-at earlier (length fields == 5) (count_in 0 1024 (field fields 1)) (count_in 0 1024 (field fields 2)) (count_in 0 1024 (field fields 3)) (count_in 0 1024 (field fields 4))
 
-craft-fault : (earlier : List Record) (address : ℕ) (kind : Kind) (x y alt : ℤ)
+pub craft-fault : (earlier : List Record) (address : ℕ) (kind : Kind) (x y alt : ℤ)
     → fault_of earlier (said.Craft (record { address = address; kind = kind; x = x; y = y; alt = alt; ceiling = None }))
     ≡ or_else (is_given earlier address) code.Repeat (or_else (nat_le (most_crafts (gives.version_of earlier)) (length (gives.crafts_of earlier))) code.Count None)
 craft-fault earlier address kind x y alt =

@@ -27,7 +27,7 @@ named-or name word = at (bytes_eq name word) refl where
   at true is = inl ((bytes_eq-Decides name word).0 is)
   at false is = inr refl
 
-abbrev kind-result : Option RecordKind → List (List ℕ) → Result Record Code
+abbrev pub kind-result : Option RecordKind → List (List ℕ) → Result Record Code
 kind-result None fields = Err code.Kind
 kind-result (Some kind) fields = read-by kind fields
 
@@ -81,7 +81,7 @@ name-told second name fields = elim (named-or name (codes "fate")) [
   ]
 ]
 
-record-told : (version : ℕ) (fields : List (List ℕ)) → record_of version fields ≡ kind-result (kind_named version (field fields 0)) fields
+pub record-told : (version : ℕ) (fields : List (List ℕ)) → record_of version fields ≡ kind-result (kind_named version (field fields 0)) fields
 unfolding record_of
 record-told version fields = name-told (version == 2) (field fields 0) fields
 

@@ -12,7 +12,7 @@ use acas_base::{Address, CopyPlan, CraftSpec, Fate, Leg, LinkPlan, Miss};
 const BITS: u32 = 3;
 
 /// What is missing where no record follows the first `count` ones.
-pub(crate) fn missing_after(count: u32) -> Code
+pub fn missing_after(count: u32) -> Code
     ensures { result ≡ missing_after count }
 {
     if count == 0 {

@@ -14,7 +14,7 @@ mod tables;
 mod values;
 
 pub use canonical::{CanonicalText, write};
-pub use conditions::index_of;
+pub use conditions::{index_of, missing_after};
 pub use laws::{canonical_records_law, canonical_text_law, passed_law, refusal_law};
 pub use reading::read;
 pub use record::{Addresses, Copies, Course, Record, Run, TrackGains};
