@@ -74,7 +74,8 @@ class Run:
 
 def nearest(value: float | Fraction) -> int:
     """The nearest whole number, the greater of two as near."""
-    return math.floor(Fraction(value) + Fraction(1, 2))
+    numerator, denominator = value.as_integer_ratio()
+    return (2 * numerator + denominator) // (2 * denominator)
 
 
 def is_clock(text: str) -> bool:

@@ -27,11 +27,11 @@ def has_address_form(text: str) -> bool:
     return bool(re.fullmatch("[0-9A-Fa-f]{6}", text)) and text.upper() not in ("000000", "FFFFFF")
 
 
-def number(row: Row, name: str) -> Fraction:
-    """The number of a field, exactly."""
+def digits(row: Row, name: str) -> str:
+    """The field, which has to be a number."""
     if not re.fullmatch(r"[+-]?(\d+\.?\d*|\.\d+)([eE][+-]?\d\d?)?", row[name], re.ASCII):
         raise Refusal(f'{name} is "{row[name]}", which is no number')
-    return Fraction(row[name])
+    return row[name]
 
 
 class Columns:
@@ -95,11 +95,11 @@ class Columns:
 
     def feet(self, row: Row) -> Feet:
         """A place on the plane."""
-        return Feet(*(float(number(row, f"{it}_{self.unit}") * PLANE_UNITS[self.unit]) for it in "xy"))
+        return Feet(*(float(Fraction(digits(row, f"{it}_{self.unit}")) * PLANE_UNITS[self.unit]) for it in "xy"))
 
     def degrees(self, row: Row) -> Degrees:
         """A place on WGS84."""
-        latitude, longitude = float(number(row, "lat")), float(number(row, "lon"))
+        latitude, longitude = float(digits(row, "lat")), float(digits(row, "lon"))
         if abs(latitude) > 90 or abs(longitude) > 180:
             raise Refusal(f"lat {latitude}, lon {longitude} is no place: lat is from -90 to 90, lon from -180 to 180")
         return Degrees(latitude, longitude)
@@ -107,11 +107,11 @@ class Columns:
     def course(self, row: Row) -> Course:
         """What a place is reckoned from."""
         anchor = None if row["anchor"].lower() in EMPTY else self.feet(row)
-        return Course(KNOT * float(number(row, "gs_kt")), float(number(row, "track_deg")), anchor)
+        return Course(KNOT * float(digits(row, "gs_kt")), float(digits(row, "track_deg")), anchor)
 
     def altitude_of(self, row: Row) -> Fraction:
         """The altitude of a row in ft."""
-        altitude = number(row, self.altitude) * ALTITUDE_UNITS[self.altitude]
+        altitude = Fraction(digits(row, self.altitude)) * ALTITUDE_UNITS[self.altitude]
         if not LOWEST <= altitude <= HIGHEST:
             raise Refusal(f"the altitude is {float(altitude):.0f} ft, and has to be from {LOWEST} to {HIGHEST}")
         return altitude
