@@ -19,4 +19,4 @@ pub use faultless::faultless_line;
 pub use fields::{field, kind_of};
 pub use lines::{FileLines, begins_recording, records_law};
 pub use names::{FieldName, RecordKind};
-pub use shown::shown_law;
+pub use shown::{SHOWN_BYTES, add_shown, shown_law};
