@@ -21,7 +21,7 @@ use Rattle.acas_top.specs.declared.words.TheConstants.{ENCOUNTER_BYTES, RECORDIN
 use Rattle.acas_top.specs.declared.words.Command.{Command}
 use Rattle.acas_top.specs.declared.words.Command.TheVariants as commands
 use Rattle.acas_top.specs.declared.words.Page.TheVariants.{Help, Version}
-use Rattle.acas_top.specs.declared.words.Plain.TheVariants.{Audit, Compare, Decode, Gen, Resume, Serial, Show, Sweep, Tell}
+use Rattle.acas_top.specs.declared.words.Plain.TheVariants.{Audit, Compare, Decode, Gen, Resume, Serial, Show, Sweep, Tell, Tracks}
 use Rattle.acas_top.specs.declared.words.Threaded.{Threaded}
 use Rattle.acas_top.specs.declared.words.Threaded.TheVariants.{Play, Sum}
 use Rattle.acas_top.specs.declared.words.Tool.TheVariants.{Messages, Places, Reports, Response, Summary, Watch, Why}
@@ -50,6 +50,7 @@ limit-by words =
     else if begins-with (codes "help") words then None
     else if begins-with (codes "--version") words then None
     else if begins-with (codes "serial") words then Some ENCOUNTER_BYTES
+    else if begins-with (codes "tracks") words then Some ENCOUNTER_BYTES
     else if begins-with (codes "play") words then Some ENCOUNTER_BYTES
     else if begins-with (codes "sum") words then Some ENCOUNTER_BYTES
     else Some RECORDING_BYTES
@@ -67,6 +68,7 @@ limit-said words (commands.Plain (Tell Watch)) said = sym (ap limit-by said)
 limit-said words (commands.Plain (Tell Why)) said = sym (ap limit-by said)
 limit-said words (commands.Plain (Sweep number count crafts cycles)) said = sym (ap limit-by said)
 limit-said words (commands.Plain Resume) said = sym (ap limit-by said)
+limit-said words (commands.Plain Tracks) said = sym (ap limit-by said)
 limit-said words (commands.Plain Compare) said = sym (ap limit-by said)
 limit-said words (commands.Plain (Decode word)) said = sym (ap limit-by said)
 limit-said words (commands.Plain (Show Help)) (inl said) = sym (ap limit-by said)

@@ -1,6 +1,6 @@
 -- At most one status answers a command on the bytes that it read.
 use Rattle.std.proofs.Common.{◌≡◌, List, ℕ, length, refl, subst}
-use Rattle.acas_top.specs.Answers.{Answers, AnswersPlain, IsLegal, IsWrong, IsWrongPair, IsWrongPart, Plays, Refuses, Resumes, Runs}
+use Rattle.acas_top.specs.Answers.{Answers, AnswersPlain, Imports, IsLegal, IsWrong, IsWrongPair, IsWrongPart, Plays, Refuses, RefusesTracks, Resumes, Runs}
 use Rattle.acas_top.specs.Comparing.{Compares, IsWrongOfTwo, in_first, in_second}
 use Rattle.air_journal.specs.States.{State}
 use Rattle.comparison.specs.Splitting.{IsSplit}
@@ -15,10 +15,15 @@ use Rattle.acas_top.specs.declared.status.Status.TheVariants.{Done, Refused, Wro
 use Rattle.acas_top.specs.declared.words.Command.{Command}
 use Rattle.acas_top.specs.declared.words.Command.TheVariants as commands
 use Rattle.acas_top.specs.declared.words.Plain.{Plain}
-use Rattle.acas_top.specs.declared.words.Plain.TheVariants.{Audit, Compare, Decode, Gen, Resume, Serial, Show, Sweep, Tell}
+use Rattle.acas_top.specs.declared.words.Plain.TheVariants.{Audit, Compare, Decode, Gen, Resume, Serial, Show, Sweep, Tell, Tracks}
 use Rattle.acas_top.specs.declared.words.Threaded.{Threaded}
 use Rattle.acas_top.specs.declared.words.Threaded.TheVariants.{Play, Sum}
+use Rattle.acas_base.specs.Encounter.{Parts}
 use Rattle.acas_top.specs.Telling.{Tells}
+use Rattle.enc_file.specs.Records.{records_of}
+use Rattle.track_text.specs.Conditions.{IsRefused}
+use Rattle.track_text.specs.Reading.{Says as SaysTracks}
+use Rattle.track_text.specs.declared.refusal.Refusal.{Refusal as TrackRefusal}
 use Rattle.acas_top.specs.declared.words.Tool.{Tool}
 
 -- What can be played has no cause to be refused.
@@ -34,6 +39,20 @@ refused-only : (bytes text other : List ℕ) (also : Status) → Refuses bytes t
 refused-only bytes text other Done refused is = absurd (not-both bytes other text is refused)
 refused-only bytes text other Refused refused is = refl
 refused-only bytes text other also refused is = absurd is
+
+-- Bytes that say an encounter by tracks aren't refused.
+abbrev pub HasOneImport : Type 0
+HasOneImport = (bytes : List ℕ) (e : Parts) (refusal : TrackRefusal) → SaysTracks bytes e → IsRefused (records_of bytes) refusal → ⊥
+
+imported-only : HasOneImport → (bytes text other : List ℕ) (also : Status) → Imports bytes text → AnswersPlain Tracks bytes also other → Done ≡ also
+imported-only law bytes text other Done made is = refl
+imported-only law bytes text other Refused made is = absurd (law bytes made.encounter is.refusal made.says is.is)
+imported-only law bytes text other also made is = absurd is
+
+not-imported-only : HasOneImport → (bytes text other : List ℕ) (also : Status) → RefusesTracks bytes text → AnswersPlain Tracks bytes also other → Refused ≡ also
+not-imported-only law bytes text other Done refused is = absurd (law bytes is.encounter refused.refusal is.says refused.is)
+not-imported-only law bytes text other Refused refused is = refl
+not-imported-only law bytes text other also refused is = absurd is
 
 -- At most one verdict is given on bytes.
 abbrev pub HasOneVerdict : Type 0
@@ -135,37 +154,40 @@ not-run-only run bytes text other Done refused is = absurd (not-run run bytes ot
 not-run-only run bytes text other Refused refused is = refl
 not-run-only run bytes text other also refused is = absurd is
 
-one-plain : HasOneVerdict → HasOnePart → HasOneSplit → (plain : Plain) (bytes text other : List ℕ) (status also : Status) → AnswersPlain plain bytes status text → AnswersPlain plain bytes also other → status ≡ also
-one-plain law part cut Serial bytes text other Done also is other_is = done-only bytes text other also is other_is
-one-plain law part cut Serial bytes text other Refused also is other_is = refused-only bytes text other also is other_is
-one-plain law part cut Serial bytes text other status also is other_is = absurd is
-one-plain law part cut Audit bytes text other Done also is other_is = legal-only law bytes text other also is other_is
-one-plain law part cut Audit bytes text other Wrong also is other_is = wrong-only law bytes text other also is other_is
-one-plain law part cut Audit bytes text other status also is other_is = absurd is
-one-plain law part cut (Gen number crafts cycles) bytes text other Done Done is other_is = refl
-one-plain law part cut (Gen number crafts cycles) bytes text other Done also is other_is = absurd other_is
-one-plain law part cut (Gen number crafts cycles) bytes text other status also is other_is = absurd is
-one-plain law part cut (Tell tool) bytes text other Done also is other_is = told-only law tool bytes text other also is other_is
-one-plain law part cut (Tell tool) bytes text other Wrong also is other_is = untold-only law tool bytes text other also is other_is
-one-plain law part cut (Tell tool) bytes text other status also is other_is = absurd is
-one-plain law part cut (Sweep number count crafts cycles) bytes text other Done Done is other_is = refl
-one-plain law part cut (Sweep number count crafts cycles) bytes text other Done also is other_is = absurd other_is
-one-plain law part cut (Sweep number count crafts cycles) bytes text other status also is other_is = absurd is
-one-plain law part cut Resume bytes text other Done also is other_is = resumed-only part bytes text other also is other_is
-one-plain law part cut Resume bytes text other Wrong also is other_is = wrong-part-only part bytes text other also is other_is
-one-plain law part cut Resume bytes text other status also is other_is = absurd is
-one-plain law part cut Compare bytes text other Done also is other_is = compared-only law cut bytes text other also is other_is
-one-plain law part cut Compare bytes text other Wrong also is other_is = wrong-pair-only law cut bytes text other also is other_is
-one-plain law part cut Compare bytes text other status also is other_is = absurd is
-one-plain law part cut (Decode word) bytes text other Done Done is other_is = refl
-one-plain law part cut (Decode word) bytes text other Done also is other_is = absurd other_is
-one-plain law part cut (Decode word) bytes text other status also is other_is = absurd is
-one-plain law part cut (Show page) bytes text other Done Done is other_is = refl
-one-plain law part cut (Show page) bytes text other Done also is other_is = absurd other_is
-one-plain law part cut (Show page) bytes text other status also is other_is = absurd is
+one-plain : HasOneVerdict → HasOnePart → HasOneSplit → HasOneImport → (plain : Plain) (bytes text other : List ℕ) (status also : Status) → AnswersPlain plain bytes status text → AnswersPlain plain bytes also other → status ≡ also
+one-plain law part cut flown Serial bytes text other Done also is other_is = done-only bytes text other also is other_is
+one-plain law part cut flown Serial bytes text other Refused also is other_is = refused-only bytes text other also is other_is
+one-plain law part cut flown Serial bytes text other status also is other_is = absurd is
+one-plain law part cut flown Tracks bytes text other Done also is other_is = imported-only flown bytes text other also is other_is
+one-plain law part cut flown Tracks bytes text other Refused also is other_is = not-imported-only flown bytes text other also is other_is
+one-plain law part cut flown Tracks bytes text other status also is other_is = absurd is
+one-plain law part cut flown Audit bytes text other Done also is other_is = legal-only law bytes text other also is other_is
+one-plain law part cut flown Audit bytes text other Wrong also is other_is = wrong-only law bytes text other also is other_is
+one-plain law part cut flown Audit bytes text other status also is other_is = absurd is
+one-plain law part cut flown (Gen number crafts cycles) bytes text other Done Done is other_is = refl
+one-plain law part cut flown (Gen number crafts cycles) bytes text other Done also is other_is = absurd other_is
+one-plain law part cut flown (Gen number crafts cycles) bytes text other status also is other_is = absurd is
+one-plain law part cut flown (Tell tool) bytes text other Done also is other_is = told-only law tool bytes text other also is other_is
+one-plain law part cut flown (Tell tool) bytes text other Wrong also is other_is = untold-only law tool bytes text other also is other_is
+one-plain law part cut flown (Tell tool) bytes text other status also is other_is = absurd is
+one-plain law part cut flown (Sweep number count crafts cycles) bytes text other Done Done is other_is = refl
+one-plain law part cut flown (Sweep number count crafts cycles) bytes text other Done also is other_is = absurd other_is
+one-plain law part cut flown (Sweep number count crafts cycles) bytes text other status also is other_is = absurd is
+one-plain law part cut flown Resume bytes text other Done also is other_is = resumed-only part bytes text other also is other_is
+one-plain law part cut flown Resume bytes text other Wrong also is other_is = wrong-part-only part bytes text other also is other_is
+one-plain law part cut flown Resume bytes text other status also is other_is = absurd is
+one-plain law part cut flown Compare bytes text other Done also is other_is = compared-only law cut bytes text other also is other_is
+one-plain law part cut flown Compare bytes text other Wrong also is other_is = wrong-pair-only law cut bytes text other also is other_is
+one-plain law part cut flown Compare bytes text other status also is other_is = absurd is
+one-plain law part cut flown (Decode word) bytes text other Done Done is other_is = refl
+one-plain law part cut flown (Decode word) bytes text other Done also is other_is = absurd other_is
+one-plain law part cut flown (Decode word) bytes text other status also is other_is = absurd is
+one-plain law part cut flown (Show page) bytes text other Done Done is other_is = refl
+one-plain law part cut flown (Show page) bytes text other Done also is other_is = absurd other_is
+one-plain law part cut flown (Show page) bytes text other status also is other_is = absurd is
 
-pub one-status : HasOneVerdict → HasOnePart → HasOneSplit → (command : Command) (bytes text other : List ℕ) (status also : Status) → Answers command bytes status text → Answers command bytes also other → status ≡ also
-one-status law part cut (commands.Plain plain) bytes text other status also is other_is = one-plain law part cut plain bytes text other status also is other_is
-one-status law part cut (commands.Run run) bytes text other Done also is other_is = ran-only run bytes text other also is other_is
-one-status law part cut (commands.Run run) bytes text other Refused also is other_is = not-run-only run bytes text other also is other_is
-one-status law part cut (commands.Run run) bytes text other status also is other_is = absurd is
+pub one-status : HasOneVerdict → HasOnePart → HasOneSplit → HasOneImport → (command : Command) (bytes text other : List ℕ) (status also : Status) → Answers command bytes status text → Answers command bytes also other → status ≡ also
+one-status law part cut flown (commands.Plain plain) bytes text other status also is other_is = one-plain law part cut flown plain bytes text other status also is other_is
+one-status law part cut flown (commands.Run run) bytes text other Done also is other_is = ran-only run bytes text other also is other_is
+one-status law part cut flown (commands.Run run) bytes text other Refused also is other_is = not-run-only run bytes text other also is other_is
+one-status law part cut flown (commands.Run run) bytes text other status also is other_is = absurd is

@@ -13,7 +13,7 @@ use Rattle.acas_top.specs.declared.status.Status.TheVariants.{Done, Refused, Wro
 use Rattle.acas_top.specs.declared.words.Command.{Command}
 use Rattle.acas_top.specs.declared.words.Command.TheVariants as commands
 use Rattle.acas_top.specs.declared.words.Plain.{Plain}
-use Rattle.acas_top.specs.declared.words.Plain.TheVariants.{Audit, Compare, Decode, Gen, Resume, Serial, Show, Sweep, Tell}
+use Rattle.acas_top.specs.declared.words.Plain.TheVariants.{Audit, Compare, Decode, Gen, Resume, Serial, Show, Sweep, Tell, Tracks}
 use Rattle.acas_top.specs.declared.words.Threaded.{Threaded}
 use Rattle.acas_top.specs.declared.words.Threaded.TheVariants.{Play, Sum}
 use Rattle.acas_top.specs.Sweeping.{Sweeps}
@@ -30,6 +30,7 @@ use Rattle.comparison.specs.Splitting.{IsSplit}
 use Rattle.enc_file.specs.Canonical.{canonical_text}
 use Rattle.enc_file.specs.Codes.{code_number}
 use Rattle.enc_file.specs.Reading.{Says, reading_of}
+use Rattle.enc_file.specs.Records.{records_of}
 use Rattle.enc_file.specs.declared.refusal.Refusal.{Refusal}
 use Rattle.enc_gen.specs.Generated.{generated}
 use Rattle.rec_audit.specs.Judging.{IsBeginningOf, IsPartLoaded, Judged}
@@ -42,6 +43,10 @@ use Rattle.rec_audit.specs.declared.verdict.Verdict.TheVariants as verdicts
 use Rattle.rec_text.specs.Recording.{recording}
 use Rattle.resume.specs.Filling.{IsFilled}
 use Rattle.sweep.specs.declared.counts.Counts.{Counts}
+use Rattle.track_text.specs.Codes.{fault_number}
+use Rattle.track_text.specs.Conditions.{IsRefused}
+use Rattle.track_text.specs.Reading.{Says as SaysTracks}
+use Rattle.track_text.specs.declared.refusal.Refusal.{Refusal as TrackRefusal}
 use Rattle.word_text.specs.Lines.{word_text}
 
 -- The line of a refusal: the number of the record, and the number of the code.
@@ -73,6 +78,18 @@ pub record Plays (bytes text : List ℕ) : Type 0 where
   pub serial : IsSerial (air_of encounter) journal
   pub run : IsRun encounter journal
   pub text_is : text ≡ recording encounter journal
+
+-- The bytes say tracks, and the text is the canonical one of the encounter whose aircraft fly along them.
+pub record Imports (bytes text : List ℕ) : Type 0 where
+  pub encounter : Parts
+  pub says : SaysTracks bytes encounter
+  pub text_is : text ≡ canonical_text encounter
+
+-- The bytes say no tracks along which aircraft can fly, and the text is the line of the refusal.
+pub record RefusesTracks (bytes text : List ℕ) : Type 0 where
+  pub refusal : TrackRefusal
+  pub is : IsRefused (records_of bytes) refusal
+  pub text_is : text ≡ refused_line refusal.at (fault_number refusal.fault)
 
 -- The text is the canonical text of the encounter that is made from a number.
 abbrev pub IsMade : ℕ → ℕ → ℕ → List ℕ → Type 0
@@ -170,6 +187,9 @@ AnswersPlain (Tell tool) bytes Wrong text = IsWrong bytes text
 AnswersPlain (Tell tool) bytes status text = ⊥
 AnswersPlain (Sweep number count crafts cycles) bytes Done text = Sweeps number count crafts cycles text
 AnswersPlain (Sweep number count crafts cycles) bytes status text = ⊥
+AnswersPlain Tracks bytes Done text = Imports bytes text
+AnswersPlain Tracks bytes Refused text = RefusesTracks bytes text
+AnswersPlain Tracks bytes status text = ⊥
 AnswersPlain Resume bytes Done text = Resumes bytes text
 AnswersPlain Resume bytes Wrong text = IsWrongPart bytes text
 AnswersPlain Resume bytes status text = ⊥

@@ -10,7 +10,7 @@ use Rattle.acas_top.specs.declared.words.Command.TheVariants as commands
 use Rattle.acas_top.specs.declared.words.Page.{Page}
 use Rattle.acas_top.specs.declared.words.Page.TheVariants.{Help, Version}
 use Rattle.acas_top.specs.declared.words.Plain.{Plain}
-use Rattle.acas_top.specs.declared.words.Plain.TheVariants.{Audit, Compare, Decode, Gen, Resume, Serial, Show, Sweep, Tell}
+use Rattle.acas_top.specs.declared.words.Plain.TheVariants.{Audit, Compare, Decode, Gen, Resume, Serial, Show, Sweep, Tell, Tracks}
 use Rattle.acas_top.specs.declared.words.Threaded.{Threaded}
 use Rattle.acas_top.specs.declared.words.Threaded.TheVariants.{Play, Sum}
 use Rattle.acas_top.specs.declared.words.Tool.{Tool}
@@ -24,6 +24,7 @@ IsInRange (Gen number crafts cycles) = (number < 2 ^ 32) × (1 ≤ crafts) × (c
 IsInRange (Tell tool) = Unit {0}
 IsInRange (Sweep number count crafts cycles) = (number < 2 ^ 32) × (1 ≤ count) × (count ≤ 4096) × (1 ≤ crafts) × (crafts ≤ 4) × (1 ≤ cycles) × (cycles ≤ 120)
 IsInRange Resume = Unit {0}
+IsInRange Tracks = Unit {0}
 IsInRange Compare = Unit {0}
 IsInRange (Decode word) = word < 2 ^ 56
 IsInRange (Show page) = Unit {0}
@@ -61,6 +62,7 @@ SayPlain words (Gen number crafts cycles) = words ≡ codes "gen" ∷ decimal nu
 SayPlain words (Tell tool) = words ≡ tool_word tool ∷ []
 SayPlain words (Sweep number count crafts cycles) = words ≡ codes "sweep" ∷ decimal number ∷ decimal count ∷ decimal crafts ∷ decimal cycles ∷ []
 SayPlain words Resume = words ≡ codes "resume" ∷ []
+SayPlain words Tracks = words ≡ codes "tracks" ∷ []
 SayPlain words Compare = words ≡ codes "compare" ∷ []
 SayPlain words (Decode word) = words ≡ codes "decode" ∷ hex 14 word ∷ []
 SayPlain words (Show page) = SayPage words page
@@ -85,6 +87,7 @@ AreNoRun words = (run : Threaded) → Say words (commands.Run run) → ⊥
 -- The most bytes that a plain command reads, or none where it reads nothing.
 abbrev pub plain_limit : Plain → Option ℕ
 plain_limit Serial = Some ENCOUNTER_BYTES
+plain_limit Tracks = Some ENCOUNTER_BYTES
 plain_limit Audit = Some RECORDING_BYTES
 plain_limit (Gen number crafts cycles) = None
 plain_limit (Tell tool) = Some RECORDING_BYTES

@@ -34,7 +34,7 @@ use word_text::WordText;
 pub(crate) enum Answer {
     /// The recording of a run.
     Recorded(AirState),
-    /// The text of an encounter that was made from a number.
+    /// The text of an encounter that was made from a number, or from tracks.
     Made(Encounter),
     /// A tool's text about a recording.
     Told(Told),
@@ -117,6 +117,20 @@ fn answer_audit(alloc: Global, bytes: &[u8]) -> Result<Answer, AllocError>
     ensures { IfOk result (λ answer. AnswersPlain Plain.Audit bytes.now (answer_status answer) (answer_text answer)) }
 {
     Ok(Answer::Judged(judge(alloc, bytes)?))
+}
+
+// The answer to `tracks`.
+fn answer_tracks(alloc: Global, bytes: &[u8]) -> Result<Answer, AllocError>
+    requires { length bytes.now ≤ ENCOUNTER_BYTES }
+    ensures { IfOk result (λ answer. AnswersPlain Plain.Tracks bytes.now (answer_status answer) (answer_text answer)) }
+{
+    match track_text::read(alloc, bytes) {
+        Ok(encounter) => Ok(Answer::Made(encounter)),
+        Err(track_text::ReadError::Refused(refusal)) => {
+            Ok(Answer::Refused(refusal.at, refusal.fault.number()))
+        }
+        Err(track_text::ReadError::OutOfMemory) => Err(AllocError),
+    }
 }
 
 // The answer to `gen`.
@@ -231,6 +245,7 @@ pub(crate) fn answer_to<R: Threads + Sync>(
             crafts,
             cycles,
         } => answer_sweep(rt, alloc, number, count, crafts, cycles),
+        Plain::Tracks => answer_tracks(alloc, bytes),
         Plain::Resume => answer_resume(alloc, bytes),
         Plain::Compare => answer_compare(alloc, bytes),
         Plain::Decode { word } => Ok(Answer::Decoded(word)),

@@ -18,6 +18,7 @@ pub(crate) const HELP: [&str; 60] = [
     "             recording. Two runs may differ in the order of their steps.\n",
     "  sum        Does both. Writes how many commits the run in threads has, and the\n",
     "             counts of the serial run.\n",
+    "  tracks     Reads recorded tracks. Writes the encounter that flies along them.\n",
     "\n",
     "These words read a recording from standard input:\n",
     "  audit      Writes legal,ENTRIES where the recording is right. Else it writes\n",
@@ -43,15 +44,14 @@ pub(crate) const HELP: [&str; 60] = [
     "             with CRAFTS aircraft (1 to 4) and CYCLES cycles (1 to 120).\n",
     "             Writes the counts of each serial run, and their sums.\n",
     "  decode WORD\n",
-    "             Writes what a word of 14 digits 0-9A-F says: a message, or an RA\n",
-    "             report block.\n",
+    "             Writes what a word of 14 digits says: a message, or an RA block.\n",
     "  --help     Writes this page. So do -h and help.\n",
     "  --version  Writes the versions of the program and of its formats.\n",
     "\n",
     "Exit status, and what standard output has then:\n",
     "  0  Done. The whole output.\n",
     "  2  The words are no command. Nothing was read or written.\n",
-    "  3  serial, play, sum: the input is no encounter. One line,\n",
+    "  3  serial, play, sum, tracks: the input is no encounter. One line,\n",
     "     refused,RECORD,CODE: the first faulty record, and the code of its fault.\n",
     "  4  The input is no recording of a legal and complete run; for resume, no\n",
     "     beginning of one. One line, wrong,LINE,REASON or wrong,2,1,CODE.\n",
@@ -71,7 +71,7 @@ pub(crate) const HELP: [&str; 60] = [
 
 /// What `--version` writes: the program's version, and the formats of encounters and recordings that it reads and
 /// writes.
-pub(crate) const VERSION: [&str; 3] = ["acas 1.2.0\n", "encounter 1,2\n", "recording 1\n"];
+pub(crate) const VERSION: [&str; 3] = ["acas 1.3.0\n", "encounter 1,2\n", "recording 1\n"];
 
 // Puts lines of fixed text, in order.
 fn put_lines<S: LineSink>(lines: &[&str], sink: &mut S)

@@ -15,10 +15,13 @@ use comparison::split_law;
 use rec_audit::verdict_law;
 use std::alloc::Global;
 use std::thread::Threads;
+use track_text::once_law;
 
 /// Runs the command that the words say: reads the source, writes the sink, and returns the status. It always returns.
 ///
 /// - `serial` reads an encounter and writes the recording of its serial run. Where the input is no encounter, it writes
+///   the line `refused,RECORD,CODE`.
+/// - `tracks` reads recorded tracks and writes the encounter whose aircraft fly along them. Where there is none, it writes
 ///   the line `refused,RECORD,CODE`.
 /// - `audit` reads a recording and writes `legal,ENTRIES`. Where the recording is wrong, it writes `wrong,LINE,REASON`.
 /// - `resume` reads a beginning of a recording, and writes the whole recording. Where the input is none, it writes the
@@ -68,4 +71,5 @@ pub fn one_status_law()
 {
     verdict_law();
     split_law();
+    once_law();
 }

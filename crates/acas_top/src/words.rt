@@ -78,6 +78,8 @@ pub enum Plain {
     },
     /// `resume`: reads a beginning of a recording, and writes the recording of its run, completed.
     Resume,
+    /// `tracks`: reads recorded tracks, and writes the encounter whose aircraft fly along them.
+    Tracks,
     /// `compare`: reads two recordings, one after the other, and writes what differs between them.
     Compare,
     /// `decode WORD`: reads nothing, and writes what a word of fourteen digits 0-9A-F says.
@@ -115,7 +117,7 @@ impl Plain {
         ensures { result ≡ limit_of (Command.Plain self) }
     {
         match self {
-            Plain::Serial => Some(ENCOUNTER_BYTES),
+            Plain::Serial | Plain::Tracks => Some(ENCOUNTER_BYTES),
             Plain::Audit | Plain::Tell(_) | Plain::Resume | Plain::Compare => {
                 Some(RECORDING_BYTES)
             }
@@ -204,6 +206,9 @@ fn of_one(word: &str) -> Option<Plain>
     }
     if word == "compare" {
         return Some(Plain::Compare);
+    }
+    if word == "tracks" {
+        return Some(Plain::Tracks);
     }
     match tool_of(word) {
         Some(tool) => Some(Plain::Tell(tool)),

@@ -14,7 +14,7 @@ fn unread<R: Threads + Wait + Sync + Alloc<A = Global>>(
     run_with(rt, line, ONE_CYCLE, &[1], &[], &NoPause)
 }
 
-const VERSIONS: &[u8] = b"acas 1.2.0\nencounter 1,2\nrecording 1\n";
+const VERSIONS: &[u8] = b"acas 1.3.0\nencounter 1,2\nrecording 1\n";
 
 #[test]
 fn tells_its_version(rt: HostRuntime) -> Result<(), Fail> {
@@ -25,8 +25,8 @@ fn tells_its_version(rt: HostRuntime) -> Result<(), Fail> {
 }
 
 // The words that play, read or make something.
-const WORDS: [&str; 16] = [
-    "serial", "play", "sum", "audit", "reports", "response", "watch", "why", "places", "messages",
+const WORDS: [&str; 17] = [
+    "serial", "play", "sum", "tracks", "audit", "reports", "response", "watch", "why", "places", "messages",
     "summary", "compare", "resume", "gen", "sweep", "decode",
 ];
 
