@@ -1,0 +1,12 @@
+// What holds of the texts of tracks, whatever the program does with them.
+ghost use Rattle.std.specs.Prelude.{ℕ, List};
+ghost use Rattle.acas_base.specs.Encounter.{Parts};
+ghost use Rattle.enc_file.specs.Records.{records_of};
+ghost use Rattle.track_text.specs.Conditions.{IsRefused};
+ghost use Rattle.track_text.specs.Reading.{Says};
+ghost use Rattle.track_text.specs.declared.refusal.Refusal.{Refusal};
+
+/// A law: a text of tracks says an encounter or is refused, never both.
+pub fn once_law()
+    ensures once { (text : List ℕ) (e : Parts) (refusal : Refusal) → Says text e → IsRefused (records_of text) refusal → ⊥ }
+{}
