@@ -8,7 +8,7 @@ mod refusal;
 mod saying;
 mod tables;
 
-pub use laws::once_law;
+pub use laws::{once_law, only_law};
 pub use reading::read;
 pub use record::TrackRecord;
 pub use refusal::{Fault, ReadError, Refusal};
