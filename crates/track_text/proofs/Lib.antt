@@ -6,3 +6,4 @@ pub mod WholeTracks
 pub mod Ending
 pub mod Bare
 pub mod Pointed
+pub mod Once

@@ -1,12 +1,14 @@
 //! The text of recorded tracks: read from bytes to the encounter whose aircraft fly along them.
 #![tactic(auto)]
 
+mod laws;
 mod reading;
 mod record;
 mod refusal;
 mod saying;
 mod tables;
 
+pub use laws::{once_law, only_law};
 pub use reading::read;
 pub use record::TrackRecord;
 pub use refusal::{Fault, ReadError, Refusal};
