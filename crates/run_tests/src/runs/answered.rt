@@ -1,5 +1,5 @@
-// What words write, to the byte. Expected values: by hand from "Refusals" and "Encounters made from a number" in
-// docs/FORMATS.md.
+// What words write, to the byte. Expected values: by hand from "Refusals", "Recorded tracks" and "Encounters made from
+// a number" in docs/FORMATS.md.
 use super::{APART, LEVEL, ONE_CYCLE, ONE_CYCLE_RECORDING, TRAFFIC, answers, joined, run};
 use acas_top::Status;
 use std::alloc::{AllocError, Global};
@@ -60,6 +60,34 @@ fn first_other<R: Threads + Wait + Sync + Alloc<A = Global>>(
 fn refuses_by_record_and_code(rt: HostRuntime) -> Result<(), Fail> {
     assert_eq!(rt; first_other(&rt, "serial", &REFUSED)?, None);
     assert_eq!(rt; first_other(&rt, "play", &REFUSED)?, None);
+    Ok(())
+}
+
+// Recorded tracks, and the encounter whose aircraft fly along them.
+const RECORDED: &[u8] =
+    b"tracks,1\nrun,3,0\ncraft,400A01,RA\ncraft,400B02,XPDR\nat,400A01,-500,0,0,600000\nat,400A01,2500,2280,0,600000\nat,400B02,0,60760,0,617970\nat,400B02,2000,59240,0,617970\nend\n";
+
+const FLOWN: &[u8] =
+    b"encounter,2\nrun,3,0\ngains,683,256,512,128\ncraft,400A01,RA,380,0,10000\ncraft,400B02,XPDR,60760,0,10300\nleg,400A01,1,760,0,0\nleg,400B02,1,-760,0,-30\nleg,400B02,2,-760,0,0\nend\n";
+
+const UNFLOWN: [Refusal; 3] = [
+    (b"encounter,2\n", b"", b"refused,1,1\n"),
+    (
+        b"tracks,1\nrun,3,0\ncraft,400A01,RA\n",
+        b"at,400A01,0,0,0,0\nat,400A01,1999,0,0,0\nend\n",
+        b"refused,6,13\n",
+    ),
+    (
+        b"tracks,1\nrun,2,0\ncraft,400A01,RA\n",
+        b"at,400A01,0,0,0,0\nat,400A01,1000,2001,0,0\nend\n",
+        b"refused,6,14\n",
+    ),
+];
+
+#[test]
+fn flies_along_recorded_tracks(rt: HostRuntime) -> Result<(), Fail> {
+    assert!(rt; answers(&rt, "tracks", RECORDED, Status::Done, FLOWN)?);
+    assert_eq!(rt; first_other(&rt, "tracks", &UNFLOWN)?, None);
     Ok(())
 }
 
