@@ -15,3 +15,5 @@ mod fault_text_tests;
 mod rec_audit_tests;
 #[cfg(test)]
 mod rec_text_tests;
+#[cfg(test)]
+mod track_text_tests;
