@@ -7,3 +7,4 @@ pub mod Ending
 pub mod Bare
 pub mod Pointed
 pub mod Once
+pub mod OneRefusal

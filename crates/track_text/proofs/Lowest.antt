@@ -15,7 +15,7 @@ use Rattle.track_text.specs.declared.refusal.Fault.{Fault}
 use Rattle.track_text.specs.declared.refusal.Fault.TheVariants.{Text, Track}
 use Rattle.enc_file.proofs.LowestCode.{lowest-none, lowest-some, lowest_of, number-within}
 
-track-late : (fault : TrackFault) → 12 < track_number fault
+pub track-late : (fault : TrackFault) → 12 < track_number fault
 track-late (Cover craft) = omega arith
 track-late (Rate craft cycle) = omega arith
 

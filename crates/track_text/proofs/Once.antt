@@ -21,7 +21,7 @@ use Rattle.track_text.specs.declared.refusal.Fault.{Fault}
 use Rattle.track_text.specs.declared.refusal.Fault.TheVariants.{Text, Track}
 
 -- What was said is said once.
-said-same : (r : Result TrackRecord Code) (a b : TrackRecord) → r ≡ Ok a → r ≡ Ok b → a ≡ b
+pub said-same : (r : Result TrackRecord Code) (a b : TrackRecord) → r ≡ Ok a → r ≡ Ok b → a ≡ b
 said-same r a b first second =
     let same : Ok a ≡ Ok b = sym first ∙ second in
     cc same

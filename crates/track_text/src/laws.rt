@@ -11,7 +11,8 @@ pub fn once_law()
     ensures once { (text : List ℕ) (e : Parts) (refusal : Refusal) → Says text e → IsRefused (records_of text) refusal → ⊥ }
 {}
 
-/// A law: a text of tracks says one encounter at most.
+/// A law: a text of tracks says one encounter at most, and it is refused in one way at most.
 pub fn only_law()
-    ensures { (text : List ℕ) (d e : Parts) → IsEncounter d → IsEncounter e → Says text d → Says text e → d ≡ e }
+    ensures said { (text : List ℕ) (d e : Parts) → IsEncounter d → IsEncounter e → Says text d → Says text e → d ≡ e }
+    ensures refused { (rows : List (List (List ℕ))) (a b : Refusal) → IsRefused rows a → IsRefused rows b → a ≡ b }
 {}
