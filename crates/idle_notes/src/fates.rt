@@ -39,9 +39,7 @@ fn is_idle_of(source: &Source<'_>, pair: usize, fate: &Fate) -> bool
 fn place_of_idle(source: &Source<'_>, pair: usize, fates: &[Fate]) -> Option<usize>
     ensures { result ≡ position (is_idle_of (encounter_in source.now) (journal_in source.now) pair) fates.now }
 {
-    fates
-        .iter()
-        .position(|fate| is_idle_of(source, pair, fate))
+    fates.iter().position(|fate| is_idle_of(source, pair, fate))
 }
 
 // The number of the fate at a place.

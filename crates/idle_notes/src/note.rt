@@ -5,19 +5,35 @@ use acas_base::Address;
 #[derive(Clone, Copy)]
 pub(crate) enum Note {
     /// The leg begins in the last cycle or later.
-    LateLeg { craft: Address, last: u16 },
+    LateLeg {
+        craft: Address,
+        last: u16,
+    },
     /// The leg has the rates of before.
-    SameRates { craft: Address },
+    SameRates {
+        craft: Address,
+    },
     /// The miss is of an aircraft that isn't active.
-    PassiveMiss { own: Address },
+    PassiveMiss {
+        own: Address,
+    },
     /// The miss begins after the last cycle.
-    LateMiss { last: u16 },
+    LateMiss {
+        last: u16,
+    },
     /// The ceiling is of an aircraft that isn't of kind RA.
-    IdleClimb { craft: Address },
+    IdleClimb {
+        craft: Address,
+    },
     /// The plan is for two aircraft of which this one isn't of kind RA.
-    IdlePlan { silent: Address },
+    IdlePlan {
+        silent: Address,
+    },
     /// The fate, and so many more of its pair, are for two aircraft of which this one isn't of kind RA.
-    SilentFates { more: usize, silent: Address },
+    SilentFates {
+        more: usize,
+        silent: Address,
+    },
     /// The fate, and so many more of its pair, are of messages that the journal doesn't send.
     UnsentFates {
         more: usize,
@@ -33,9 +49,13 @@ pub(crate) enum Note {
         last: u16,
     },
     /// The aircraft, of kind RA, is too near the ground for resolution advisories in each cycle.
-    LowAircraft { craft: Address },
+    LowAircraft {
+        craft: Address,
+    },
     /// The aircraft is active, and too far from all others in each cycle.
-    LoneAircraft { craft: Address },
+    LoneAircraft {
+        craft: Address,
+    },
     /// The aircraft is below the ground in this cycle, for the first time. Altitudes are in ft.
     BelowGround {
         craft: Address,

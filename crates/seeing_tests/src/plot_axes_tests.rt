@@ -1,6 +1,7 @@
 // Expected values: by hand from the definitions of the axes.
 ghost use Rattle.std.specs.Prelude.{◌≡◌, ◌<◌, ◌≤◌};
 ghost use Rattle.std.specs.Option.{ForSome};
+
 use plot_axes::{Scale, TimeAxis, least_step};
 
 fn axis(cycles: u16, start: Option<u32>) -> TimeAxis

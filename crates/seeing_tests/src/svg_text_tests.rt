@@ -1,5 +1,6 @@
 // Expected values: by hand from the rules of SVG 1.1. An XML parser reads the text, and a renderer draws it.
 ghost use Rattle.std.specs.Prelude.{◌≡◌, ◌≤◌, length};
+
 use acas_lines::LineSink;
 use acas_text::Line;
 use std::test::Fail;
@@ -57,7 +58,8 @@ const FRAME: Frame = Frame {
     },
 };
 
-const EXPECTED: &str = "<svg xmlns=\"http://www.w3.org/2000/svg\" version=\"1.1\" viewBox=\"0 0 20000 9000\" width=\"1000\" height=\"450\" font-family=\"Helvetica,Arial,'Liberation Sans','DejaVu Sans',sans-serif\" stroke-linejoin=\"round\">
+const EXPECTED: &str =
+    "<svg xmlns=\"http://www.w3.org/2000/svg\" version=\"1.1\" viewBox=\"0 0 20000 9000\" width=\"1000\" height=\"450\" font-family=\"Helvetica,Arial,'Liberation Sans','DejaVu Sans',sans-serif\" stroke-linejoin=\"round\">
 <title>A &amp; B</title>
 <desc>a &lt;b&gt; ?</desc>
 <defs>

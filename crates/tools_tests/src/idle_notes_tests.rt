@@ -59,7 +59,8 @@ leg,401B08,1,0,0,-60
 end
 ";
 
-const OF_AIRCRAFT: &[u8] = b"line 5: 400C03 gives no resolution advisories: it is too near the ground in each cycle (sensitivity level 2)
+const OF_AIRCRAFT: &[u8] =
+    b"line 5: 400C03 gives no resolution advisories: it is too near the ground in each cycle (sensitivity level 2)
 line 9: 400F06 measures nobody: it is never within 182280 ft of another aircraft
 line 11: 401B08 is below the ground in cycle 3: its altitude is 499 ft, and the ground is at 500 ft
 ";
@@ -67,7 +68,8 @@ line 11: 401B08 is below the ground in cycle 3: its altitude is 499 ft, and the 
 // One aircraft of which all three are noted.
 const ALL_OF_ONE: &[u8] = b"encounter,1\nrun,1,-500\ncraft,400A01,RA,0,0,-600\nend\n";
 
-const OF_ONE: &[u8] = b"line 3: 400A01 gives no resolution advisories: it is too near the ground in each cycle (sensitivity level 2)
+const OF_ONE: &[u8] =
+    b"line 3: 400A01 gives no resolution advisories: it is too near the ground in each cycle (sensitivity level 2)
 line 3: 400A01 measures nobody: it is never within 182280 ft of another aircraft
 line 3: 400A01 is below the ground in cycle 1: its altitude is -600 ft, and the ground is at -500 ft
 ";

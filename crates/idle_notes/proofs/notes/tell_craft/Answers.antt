@@ -21,9 +21,9 @@ returns-clause-lines g c =
     let two = still-more f told after low alone c.tell-after_low.ensures.count in
     let three = still-more f told both (low ++ alone) below (let a = c.tell-after_low.ensures.count in let b = c.tell-after_alone.ensures.count in omega arith) in
     let notes : (low ++ alone) ++ below ≡ craft_notes c.args.encounter.now (fields_in c.args.line.now) =
-        ap₂ (λ (xs ys : List Note). xs ++ ys)
-        (ap₂ (λ (xs ys : List Note). xs ++ ys) (ap (λ (o : Option Note). option_to_list o) c.low_note.ensures) (ap (λ (o : Option Note). option_to_list o) c.alone_note.ensures))
-        (ap (λ (o : Option Note). option_to_list o) c.ground_note.ensures) in
+    ap₂ (λ (xs ys : List Note). xs ++ ys)
+    (ap₂ (λ (xs ys : List Note). xs ++ ys) (ap (λ (o : Option Note). option_to_list o) c.low_note.ensures) (ap (λ (o : Option Note). option_to_list o) c.alone_note.ensures))
+    (ap (λ (o : Option Note). option_to_list o) c.ground_note.ensures) in
     let then = g.met.S.LineSink.then in
     let first = subst (g.S.LineSink.took c.args.sink.now c.tell-after_alone.new.sink) (sym two) (then _ _ _ _ _ c.tell-after_low.ensures.lines c.tell-after_alone.ensures.lines) in
     let all = subst (g.S.LineSink.took c.args.sink.now c.tell.new.sink) (sym three) (then _ _ _ _ _ first c.tell.ensures.lines) in

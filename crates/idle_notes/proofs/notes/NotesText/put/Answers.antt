@@ -28,9 +28,9 @@ loop-line-preserved g c =
     record {
       done = inv.done ++ here;
       took =
-        subst (g.S.LineSink.took c.args.sink.now c.tell_line-told.new.sink)
-        (sym (still-plus 0 inv.done here ∙ ap (λ (k : ℕ). still_told 0 inv.done ++ still_told k here) (let same : 0 + length inv.done ≡ c.loop-line.told = omega (arith, inv.told) in same)))
-        (g.met.S.LineSink.then _ _ _ _ _ inv.took c.tell_line-told.ensures.lines);
+          subst (g.S.LineSink.took c.args.sink.now c.tell_line-told.new.sink)
+          (sym (still-plus 0 inv.done here ∙ ap (λ (k : ℕ). still_told 0 inv.done ++ still_told k here) (let same : 0 + length inv.done ≡ c.loop-line.told = omega (arith, inv.told) in same)))
+          (g.met.S.LineSink.then _ _ _ _ _ inv.took c.tell_line-told.ensures.lines);
       told = omega (arith, told, size, inv.told);
       whole = inv.whole ∙ ap (λ (ls : List (List ℕ)). inv.done ++ notes_from e journal c.loop-line.number ls) c.in-Some.ensures ∙ sym (append_assoc inv.done here rest);
       room = omega (arith, inv.room, lines);
