@@ -317,6 +317,7 @@ impl Tables {
     /// - `Refused`: the record is wrong after those before it. It names the record's place among those that were added,
     ///   and the lowest code of its faults.
     /// - `OutOfMemory`: memory was wanting.
+    #[inline(always)]
     pub fn add(&mut self, alloc: Global, now: Record) -> Result<(), ReadError>
         requires room { self.old.count < 2 ^ 32 - 1 }
         requires held { IsHeld self.old }

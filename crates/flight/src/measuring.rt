@@ -63,7 +63,9 @@ pub fn slant_range_law()
     ensures only { (p q : Place) (r : ℕ) → IsSlantRange p q r → r ≡ slant_range p q }
 {}
 
-// What is measured at one place of an aircraft at another one, where no miss is recorded.
+// What is measured at one place of an aircraft at another one, where no miss is recorded. It is inlined where
+// `Places::measure` is: else that call saves nothing.
+#[inline(always)]
 pub(crate) fn measured(here: Place, there: Place) -> Option<Meas>
     requires here { IsReachable here }
     requires there { IsReachable there }
