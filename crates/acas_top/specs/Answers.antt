@@ -1,5 +1,5 @@
 -- The answer to each command on the bytes that it read: a status, and the text that is written.
-use Rattle.std.specs.Prelude.{◌≡◌, ℕ, List, ◌++◌, Err, codes}
+use Rattle.std.specs.Prelude.{◌≡◌, ℕ, List, ◌++◌, Bool, true, false, Err, MatchBool, codes, length}
 use Rattle.std.specs.Fmt.{decimal}
 use Rattle.acas_base.specs.Encounter.{Parts}
 use Rattle.acas_base.specs.declared.entry.Entry.{Entry}
@@ -13,7 +13,7 @@ use Rattle.acas_top.specs.declared.status.Status.TheVariants.{Done, Refused, Wro
 use Rattle.acas_top.specs.declared.words.Command.{Command}
 use Rattle.acas_top.specs.declared.words.Command.TheVariants as commands
 use Rattle.acas_top.specs.declared.words.Plain.{Plain}
-use Rattle.acas_top.specs.declared.words.Plain.TheVariants.{Audit, Compare, Decode, Gen, Resume, Serial, Show, Sweep, Tell, Tracks}
+use Rattle.acas_top.specs.declared.words.Plain.TheVariants.{Audit, Compare, Decode, Explain, Gen, Resume, Serial, Show, Sweep, Tell, Tracks}
 use Rattle.acas_top.specs.declared.words.Threaded.{Threaded}
 use Rattle.acas_top.specs.declared.words.Threaded.TheVariants.{Play, Sum}
 use Rattle.acas_top.specs.Sweeping.{Sweeps}
@@ -32,7 +32,14 @@ use Rattle.enc_file.specs.Codes.{code_number}
 use Rattle.enc_file.specs.Reading.{Says, reading_of}
 use Rattle.enc_file.specs.Records.{records_of}
 use Rattle.enc_file.specs.declared.refusal.Refusal.{Refusal}
+use Rattle.enc_file.specs.Records.{records_of}
 use Rattle.enc_gen.specs.Generated.{generated}
+use Rattle.fault_text.specs.Faultless.{faultless_line}
+use Rattle.fault_text.specs.Lines.{begins_recording}
+use Rattle.fault_text.specs.Sentences.{sentence}
+use Rattle.fault_text.specs.Told.{Explains}
+use Rattle.fault_text.specs.declared.fault.Fault.{Fault}
+use Rattle.acas_top.specs.Explaining.{legal_line}
 use Rattle.rec_audit.specs.Judging.{IsBeginningOf, IsPartLoaded, Judged}
 use Rattle.rec_audit.specs.Reasons.{reason_number}
 use Rattle.rec_audit.specs.declared.verdict.Loaded.TheVariants as loaded
@@ -167,6 +174,37 @@ pub record Sums (bytes text : List ℕ) : Type 0 where
   pub serial : AreSerial encounter counts
   pub text_is : text ≡ joined (summed_lines (counts_of encounter journal).commits counts)
 
+-- The bytes say an encounter, and the text is the line that says so.
+pub record IsFaultless (bytes text : List ℕ) : Type 0 where
+  pub encounter : Parts
+  pub says : Says bytes encounter
+  pub text_is : text ≡ faultless_line encounter (length (records_of bytes))
+
+-- The bytes are the recording of a legal and complete journal, and the text is the line that says so.
+pub record IsLegalRecording (bytes text : List ℕ) : Type 0 where
+  pub entries : ℕ
+  pub is : Judged bytes (verdicts.Legal entries)
+  pub text_is : text ≡ legal_line entries
+
+-- Nothing is wrong. Bytes that begin as a recording are read as one, and all others as an encounter.
+abbrev pub ExplainsRight : List ℕ → List ℕ → Type 0
+ExplainsRight bytes text = MatchBool (begins_recording bytes) (IsLegalRecording bytes text) (IsFaultless bytes text)
+
+-- The bytes say no encounter. The text is the line of the refusal, and the sentence of its fault.
+pub record ExplainsRefusal (bytes text : List ℕ) : Type 0 where
+  pub other : begins_recording bytes ≡ false
+  pub refusal : Refusal
+  pub is : reading_of bytes ≡ Err refusal
+  pub fault : Fault
+  pub explains : Explains bytes refusal fault
+  pub text_is : text ≡ refused_line refusal.at (code_number refusal.code) ++ sentence fault
+
+-- The bytes begin as a recording, and they are none of a legal and complete journal. The text is the line of the
+-- verdict.
+pub record ExplainsWrong (bytes text : List ℕ) : Type 0 where
+  pub begun : begins_recording bytes ≡ true
+  pub wrong : IsWrong bytes text
+
 -- What a run in threads writes. The bytes don't determine it: the order of the entries can differ from run to run.
 abbrev pub Runs : Threaded → List ℕ → List ℕ → Type 0
 Runs Play bytes text = PlaysSome bytes text
@@ -196,6 +234,10 @@ AnswersPlain Resume bytes status text = ⊥
 AnswersPlain Compare bytes Done text = Compares bytes text
 AnswersPlain Compare bytes Wrong text = IsWrongPair bytes text
 AnswersPlain Compare bytes status text = ⊥
+AnswersPlain Explain bytes Done text = ExplainsRight bytes text
+AnswersPlain Explain bytes Refused text = ExplainsRefusal bytes text
+AnswersPlain Explain bytes Wrong text = ExplainsWrong bytes text
+AnswersPlain Explain bytes status text = ⊥
 AnswersPlain (Decode word) bytes Done text = text ≡ word_text word
 AnswersPlain (Decode word) bytes status text = ⊥
 AnswersPlain (Show page) bytes Done text = text ≡ joined (page_lines page)

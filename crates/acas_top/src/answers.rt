@@ -1,13 +1,15 @@
 // The answer to a command: a status and a text.
-ghost use Rattle.std.specs.Prelude.{◌≡◌, ℕ, ◌+◌, ◌≤◌, List, IfOk, length};
+ghost use Rattle.std.specs.Prelude.{◌≡◌, ℕ, ◌+◌, ◌≤◌, ◌∷◌, [], List, IfOk, false, length, true};
 ghost use Rattle.acas_lines.specs.Split.{lines_of};
-ghost use Rattle.acas_top.specs.Answers.{AnswersPlain, IsMade};
+ghost use Rattle.acas_top.specs.Answers.{AnswersPlain, IsMade, refused_line};
 ghost use Rattle.acas_top.specs.Given.{IsReadable, answer_status, answer_text};
 ghost use Rattle.acas_top.specs.Words.{IsInRange, plain_limit};
 ghost use Rattle.acas_top.specs.Sweeping.{Sweeps};
 ghost use Rattle.comparison.specs.Splitting.{IsSplit};
+ghost use Rattle.fault_text.specs.Lines.{begins_recording};
 ghost use Rattle.rec_audit.specs.Judging.{IsRecordingOf};
 
+use crate::explaining::legal_line;
 use crate::pages::put_page;
 use crate::refusal::refusal_line;
 use crate::runs::{filled, serial_state};
@@ -18,10 +20,12 @@ use crate::verdict::verdict_line;
 use crate::{ENCOUNTER_BYTES, Page, Plain, RECORDING_BYTES, Status, Tool};
 use acas_base::Encounter;
 use acas_lines::{LineSink, Text};
+use acas_text::Line;
 use air_journal::AirState;
 use comparison::{Comparison, Found, compare, split};
 use enc_file::{CanonicalText, ReadError};
 use enc_gen::make;
+use fault_text::{begins_recording, explain, faultless_line};
 use rec_audit::{Loaded, Verdict, judge, load, load_part};
 use rec_text::Recording;
 use std::alloc::{AllocError, Global};
@@ -46,6 +50,10 @@ pub(crate) enum Answer {
     Compared(AirState, AirState, Found),
     /// What a word says.
     Decoded(u64),
+    /// The line that says that nothing is wrong with an input.
+    Faultless(Line),
+    /// The line of a refusal, with the number of the record and the number of the code, and the sentence of its fault.
+    Explained(u32, u8, Line),
     /// A page about the program.
     Shown(Page),
     /// The line of the verdict on a recording.
@@ -67,12 +75,21 @@ impl Answer {
             | Answer::Summed(_, _)
             | Answer::Compared(_, _, _)
             | Answer::Decoded(_)
+            | Answer::Faultless(_)
             | Answer::Shown(_) => Status::Done,
             Answer::Judged(Verdict::Legal(_)) => Status::Done,
             Answer::Judged(Verdict::Wrong(_, _)) => Status::Wrong,
-            Answer::Refused(_, _) => Status::Refused,
+            Answer::Refused(_, _) | Answer::Explained(_, _, _) => Status::Refused,
         }
     }
+}
+
+// Puts the line of a refusal, and the sentence of its fault.
+fn put_explained<S: LineSink>(at: u32, code: u8, line: &Line, sink: &mut S)
+    ensures { S.took sink.old sink.new (refused_line at code ∷ line.now ∷ []) }
+{
+    sink.line(&refusal_line(at, code));
+    sink.line(line);
 }
 
 impl Text for Answer {
@@ -89,6 +106,8 @@ impl Text for Answer {
             Answer::Summed(commits, counts) => put_summed(*commits, counts, sink),
             Answer::Compared(one, other, found) => Comparison { one, other, found }.put(sink),
             Answer::Decoded(word) => WordText(*word).put(sink),
+            Answer::Faultless(line) => sink.line(line),
+            Answer::Explained(at, code, line) => put_explained(*at, *code, line, sink),
             Answer::Shown(page) => put_page(*page, sink),
             Answer::Judged(verdict) => sink.line(&verdict_line(*verdict)),
             Answer::Refused(at, code) => sink.line(&refusal_line(*at, *code)),
@@ -218,6 +237,45 @@ fn answer_compare(alloc: Global, bytes: &[u8]) -> Result<Answer, AllocError>
     }
 }
 
+// The answer to `explain` on bytes that begin as a recording.
+fn answer_recording(alloc: Global, bytes: &[u8]) -> Result<Answer, AllocError>
+    requires begun { begins_recording bytes.now ≡ true }
+    requires few { length bytes.now ≤ RECORDING_BYTES }
+    ensures { IfOk result (λ answer. AnswersPlain Plain.Explain bytes.now (answer_status answer) (answer_text answer)) }
+{
+    match judge(alloc, bytes)? {
+        Verdict::Legal(entries) => Ok(Answer::Faultless(legal_line(entries))),
+        Verdict::Wrong(line, reason) => Ok(Answer::Judged(Verdict::Wrong(line, reason))),
+    }
+}
+
+// The answer to `explain` on all other bytes.
+fn answer_encounter(alloc: Global, bytes: &[u8]) -> Result<Answer, AllocError>
+    requires other { begins_recording bytes.now ≡ false }
+    requires few { length bytes.now ≤ ENCOUNTER_BYTES }
+    ensures { IfOk result (λ answer. AnswersPlain Plain.Explain bytes.now (answer_status answer) (answer_text answer)) }
+{
+    match enc_file::read(alloc, bytes) {
+        Ok(encounter) => Ok(Answer::Faultless(faultless_line(&encounter, bytes))),
+        Err(ReadError::Refused(refusal)) => {
+            let sentence = explain(bytes, refusal).sentence();
+            Ok(Answer::Explained(refusal.at, refusal.code.number(), sentence))
+        }
+        Err(ReadError::OutOfMemory) => Err(AllocError),
+    }
+}
+
+// The answer to `explain`.
+fn answer_explain(alloc: Global, bytes: &[u8]) -> Result<Answer, AllocError>
+    requires { IsReadable (plain_limit Plain.Explain) bytes.now }
+    ensures { IfOk result (λ answer. AnswersPlain Plain.Explain bytes.now (answer_status answer) (answer_text answer)) }
+{
+    if begins_recording(bytes) {
+        return answer_recording(alloc, bytes);
+    }
+    answer_encounter(alloc, bytes)
+}
+
 /// The answer to a plain command on the bytes that it read. The error says that memory was wanting. All memory is asked
 /// for here.
 pub(crate) fn answer_to<R: Threads + Sync>(
@@ -249,6 +307,7 @@ pub(crate) fn answer_to<R: Threads + Sync>(
         Plain::Resume => answer_resume(alloc, bytes),
         Plain::Compare => answer_compare(alloc, bytes),
         Plain::Decode { word } => Ok(Answer::Decoded(word)),
+        Plain::Explain => answer_explain(alloc, bytes),
         Plain::Show(page) => Ok(Answer::Shown(page)),
     }
 }
