@@ -36,9 +36,7 @@ use Rattle.enc_file.specs.Records.{records_of}
 use Rattle.enc_gen.specs.Generated.{generated}
 use Rattle.fault_text.specs.Faultless.{faultless_line}
 use Rattle.fault_text.specs.Lines.{begins_recording}
-use Rattle.fault_text.specs.Sentences.{sentence}
-use Rattle.fault_text.specs.Told.{Explains}
-use Rattle.fault_text.specs.declared.fault.Fault.{Fault}
+use Rattle.fault_text.specs.Told.{IsExplained}
 use Rattle.acas_top.specs.Explaining.{legal_line}
 use Rattle.rec_audit.specs.Judging.{IsBeginningOf, IsPartLoaded, Judged}
 use Rattle.rec_audit.specs.Reasons.{reason_number}
@@ -195,9 +193,9 @@ pub record ExplainsRefusal (bytes text : List ℕ) : Type 0 where
   pub other : begins_recording bytes ≡ false
   pub refusal : Refusal
   pub is : reading_of bytes ≡ Err refusal
-  pub fault : Fault
-  pub explains : Explains bytes refusal fault
-  pub text_is : text ≡ refused_line refusal.at (code_number refusal.code) ++ sentence fault
+  pub line : List ℕ
+  pub explained : IsExplained bytes refusal line
+  pub text_is : text ≡ refused_line refusal.at (code_number refusal.code) ++ line
 
 -- The bytes begin as a recording, and they are none of a legal and complete journal. The text is the line of the
 -- verdict.

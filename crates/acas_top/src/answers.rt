@@ -1,7 +1,7 @@
 // The answer to a command: a status and a text.
 ghost use Rattle.std.specs.Prelude.{◌≡◌, ℕ, ◌+◌, ◌≤◌, ◌∷◌, [], List, IfOk, false, length, true};
 ghost use Rattle.acas_lines.specs.Split.{lines_of};
-ghost use Rattle.acas_top.specs.Answers.{AnswersPlain, IsMade, refused_line};
+ghost use Rattle.acas_top.specs.Answers.{AnswersPlain, IsMade};
 ghost use Rattle.acas_top.specs.Given.{IsReadable, answer_status, answer_text};
 ghost use Rattle.acas_top.specs.Words.{IsInRange, plain_limit};
 ghost use Rattle.acas_top.specs.Sweeping.{Sweeps};
@@ -25,7 +25,7 @@ use air_journal::AirState;
 use comparison::{Comparison, Found, compare, split};
 use enc_file::{CanonicalText, ReadError};
 use enc_gen::make;
-use fault_text::{begins_recording, explain, faultless_line};
+use fault_text::{begins_recording, explained, faultless_line};
 use rec_audit::{Loaded, Verdict, judge, load, load_part};
 use rec_text::Recording;
 use std::alloc::{AllocError, Global};
@@ -84,12 +84,12 @@ impl Answer {
     }
 }
 
-// Puts the line of a refusal, and the sentence of its fault.
-fn put_explained<S: LineSink>(at: u32, code: u8, line: &Line, sink: &mut S)
-    ensures { S.took sink.old sink.new (refused_line at code ∷ line.now ∷ []) }
+// Puts two lines.
+fn put_both<S: LineSink>(one: &Line, other: &Line, sink: &mut S)
+    ensures { S.took sink.old sink.new (one.now ∷ other.now ∷ []) }
 {
-    sink.line(&refusal_line(at, code));
-    sink.line(line);
+    sink.line(one);
+    sink.line(other);
 }
 
 impl Text for Answer {
@@ -107,7 +107,7 @@ impl Text for Answer {
             Answer::Compared(one, other, found) => Comparison { one, other, found }.put(sink),
             Answer::Decoded(word) => WordText(*word).put(sink),
             Answer::Faultless(line) => sink.line(line),
-            Answer::Explained(at, code, line) => put_explained(*at, *code, line, sink),
+            Answer::Explained(at, code, line) => put_both(&refusal_line(*at, *code), line, sink),
             Answer::Shown(page) => put_page(*page, sink),
             Answer::Judged(verdict) => sink.line(&verdict_line(*verdict)),
             Answer::Refused(at, code) => sink.line(&refusal_line(*at, *code)),
@@ -258,8 +258,8 @@ fn answer_encounter(alloc: Global, bytes: &[u8]) -> Result<Answer, AllocError>
     match enc_file::read(alloc, bytes) {
         Ok(encounter) => Ok(Answer::Faultless(faultless_line(&encounter, bytes))),
         Err(ReadError::Refused(refusal)) => {
-            let sentence = explain(bytes, refusal).sentence();
-            Ok(Answer::Explained(refusal.at, refusal.code.number(), sentence))
+            let line = explained(bytes, refusal);
+            Ok(Answer::Explained(refusal.at, refusal.code.number(), line))
         }
         Err(ReadError::OutOfMemory) => Err(AllocError),
     }

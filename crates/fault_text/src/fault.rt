@@ -3,7 +3,7 @@ ghost use Rattle.std.specs.Prelude.{◌≡◌, ◌≤◌, ◌-◌, ◌<◌, ◌^
 ghost use Rattle.enc_file.specs.Conditions.{is_address_wrong, is_count_wrong, is_masked, is_number_wrong, is_turned};
 ghost use Rattle.enc_file.specs.Reading.{reading_of};
 ghost use Rattle.fault_text.specs.Lines.{fields_in, file_lines};
-ghost use Rattle.fault_text.specs.Told.{Explains, IsAtFault, IsFormat, IsHeaded, IsNamedAgainst, IsRecord, Tells, TellsAddress, TellsAfterEarlier, TellsHeader, TellsMask, TellsNumber, TellsRecord, TellsTurned, stated_kind};
+ghost use Rattle.fault_text.specs.Told.{Explains, IsAtFault, IsExplained, IsFormat, IsHeaded, IsNamedAgainst, IsRecord, Tells, TellsAddress, TellsAfterEarlier, TellsHeader, TellsMask, TellsNumber, TellsRecord, TellsTurned, stated_kind};
 
 use crate::against::against_why;
 use crate::earlier::Sought;
@@ -12,6 +12,7 @@ use crate::lines::place_of;
 use crate::names::{FieldName, RecordKind};
 use crate::search::leftmost;
 use acas_base::Address;
+use acas_text::Line;
 use enc_file::{Code, Refusal, count_in, mask_in};
 
 /// What is wrong with a refused text, and where.
@@ -254,4 +255,14 @@ pub fn explain(text: &[u8], refusal: Refusal) -> Fault<'_>
         line: place.number,
         why: why_of(text, refusal, place.line),
     }
+}
+
+/// The sentence that says what is wrong with a text that is refused, as a line: that of the fault that [`explain`]
+/// gives.
+pub fn explained(text: &[u8], refusal: Refusal) -> Line
+    requires few { length text.now < 2 ^ 32 - 1 }
+    requires refused { reading_of text.now ≡ Err refusal }
+    ensures { IsExplained text.now refusal result }
+{
+    explain(text, refusal).sentence()
 }

@@ -2,7 +2,7 @@
 // is refused, and its fault is told in one line.
 use acas_text::Line;
 use enc_file::{ReadError, read};
-use fault_text::explain;
+use fault_text::explained;
 use std::alloc::{AllocError, Global};
 use std::test::Fail;
 
@@ -226,7 +226,7 @@ fn told(alloc: Global, text: &[u8]) -> Result<Option<Line>, AllocError> {
     match read(alloc, text) {
         Ok(_) => Ok(None),
         Err(ReadError::OutOfMemory) => Err(AllocError),
-        Err(ReadError::Refused(refusal)) => Ok(Some(explain(text, refusal).sentence())),
+        Err(ReadError::Refused(refusal)) => Ok(Some(explained(text, refusal))),
     }
 }
 
