@@ -9,3 +9,4 @@ pub mod Cursors
 pub mod Asking
 pub mod Engine
 pub mod Compared
+pub mod Explaining

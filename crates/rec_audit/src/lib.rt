@@ -5,6 +5,7 @@ mod asking;
 mod compare;
 mod endings;
 mod entries;
+mod explaining;
 mod fault;
 mod fields;
 mod judging;
@@ -16,6 +17,7 @@ mod replay;
 mod values;
 mod verdict;
 
+pub use explaining::{Explained, explain};
 pub use judging::{judge, load, load_part};
 pub use laws::verdict_law;
 pub use verdict::{Loaded, Reason, Verdict};
