@@ -13,4 +13,4 @@ mod shown;
 pub use fault::{Fault, Why, explain};
 pub use lines::records_law;
 pub use names::{FieldName, RecordKind};
-pub use shown::shown_law;
+pub use shown::{SHOWN_BYTES, add_shown, shown_law};

@@ -9,7 +9,7 @@ use acas_text::{LINE_BYTES, Line};
 const SHOWN: usize = 40;
 
 /// The most bytes that `add_shown` adds.
-pub(crate) const SHOWN_BYTES: usize = 164;
+pub const SHOWN_BYTES: usize = 164;
 
 // Whether a byte is shown as it is.
 fn is_plain(byte: u8) -> bool
@@ -38,7 +38,7 @@ fn add_glyphs(line: &mut Line, byte: u8)
 
 /// Adds bytes that were read between quotes, at most 40 of them, and two points where there are more. Bytes other than
 /// letters, digits and the like are escaped.
-pub(crate) fn add_shown(line: &mut Line, bytes: &[u8])
+pub fn add_shown(line: &mut Line, bytes: &[u8])
     requires { length line.old + SHOWN_BYTES ≤ LINE_BYTES }
     ensures added { line.new ≡ line.old ++ shown bytes.now }
     ensures short { length line.new ≤ length line.old + SHOWN_BYTES }

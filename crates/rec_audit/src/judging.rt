@@ -14,8 +14,8 @@ use craft_view::Surveillance;
 use flight::Places;
 use std::alloc::{AllocError, Global};
 
-// Replays what follows the number of entries.
-fn load_entries(
+/// Replays what follows the number of entries.
+pub(crate) fn load_entries(
     extent: Extent,
     mut state: AirState,
     encounter: &Encounter,

@@ -15,3 +15,7 @@ mod fault_text_tests;
 mod rec_audit_tests;
 #[cfg(test)]
 mod rec_text_tests;
+#[cfg(test)]
+mod verdict_sentences_tests;
+#[cfg(test)]
+mod verdict_text_tests;

@@ -1,9 +1,8 @@
 -- Why an aircraft may not make an entry after a journal, and what a journal lacks. Each cause is said by the rules, and
 -- comes only where those before it don't hold.
-use Rattle.std.specs.Prelude.{◌≡◌, ◌≢◌, ◌⊎◌, ℕ, ◌+◌, ◌<◌, ◌≤◌, Bool, true, false, List, length, reverse, slice_get, Some, is_some}
+use Rattle.std.specs.Prelude.{◌≡◌, ◌≢◌, ℕ, ◌+◌, ◌<◌, ◌≤◌, true, false, List, length, Some, is_some}
 use Rattle.acas_base.specs.declared.advisory.ResMsg.{ResMsg}
 use Rattle.acas_base.specs.declared.entry.Entry.{Entry}
-use Rattle.acas_base.specs.declared.entry.Entry.TheVariants as entries
 use Rattle.acas_base.specs.declared.link.CopyPlan.{CopyPlan}
 use Rattle.air_journal.specs.Calls.{IsAhead, IsHeldByCopy, IsOwing}
 use Rattle.air_rules.specs.Air.{Air, copy_plan, is_active}
@@ -11,6 +10,7 @@ use Rattle.air_rules.specs.Journal.{Sent, commits, entries_after, sent_at, was_t
 use Rattle.air_rules.specs.Owed.{IsFirstOwed, OwesNothing}
 use Rattle.air_rules.specs.Rules.{MayCommit, MaySend, MayTake, cells_for}
 use Rattle.air_rules.specs.Takes.{read_copy}
+use Rattle.verdict_text.specs.Searches.{AllCommitted, IsTakeAt, ReceivesNone}
 use Rattle.verdict_text.specs.declared.causes.CommitCause.{CommitCause}
 use Rattle.verdict_text.specs.declared.causes.CommitCause.TheVariants as commit
 use Rattle.verdict_text.specs.declared.causes.Lack.{Lack}
@@ -86,7 +86,7 @@ copies_of air sent = length (air.copies sent.sender sent.receiver sent.number)
 -- At the position no message was sent to it.
 pub record HasNoMessage (air : Air) (journal : List Entry) (own position : ℕ) : Type 0 where
   pub active : is_active air own ≡ true
-  pub none : (sent : Sent) → sent_at journal position ≡ Some sent → sent.receiver ≢ own
+  pub none : ReceivesNone journal own position
 
 -- The message has fewer copies.
 pub record HasNoCopy (air : Air) (journal : List Entry) (own position copy copies : ℕ) : Type 0 where
@@ -100,8 +100,7 @@ pub record IsTaken (air : Air) (journal : List Entry) (own position copy place :
   pub sent : Sent
   pub to_own : IsToOwn air journal own position sent
   pub copy_is : copy < copies_of air sent
-  pub good : Bool
-  pub taken : slice_get (reverse journal) place ≡ Some (entries.Take own position copy good)
+  pub taken : IsTakeAt journal own position copy place
 
 -- The copy is held back: so many commits of the receiver are missing.
 pub record IsHeldBack (air : Air) (journal : List Entry) (own position copy missing : ℕ) : Type 0 where
@@ -136,7 +135,7 @@ pub record LacksCommits (air : Air) (journal : List Entry) (own count cycles : �
 
 -- The first sender and receiver where a message is owed. All cycles are committed.
 pub record LacksMessage (air : Air) (journal : List Entry) (sender receiver : ℕ) : Type 0 where
-  pub all : (own : ℕ) → is_active air own ≡ true → commits journal own ≡ air.cycles
+  pub all : AllCommitted air journal
   pub active : is_active air sender ≡ true
   pub message : ResMsg
   pub first_owed : IsFirstOwed air journal sender receiver message

@@ -1,7 +1,7 @@
 -- The sentence of a fault.
-use Rattle.std.specs.Prelude.{ℕ, ◌-◌, ◌==◌, ◌&&◌, nat_le, if◌then◌else◌, Bool, List, [], ◌∷◌, ◌++◌, codes, filter, take}
+use Rattle.std.specs.Prelude.{ℕ, ◌-◌, ◌==◌, ◌&&◌, nat_le, if◌then◌else◌, List, [], ◌∷◌, ◌++◌, codes}
 use Rattle.std.specs.Fmt.{decimal}
-use Rattle.fault_text.specs.Sentences as refused
+use Rattle.std.specs.List.{flat_map}
 use Rattle.fault_text.specs.Shown.{shown}
 use Rattle.verdict_text.specs.declared.causes.CommitCause.{CommitCause}
 use Rattle.verdict_text.specs.declared.causes.CommitCause.TheVariants as commit
@@ -23,12 +23,13 @@ use Rattle.verdict_text.specs.declared.spelling.EntryKind.TheVariants as kind
 
 -- ---- parts
 
-abbrev pub is_visible : ℕ → Bool
-is_visible c = nat_le 32 c && nat_le c 126
+-- A byte from 32 to 126; nothing for another one.
+abbrev pub visible : ℕ → List ℕ
+visible c = if nat_le 32 c && nat_le c 126 then c ∷ [] else []
 
--- A line that has to stand somewhere, without its line feed, between quotes. No such line has more than 240 bytes.
+-- A line that has to stand somewhere, without its line feed, between quotes.
 abbrev pub quoted : List ℕ → List ℕ
-quoted line = 34 ∷ filter is_visible (take 240 line) ++ 34 ∷ []
+quoted line = 34 ∷ flat_map visible line ++ 34 ∷ []
 
 abbrev pub craft_text : ℕ → List ℕ
 craft_text own = codes "aircraft " ++ decimal own
@@ -131,7 +132,6 @@ why_text why.CarriageReturn = codes "a carriage return stands in this line, and 
 why_text (why.OtherLine wanted found) = codes "this line has to be " ++ quoted wanted ++ codes ", and " ++ found_text found
 why_text why.TooMany = codes "this line is one too many: the recording ends with \"close\""
 why_text why.NoEnd = codes "no line is \"end\": the recording is cut off in its encounter, or is none"
-why_text (why.Refused w) = codes "the encounter is refused: " ++ refused.why_text w
 why_text (why.NotCanonical wanted) = codes "the encounter isn't in its canonical text; there this line would be " ++ quoted wanted
 why_text (why.NoCount found) = codes "this line has to be \"journal,\" and a number from 0 to 999999999, and " ++ found_text found
 why_text (why.NoEntry announced entries) = codes "this line is missing: " ++ counted announced (codes " entry is announced, and ") (codes " entries are announced, and ") ++ counted entries (codes " stands here") (codes " stand here")

@@ -1,7 +1,7 @@
 // What is wrong with a recording, as a value.
 use crate::causes::{CommitCause, Lack, SendCause, TakeCause};
 use crate::spelling::{EntryField, EntryKind};
-use acas_text::Line;
+use crate::wanted::Wanted;
 
 /// What is wrong with a recording, and where.
 #[derive(Drop)]
@@ -32,35 +32,72 @@ pub enum Why<'a> {
     /// A carriage return stands in the line.
     CarriageReturn,
     /// The line has to be this one.
-    OtherLine { wanted: Line, found: Found<'a> },
+    OtherLine {
+        wanted: Wanted,
+        found: Found<'a>,
+    },
     /// The line is one too many.
     TooMany,
     /// No line is `end`.
     NoEnd,
-    /// The encounter is refused.
-    Refused { why: fault_text::Why<'a> },
     /// The line isn't as the canonical text of the encounter has it: there it is this one.
-    NotCanonical { wanted: Line },
+    NotCanonical {
+        wanted: Wanted,
+    },
     /// The line has to tell the number of entries.
-    NoCount { found: Found<'a> },
+    NoCount {
+        found: Found<'a>,
+    },
     /// The line of an entry is missing. So many entries are announced, and so many stand here.
-    NoEntry { announced: u32, entries: u32 },
+    NoEntry {
+        announced: u32,
+        entries: u32,
+    },
     /// No line feed stands behind the line of an entry.
-    Unfinished { found: &'a [u8] },
+    Unfinished {
+        found: &'a [u8],
+    },
     /// The first field names no kind of entry.
-    NoKind { found: &'a [u8] },
+    NoKind {
+        found: &'a [u8],
+    },
     /// An entry of this kind hasn't so many fields, where there are so many aircraft.
-    FieldCount { kind: EntryKind, crafts: u8, fields: u32 },
+    FieldCount {
+        kind: EntryKind,
+        crafts: u8,
+        fields: u32,
+    },
     /// What stands in the field isn't of its form, where there are so many aircraft.
-    NoValue { name: EntryField, crafts: u8, found: &'a [u8] },
+    NoValue {
+        name: EntryField,
+        crafts: u8,
+        found: &'a [u8],
+    },
     /// The aircraft may not commit the cycle here.
-    NoCommit { own: u8, cycle: u16, cause: CommitCause },
+    NoCommit {
+        own: u8,
+        cycle: u16,
+        cause: CommitCause,
+    },
     /// The aircraft may not send to the other one here.
-    NoSend { own: u8, target: u8, cause: SendCause },
+    NoSend {
+        own: u8,
+        target: u8,
+        cause: SendCause,
+    },
     /// The aircraft may not take the copy here.
-    NoTake { own: u8, send: u32, copy: u8, cause: TakeCause },
+    NoTake {
+        own: u8,
+        send: u32,
+        copy: u8,
+        cause: TakeCause,
+    },
     /// The entry that is allowed here about the same thing has this line.
-    OtherContent { wanted: Line },
+    OtherContent {
+        wanted: Wanted,
+    },
     /// The entries end too early.
-    Incomplete { lack: Lack },
+    Incomplete {
+        lack: Lack,
+    },
 }

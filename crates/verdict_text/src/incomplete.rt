@@ -1,8 +1,9 @@
 // What a journal lacks that isn't complete.
-ghost use Rattle.std.specs.Prelude.{◌≡◌, MatchOption};
+ghost use Rattle.std.specs.Prelude.{MatchOption};
 ghost use Rattle.air_journal.specs.Airs.{air_of};
 ghost use Rattle.air_rules.specs.Rules.{IsComplete};
-ghost use Rattle.verdict_text.specs.Causes.{AllCommitted, IsFirstSender, Lacks, LacksCommits, OwesNobodyAtAll};
+ghost use Rattle.verdict_text.specs.Causes.{Lacks};
+ghost use Rattle.verdict_text.specs.Searches.{AllCommitted};
 
 use crate::causes::Lack;
 use crate::sends::first_receiver;
@@ -15,6 +16,7 @@ fn lacking_commits(state: &AirState) -> Option<Lack>
         (AllCommitted (air_of state.now.encounter) state.now.journal)
         (Lacks (air_of state.now.encounter) state.now.journal) }
 {
+    state.legal_law();
     let count = state.enc().crafts().len() as u8;
     let cycles = state.enc().cycles();
     for own in 0..count {
@@ -39,6 +41,7 @@ pub fn lack(state: &mut AirState) -> Option<Lack>
     if let Some(lack) = lacking_commits(state) {
         return Some(lack);
     }
+    state.legal_law();
     let count = state.enc().crafts().len() as u8;
     for sender in 0..count {
         if is_active(state.enc(), sender) {

@@ -7,11 +7,15 @@
 mod causes;
 mod commits;
 mod fault;
+mod forms;
+mod hindrances;
 mod incomplete;
+mod pieces;
 mod sends;
 mod sentence;
 mod spelling;
 mod takes;
+mod wanted;
 
 pub use causes::{CommitCause, Lack, SendCause, TakeCause};
 pub use commits::commit_cause;
@@ -20,3 +24,4 @@ pub use incomplete::lack;
 pub use sends::send_cause;
 pub use spelling::{EntryField, EntryKind};
 pub use takes::take_cause;
+pub use wanted::{WANTED_BYTES, Wanted};

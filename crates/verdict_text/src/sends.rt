@@ -2,7 +2,8 @@
 ghost use Rattle.std.specs.Prelude.{◌≡◌, MatchOption};
 ghost use Rattle.air_journal.specs.Airs.{air_of};
 ghost use Rattle.craft_view.specs.Kept.{IsActive};
-ghost use Rattle.verdict_text.specs.Causes.{BarsSend, IsFirstReceiver, MaySendNow, OwesNobody};
+ghost use Rattle.verdict_text.specs.Causes.{BarsSend, MaySendNow};
+ghost use Rattle.verdict_text.specs.Searches.{SentNothing};
 
 use crate::causes::SendCause;
 use air_journal::{AirState, EntryRef, Sent};
@@ -13,8 +14,8 @@ pub(crate) fn first_receiver(state: &mut AirState, own: u8) -> Option<u8>
     requires { IsActive state.old.encounter own }
     ensures encounter { state.new.encounter ≡ state.old.encounter }
     ensures owed { MatchOption result
-        (OwesNobody (air_of state.old.encounter) state.old.journal state.new.journal own)
-        (IsFirstReceiver (air_of state.old.encounter) state.old.journal own) }
+        (SentNothing (air_of state.old.encounter) state.old.journal state.new.journal own)
+        (MaySendNow (air_of state.old.encounter) state.old.journal own) }
 {
     match state.send(own) {
         Sent::Nothing => None,

@@ -1,8 +1,10 @@
 // Why a take isn't allowed.
-ghost use Rattle.std.specs.Prelude.{◌≡◌, ◌<◌, MatchOption, false, length};
+ghost use Rattle.std.specs.Prelude.{◌≡◌, MatchOption, false};
 ghost use Rattle.air_journal.specs.Airs.{air_of};
-ghost use Rattle.air_rules.specs.Journal.{was_taken};
-ghost use Rattle.verdict_text.specs.Causes.{BarsTake, IsReceived, IsTakeAt, MayTakeNow, NoneWaits, ReceivesNone, WaitsUntil};
+ghost use Rattle.air_journal.specs.EntryRefs.{entry_of};
+ghost use Rattle.air_rules.specs.Journal.{is_take_of, was_taken};
+ghost use Rattle.verdict_text.specs.Causes.{BarsTake, MayTakeNow};
+ghost use Rattle.verdict_text.specs.Searches.{IsTakeAt, NoneWaits, Receives, ReceivesNone, WaitsUntil};
 
 use crate::causes::TakeCause;
 use air_journal::{AirState, EntryRef, Waiting};
@@ -19,20 +21,24 @@ struct Message {
 fn message_to(state: &AirState, own: u8, send: u32) -> Option<Message>
     ensures { MatchOption result
         (ReceivesNone state.now.journal own send)
-        (λ message. IsReceived state.now.journal own send message.sender message.number) }
+        (λ message. Receives state.now.journal own send message.sender message.number) }
 {
     match state.entry_ref(send) {
-        Some(EntryRef::Send {
-            own: sender,
-            target,
-            number,
-            ..
-        }) => if target == own {
+        Some(
+            EntryRef::Send {
+                own: sender,
+                target,
+                number,
+                ..
+            },
+        ) => if target == own {
             Some(Message { sender, number })
         } else {
             None
         },
-        _ => None,
+        Some(EntryRef::Commit { .. }) => None,
+        Some(EntryRef::Take { .. }) => None,
+        None => None,
     }
 }
 
@@ -43,20 +49,28 @@ fn taken_at(state: &AirState, own: u8, send: u32, copy: u8) -> Option<u32>
         (IsTakeAt state.now.journal own send copy) }
 {
     for at in 0..state.count() {
-        if is_take_of(state.entry_ref(at), own, send, copy) {
-            return Some(at);
+        if let Some(entry) = state.entry_ref(at) {
+            if is_take_of(&entry, own, send, copy) {
+                return Some(at);
+            }
         }
     }
     None
 }
 
 // Whether an entry is the take of a copy by an aircraft.
-fn is_take_of(entry: Option<EntryRef<'_>>, by: u8, of_send: u32, of_copy: u8) -> bool {
-    match entry {
-        Some(EntryRef::Take {
-            own, send, copy, ..
-        }) => own == by && send == of_send && copy == of_copy,
-        _ => false,
+fn is_take_of(entry: &EntryRef<'_>, by: u8, of_send: u32, of_copy: u8) -> bool
+    ensures { result ≡ is_take_of by of_send of_copy (entry_of entry.now) }
+{
+    match *entry {
+        EntryRef::Take {
+            own,
+            send,
+            copy,
+            ..
+        } => own == by && send == of_send && copy == of_copy,
+        EntryRef::Commit { .. } => false,
+        EntryRef::Send { .. } => false,
     }
 }
 
@@ -85,10 +99,7 @@ pub fn take_cause(state: &AirState, own: u8, send: u32, copy: u8) -> Option<Take
     let Some(message) = message_to(state, own, send) else {
         return Some(TakeCause::NoMessage);
     };
-    let copies = state
-        .enc()
-        .fate(message.sender, own, message.number)
-        .copies;
+    let copies = state.enc().fate(message.sender, own, message.number).copies;
     if copies <= copy {
         return Some(TakeCause::NoCopy { copies });
     }

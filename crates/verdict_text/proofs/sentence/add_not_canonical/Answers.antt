@@ -1,0 +1,5 @@
+use Rattle.verdict_text.proofs.Parts.{two}
+use Rattle.verdict_text.proofs.sentence.add_not_canonical.Goals as goal
+
+pub returns-clause-added : goal.returns-clause-added
+returns-clause-added c = two c.args.line.now c.text.new.self c.add_quoted.new.line _ _ c.text.ensures.added c.add_quoted.ensures.added
