@@ -16,3 +16,4 @@ pub mod OneWay
 pub mod OneOpening
 pub mod OneVerdict
 pub mod Activity
+pub mod Telling
