@@ -6,10 +6,12 @@
 
 mod laws;
 mod scale;
+mod span;
 mod steps;
 mod time;
 
 pub use laws::{scale_law, step_law, time_law};
 pub use scale::Scale;
+pub use span::{Span, value_span};
 pub use steps::least_step;
 pub use time::{TIME_BEGIN, TIME_LENGTH, TimeAxis};
