@@ -12,8 +12,7 @@ use crate::due::{Found, find_copy, next_due};
 use crate::state::AirState;
 
 impl AirState {
-    // Takes a copy that waits and is due. It is inlined in both of its calls: else a serial run of sixteen aircraft takes
-    // 4 per cent more instructions.
+    // Takes a copy that waits and is due. It is inlined in both of its calls, which are made for each copy.
     #[inline(always)]
     fn take_found(&mut self, own: u8, found: Found) -> (u32, bool)
         requires active { IsActive self.old.encounter own }

@@ -271,8 +271,7 @@ fn of_format_2(version: u8, row: &ByteRecord) -> Result<Record, Code>
     Err(Code::Kind)
 }
 
-/// A later record, by its kind. It is inlined in the readers of encounters and of tracks: else an encounter is read by a
-/// sixth more instructions. So is [`crate::Tables::add`].
+/// A later record, by its kind. It is inlined in the readers of encounters and of tracks, as [`crate::Tables::add`] is.
 #[inline(always)]
 #[tactic(auto, unfolding(crate::specs::Saying::record_of))]
 pub fn record_of(version: u8, row: &ByteRecord) -> Result<Record, Code>

@@ -97,8 +97,7 @@ impl<'a> Places<'a> {
         feet(self.place_of(craft).z)
     }
 
-    /// What [`crate::measure`] gives in that cycle. The call is inlined where an aircraft looks at all others: else a
-    /// run of sixteen aircraft takes 1 to 2 per cent more instructions.
+    /// What [`crate::measure`] gives in that cycle. The call is inlined where an aircraft looks at all others.
     #[inline(always)]
     pub fn measure(&self, own: u8, target: u8) -> Option<Meas>
         requires own { own < length self.now.encounter.crafts }
