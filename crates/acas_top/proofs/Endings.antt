@@ -9,24 +9,25 @@ use Rattle.acas_io.specs.Faults.{Rose, one_more}
 use Rattle.acas_io.specs.Stream.{Grew, Puts}
 use Rattle.acas_top.specs.Ends.{Answered, Ended, IsAnswer, IsTooLong, IsUnread, Passed, WasPut, WasRead, status_after}
 use Rattle.acas_top.specs.Statuses.{status_number}
-use Rattle.acas_top.specs.Words.{AreNoCommand, AreNoPlain, AreNoRun, IsCommand, Say, limit_of}
+use Rattle.acas_top.specs.Words.{AreNoCommand, AreNoPlain, AreNoRun, IsCommand, Say, limit_of, most}
 use Rattle.acas_top.specs.Given.{answer_status, answer_text}
 use Rattle.acas_top.specs.declared.answers.Answer.{Answer}
-use Rattle.acas_top.specs.declared.answers.Answer.TheVariants.{Compared, Decoded, Judged, Made, Recorded, Refused, Shown, Summed, Swept, Told}
+use Rattle.acas_top.specs.declared.answers.Answer.TheVariants.{Compared, Decoded, Explained, Faultless, Judged, Made, Recorded, Refused, RightEncounter, RightRecording, Shown, Summed, Swept, Told}
 use Rattle.acas_top.specs.declared.status.Status.{Status}
 use Rattle.acas_top.specs.declared.status.Status.TheVariants as statuses
 use Rattle.rec_audit.specs.declared.verdict.Verdict.TheVariants.{Legal, Wrong}
 use Rattle.acas_top.specs.declared.status.Status.TheVariants.{Done, OutOfMemory, ReadFault, TooLong, Usage, WriteFault}
-use Rattle.acas_top.specs.declared.words.TheConstants.{ENCOUNTER_BYTES, RECORDING_BYTES}
+use Rattle.acas_top.specs.declared.words.Limit.{Limit}
+use Rattle.acas_top.specs.declared.words.Limit.TheVariants as limits
 use Rattle.acas_top.specs.declared.words.Command.{Command}
 use Rattle.acas_top.specs.declared.words.Command.TheVariants as commands
 use Rattle.acas_top.specs.declared.words.Page.TheVariants.{Help, Version}
-use Rattle.acas_top.specs.declared.words.Plain.TheVariants.{Audit, Compare, Decode, Gen, Resume, Serial, Show, Sweep, Tell, Tracks}
+use Rattle.acas_top.specs.declared.words.Plain.TheVariants.{Audit, Compare, Decode, Explain, Gen, Resume, Serial, Show, Sweep, Tell, Tracks}
 use Rattle.acas_top.specs.declared.words.Threaded.{Threaded}
 use Rattle.acas_top.specs.declared.words.Threaded.TheVariants.{Play, Sum}
 use Rattle.acas_top.specs.declared.words.Tool.TheVariants.{Messages, Places, Reports, Response, Summary, Watch, Why}
 
-pub within-long : (limit : Option ℕ) (left : Option (List ℕ)) → IsTooLong limit left → ForSome limit (λ n. IsSomeAnd left (λ bytes. length bytes ≤ n)) → ⊥
+pub within-long : (limit : Option Limit) (left : Option (List ℕ)) → IsTooLong limit left → ForSome limit (λ n. IsSomeAnd left (λ bytes. length bytes ≤ most n bytes)) → ⊥
 within-long None left long within = long
 within-long (Some n) None long within = within n refl
 within-long (Some n) (Some bytes) long within = omega (arith, long, within n refl)
@@ -40,7 +41,7 @@ clash : (word : List ℕ) (words one other : List (List ℕ)) → words ≡ one 
 clash word words one other is also unlike like = false≢true (sym unlike ∙ ap (begins-with word) (sym is ∙ also) ∙ like)
 
 -- The limit of a command, from the first of the words that say it.
-abbrev limit-by : List (List ℕ) → Option ℕ
+abbrev limit-by : List (List ℕ) → Option Limit
 limit-by words =
     if begins-with (codes "gen") words then None
     else if begins-with (codes "sweep") words then None
@@ -49,11 +50,12 @@ limit-by words =
     else if begins-with (codes "-h") words then None
     else if begins-with (codes "help") words then None
     else if begins-with (codes "--version") words then None
-    else if begins-with (codes "serial") words then Some ENCOUNTER_BYTES
-    else if begins-with (codes "tracks") words then Some ENCOUNTER_BYTES
-    else if begins-with (codes "play") words then Some ENCOUNTER_BYTES
-    else if begins-with (codes "sum") words then Some ENCOUNTER_BYTES
-    else Some RECORDING_BYTES
+    else if begins-with (codes "serial") words then Some limits.Encounter
+    else if begins-with (codes "tracks") words then Some limits.Encounter
+    else if begins-with (codes "play") words then Some limits.Encounter
+    else if begins-with (codes "sum") words then Some limits.Encounter
+    else if begins-with (codes "explain") words then Some limits.Either
+    else Some limits.Recording
 
 limit-said : (words : List (List ℕ)) (command : Command) → Say words command → limit_of command ≡ limit-by words
 limit-said words (commands.Plain Serial) said = sym (ap limit-by said)
@@ -71,6 +73,7 @@ limit-said words (commands.Plain Resume) said = sym (ap limit-by said)
 limit-said words (commands.Plain Tracks) said = sym (ap limit-by said)
 limit-said words (commands.Plain Compare) said = sym (ap limit-by said)
 limit-said words (commands.Plain (Decode word)) said = sym (ap limit-by said)
+limit-said words (commands.Plain Explain) said = sym (ap limit-by said)
 limit-said words (commands.Plain (Show Help)) (inl said) = sym (ap limit-by said)
 limit-said words (commands.Plain (Show Help)) (inr (inl said)) = sym (ap limit-by said)
 limit-said words (commands.Plain (Show Help)) (inr (inr said)) = sym (ap limit-by said)
@@ -111,7 +114,7 @@ pub done-serial : (command : Command) (words : List (List ℕ)) (old new : Optio
 done-serial command words old new bytes text IsPut said answers read put also = record {
   bytes = bytes;
   text = text;
-  read = subst (λ (limit : Option ℕ). WasRead limit old new bytes) (one-limit words command (commands.Plain Serial) said also) read;
+  read = subst (λ (limit : Option Limit). WasRead limit old new bytes) (one-limit words command (commands.Plain Serial) said also) read;
   relates = only-serial words bytes text command said also answers;
   put = put;
 }
@@ -289,6 +292,10 @@ is-answer (Decoded word) = tt
 is-answer (Shown page) = tt
 is-answer (Judged (Legal entries)) = tt
 is-answer (Judged (Wrong line reason)) = tt
+is-answer (Faultless line) = tt
+is-answer (RightEncounter right) = tt
+is-answer (RightRecording right) = tt
+is-answer (Explained at code line) = tt
 is-answer (Refused at code) = tt
 
 own-put : (own : Status) (text : List ℕ) (old new : Option (List ℕ)) (faults now : ℕ) → IsAnswer own → Grew old new text → now ≡ faults → WasPut own own text old new faults now

@@ -4,3 +4,4 @@ pub mod FewEach
 pub mod FiveWords
 pub mod OneWord
 pub mod Within
+pub mod Limits

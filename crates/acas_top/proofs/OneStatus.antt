@@ -1,6 +1,9 @@
 -- At most one status answers a command on the bytes that it read.
-use Rattle.std.proofs.Common.{◌≡◌, List, ℕ, length, refl, subst}
-use Rattle.acas_top.specs.Answers.{Answers, AnswersPlain, Imports, IsLegal, IsWrong, IsWrongPair, IsWrongPart, Plays, Refuses, RefusesTracks, Resumes, Runs}
+use Rattle.std.proofs.Common.{◌≡◌, ◌∙◌, Bool, true, false, List, ℕ, length, refl, sym, subst}
+use Rattle.std.specs.Prelude.{MatchBool}
+use Rattle.std.proofs.lemmas.Bool.{false≢true}
+use Rattle.fault_text.specs.Lines.{begins_recording}
+use Rattle.acas_top.specs.Answers.{Answers, AnswersPlain, ExplainsRefusal, ExplainsRight, ExplainsWrong, Imports, IsFaultless, IsLegal, IsLegalRecording, IsWrong, IsWrongPair, IsWrongPart, Plays, Refuses, RefusesTracks, Resumes, Runs}
 use Rattle.acas_top.specs.Comparing.{Compares, IsWrongOfTwo, in_first, in_second}
 use Rattle.air_journal.specs.States.{State}
 use Rattle.comparison.specs.Splitting.{IsSplit}
@@ -15,7 +18,7 @@ use Rattle.acas_top.specs.declared.status.Status.TheVariants.{Done, Refused, Wro
 use Rattle.acas_top.specs.declared.words.Command.{Command}
 use Rattle.acas_top.specs.declared.words.Command.TheVariants as commands
 use Rattle.acas_top.specs.declared.words.Plain.{Plain}
-use Rattle.acas_top.specs.declared.words.Plain.TheVariants.{Audit, Compare, Decode, Gen, Resume, Serial, Show, Sweep, Tell, Tracks}
+use Rattle.acas_top.specs.declared.words.Plain.TheVariants.{Audit, Compare, Decode, Explain, Gen, Resume, Serial, Show, Sweep, Tell, Tracks}
 use Rattle.acas_top.specs.declared.words.Threaded.{Threaded}
 use Rattle.acas_top.specs.declared.words.Threaded.TheVariants.{Play, Sum}
 use Rattle.acas_base.specs.Encounter.{Parts}
@@ -154,6 +157,36 @@ not-run-only run bytes text other Done refused is = absurd (not-run run bytes ot
 not-run-only run bytes text other Refused refused is = refl
 not-run-only run bytes text other also refused is = absurd is
 
+-- What is explained is a recording or an encounter, and right or wrong.
+right-by : HasOneVerdict → (bytes text : List ℕ) (b : Bool) → begins_recording bytes ≡ b → MatchBool b (IsLegalRecording bytes text) (IsFaultless bytes text) → (other : List ℕ) (also : Status) → AnswersPlain Explain bytes also other → Done ≡ also
+right-by law bytes text b e right other Done is = refl
+right-by law bytes text true e right other Refused is = absurd (false≢true (sym is.other ∙ e))
+right-by law bytes text false e right other Refused is = let one = right.says in let two = is.is in absurd (cc)
+right-by law bytes text true e right other Wrong is =
+    let same = law bytes (verdicts.Legal (length right.state.journal)) (verdicts.Wrong is.wrong.line is.wrong.reason) (record { state = right.state; recording = right.recording_is; count = refl }) is.wrong.is in
+    absurd (cc)
+right-by law bytes text false e right other Wrong is = absurd (false≢true (sym e ∙ is.begun))
+right-by law bytes text b e right other also is = absurd is
+
+right-only : HasOneVerdict → (bytes text other : List ℕ) (also : Status) → ExplainsRight bytes text → AnswersPlain Explain bytes also other → Done ≡ also
+right-only law bytes text other also right is = right-by law bytes text (begins_recording bytes) refl right other also is
+
+refusal-by : (bytes text other : List ℕ) (b : Bool) → begins_recording bytes ≡ b → ExplainsRefusal bytes text → MatchBool b (IsLegalRecording bytes other) (IsFaultless bytes other) → Refused ≡ Done
+refusal-by bytes text other true e refusal right = absurd (false≢true (sym refusal.other ∙ e))
+refusal-by bytes text other false e refusal right = let one = right.says in let two = refusal.is in absurd (cc)
+
+refusal-only : (bytes text other : List ℕ) (also : Status) → ExplainsRefusal bytes text → AnswersPlain Explain bytes also other → Refused ≡ also
+refusal-only bytes text other Done refusal is = refusal-by bytes text other (begins_recording bytes) refl refusal is
+refusal-only bytes text other Refused refusal is = refl
+refusal-only bytes text other Wrong refusal is = absurd (false≢true (sym refusal.other ∙ is.begun))
+refusal-only bytes text other also refusal is = absurd is
+
+wrong-explained-only : HasOneVerdict → (bytes text other : List ℕ) (also : Status) → ExplainsWrong bytes text → AnswersPlain Explain bytes also other → Wrong ≡ also
+wrong-explained-only law bytes text other Done wrong is = sym (right-only law bytes other text Wrong is wrong)
+wrong-explained-only law bytes text other Refused wrong is = absurd (false≢true (sym is.other ∙ wrong.begun))
+wrong-explained-only law bytes text other Wrong wrong is = refl
+wrong-explained-only law bytes text other also wrong is = absurd is
+
 one-plain : HasOneVerdict → HasOnePart → HasOneSplit → HasOneImport → (plain : Plain) (bytes text other : List ℕ) (status also : Status) → AnswersPlain plain bytes status text → AnswersPlain plain bytes also other → status ≡ also
 one-plain law part cut flown Serial bytes text other Done also is other_is = done-only bytes text other also is other_is
 one-plain law part cut flown Serial bytes text other Refused also is other_is = refused-only bytes text other also is other_is
@@ -179,6 +212,10 @@ one-plain law part cut flown Resume bytes text other status also is other_is = a
 one-plain law part cut flown Compare bytes text other Done also is other_is = compared-only law cut bytes text other also is other_is
 one-plain law part cut flown Compare bytes text other Wrong also is other_is = wrong-pair-only law cut bytes text other also is other_is
 one-plain law part cut flown Compare bytes text other status also is other_is = absurd is
+one-plain law part cut flown Explain bytes text other Done also is other_is = right-only law bytes text other also is other_is
+one-plain law part cut flown Explain bytes text other Refused also is other_is = refusal-only bytes text other also is other_is
+one-plain law part cut flown Explain bytes text other Wrong also is other_is = wrong-explained-only law bytes text other also is other_is
+one-plain law part cut flown Explain bytes text other status also is other_is = absurd is
 one-plain law part cut flown (Decode word) bytes text other Done Done is other_is = refl
 one-plain law part cut flown (Decode word) bytes text other Done also is other_is = absurd other_is
 one-plain law part cut flown (Decode word) bytes text other status also is other_is = absurd is

@@ -6,7 +6,7 @@ use Rattle.std.specs.Str.{bytes_eq}
 use Rattle.acas_top.specs.Words.{AreNoPlain, AreNoRun, SayPage, tool_word}
 use Rattle.acas_top.specs.declared.words.Page.{Page}
 use Rattle.acas_top.specs.declared.words.Page.TheVariants.{Help, Version}
-use Rattle.acas_top.specs.declared.words.Plain.TheVariants.{Audit, Compare, Decode, Gen, Resume, Serial, Show, Sweep, Tell, Tracks}
+use Rattle.acas_top.specs.declared.words.Plain.TheVariants.{Audit, Compare, Decode, Explain, Gen, Resume, Serial, Show, Sweep, Tell, Tracks}
 use Rattle.acas_top.specs.declared.words.Threaded.TheVariants.{Play, Sum}
 use Rattle.acas_top.specs.declared.words.Tool.{Tool}
 use Rattle.acas_top.specs.declared.words.Tool.TheVariants.{Messages, Places, Reports, Response, Summary, Watch, Why}
@@ -38,7 +38,7 @@ other-than-pages word long short plain version Help (inr (inl is)) = different w
 other-than-pages word long short plain version Help (inr (inr is)) = different word (codes "help") refl plain (ap first is)
 other-than-pages word long short plain version Version is = different word (codes "--version") refl version (ap first is)
 
-module _ (word : List ℕ) (serial : false ≡ bytes_eq word (codes "serial")) (audit : false ≡ bytes_eq word (codes "audit")) (resume : false ≡ bytes_eq word (codes "resume")) (compare : false ≡ bytes_eq word (codes "compare")) (tracks : false ≡ bytes_eq word (codes "tracks")) (tools : (tool : Tool) → word ≢ tool_word tool)
+module _ (word : List ℕ) (serial : false ≡ bytes_eq word (codes "serial")) (audit : false ≡ bytes_eq word (codes "audit")) (resume : false ≡ bytes_eq word (codes "resume")) (compare : false ≡ bytes_eq word (codes "compare")) (explain : false ≡ bytes_eq word (codes "explain")) (tracks : false ≡ bytes_eq word (codes "tracks")) (tools : (tool : Tool) → word ≢ tool_word tool)
     (pages : (page : Page) → SayPage (word ∷ []) page → ⊥) where
   pub other-than-commands : AreNoPlain (word ∷ [])
   other-than-commands Serial valid = λ is. different word (codes "serial") refl serial (ap first is)
@@ -47,6 +47,7 @@ module _ (word : List ℕ) (serial : false ≡ bytes_eq word (codes "serial")) (
   other-than-commands (Tell tool) valid = λ is. tools tool (ap first is)
   other-than-commands (Sweep number count crafts cycles) valid = λ is. absurd (omega (arith, ap length is))
   other-than-commands Compare valid = λ is. different word (codes "compare") refl compare (ap first is)
+  other-than-commands Explain valid = λ is. different word (codes "explain") refl explain (ap first is)
   other-than-commands (Decode digits) valid = λ is. absurd (omega (arith, ap length is))
   other-than-commands Resume valid = λ is. different word (codes "resume") refl resume (ap first is)
   other-than-commands Tracks valid = λ is. different word (codes "tracks") refl tracks (ap first is)

@@ -1,5 +1,5 @@
 -- The answer to each command on the bytes that it read: a status, and the text that is written.
-use Rattle.std.specs.Prelude.{◌≡◌, ℕ, List, ◌++◌, Err, codes}
+use Rattle.std.specs.Prelude.{◌≡◌, ℕ, List, ◌++◌, Bool, true, false, Err, if◌then◌else◌, codes, length}
 use Rattle.std.specs.Fmt.{decimal}
 use Rattle.acas_base.specs.Encounter.{Parts}
 use Rattle.acas_base.specs.declared.entry.Entry.{Entry}
@@ -8,12 +8,14 @@ use Rattle.acas_top.specs.Comparing.{Compares, IsWrongOfTwo}
 use Rattle.acas_top.specs.Counted.{AreSerial, counts_of}
 use Rattle.acas_top.specs.Pages.{page_lines}
 use Rattle.acas_top.specs.Summing.{summed_lines}
+use Rattle.acas_top.specs.declared.explaining.Subject.{Subject}
+use Rattle.acas_top.specs.declared.explaining.Subject.TheVariants as subjects
 use Rattle.acas_top.specs.declared.status.Status.{Status}
 use Rattle.acas_top.specs.declared.status.Status.TheVariants.{Done, Refused, Wrong}
 use Rattle.acas_top.specs.declared.words.Command.{Command}
 use Rattle.acas_top.specs.declared.words.Command.TheVariants as commands
 use Rattle.acas_top.specs.declared.words.Plain.{Plain}
-use Rattle.acas_top.specs.declared.words.Plain.TheVariants.{Audit, Compare, Decode, Gen, Resume, Serial, Show, Sweep, Tell, Tracks}
+use Rattle.acas_top.specs.declared.words.Plain.TheVariants.{Audit, Compare, Decode, Explain, Gen, Resume, Serial, Show, Sweep, Tell, Tracks}
 use Rattle.acas_top.specs.declared.words.Threaded.{Threaded}
 use Rattle.acas_top.specs.declared.words.Threaded.TheVariants.{Play, Sum}
 use Rattle.acas_top.specs.Sweeping.{Sweeps}
@@ -32,8 +34,12 @@ use Rattle.enc_file.specs.Codes.{code_number}
 use Rattle.enc_file.specs.Reading.{Says, reading_of}
 use Rattle.enc_file.specs.Records.{records_of}
 use Rattle.enc_file.specs.declared.refusal.Refusal.{Refusal}
+use Rattle.enc_file.specs.Records.{records_of}
 use Rattle.enc_gen.specs.Generated.{generated}
-use Rattle.rec_audit.specs.Judging.{IsBeginningOf, IsPartLoaded, Judged}
+use Rattle.fault_text.specs.Lines.{begins_recording, begins_tracks}
+use Rattle.fault_text.specs.Told.{IsExplained}
+use Rattle.acas_top.specs.Explaining.{right_encounter_lines, right_recording_lines, right_tracks_line}
+use Rattle.rec_audit.specs.Judging.{IsBeginningOf, IsPartLoaded, IsRecordingOf, Judged}
 use Rattle.rec_audit.specs.Reasons.{reason_number}
 use Rattle.rec_audit.specs.declared.verdict.Loaded.TheVariants as loaded
 use Rattle.rec_audit.specs.declared.verdict.Reason.{Reason}
@@ -46,6 +52,7 @@ use Rattle.sweep.specs.declared.counts.Counts.{Counts}
 use Rattle.track_text.specs.Codes.{fault_number}
 use Rattle.track_text.specs.Conditions.{IsRefused}
 use Rattle.track_text.specs.Reading.{Says as SaysTracks}
+use Rattle.track_text.specs.Telling.{IsExplained as AreExplained}
 use Rattle.track_text.specs.declared.refusal.Refusal.{Refusal as TrackRefusal}
 use Rattle.word_text.specs.Lines.{word_text}
 
@@ -167,6 +174,62 @@ pub record Sums (bytes text : List ℕ) : Type 0 where
   pub serial : AreSerial encounter counts
   pub text_is : text ≡ joined (summed_lines (counts_of encounter journal).commits counts)
 
+-- The bytes say an encounter. The text says so, and what of it has no effect.
+pub record IsFaultless (bytes text : List ℕ) : Type 0 where
+  pub encounter : Parts
+  pub says : Says bytes encounter
+  pub text_is : text ≡ joined (right_encounter_lines (record { text = bytes; encounter = encounter }))
+
+-- The bytes are the recording of a legal and complete journal. The text says so, and what of its encounter has no effect.
+pub record IsLegalRecording (bytes text : List ℕ) : Type 0 where
+  pub state : State
+  pub recording_is : IsRecordingOf bytes state
+  pub text_is : text ≡ joined (right_recording_lines (record { text = bytes; state = state }))
+
+-- The bytes say tracks along which aircraft can fly, and the text is the line that says so.
+pub record AreRightTracks (bytes text : List ℕ) : Type 0 where
+  pub encounter : Parts
+  pub says : SaysTracks bytes encounter
+  pub text_is : text ≡ right_tracks_line encounter (length (records_of bytes))
+
+-- What bytes are read as: a recording, a text of tracks, or an encounter. Their beginning tells.
+abbrev pub read_as : List ℕ → Subject
+read_as bytes = if begins_recording bytes then subjects.Recording else if begins_tracks bytes then subjects.Tracks else subjects.Encounter
+
+-- Nothing is wrong.
+abbrev pub IsRight : Subject → List ℕ → List ℕ → Type 0
+IsRight subjects.Recording bytes text = IsLegalRecording bytes text
+IsRight subjects.Tracks bytes text = AreRightTracks bytes text
+IsRight subjects.Encounter bytes text = IsFaultless bytes text
+
+-- The bytes say no encounter. The text is the line of the refusal, and the sentence of its fault.
+pub record ExplainsRefusal (bytes text : List ℕ) : Type 0 where
+  pub refusal : Refusal
+  pub is : reading_of bytes ≡ Err refusal
+  pub line : List ℕ
+  pub explained : IsExplained bytes refusal line
+  pub text_is : text ≡ refused_line refusal.at (code_number refusal.code) ++ line
+
+-- The bytes say no tracks along which aircraft can fly. The text is the line of the refusal, and the sentence of its
+-- fault.
+pub record ExplainsTracks (bytes text : List ℕ) : Type 0 where
+  pub refusal : TrackRefusal
+  pub is : IsRefused (records_of bytes) refusal
+  pub line : List ℕ
+  pub explained : AreExplained bytes refusal line
+  pub text_is : text ≡ refused_line refusal.at (fault_number refusal.fault) ++ line
+
+abbrev pub IsFaulty : Subject → List ℕ → List ℕ → Type 0
+IsFaulty subjects.Recording bytes text = ⊥
+IsFaulty subjects.Tracks bytes text = ExplainsTracks bytes text
+IsFaulty subjects.Encounter bytes text = ExplainsRefusal bytes text
+
+-- The bytes begin as a recording, and they are none of a legal and complete journal. The text is the line of the
+-- verdict.
+abbrev pub IsWrongRecording : Subject → List ℕ → List ℕ → Type 0
+IsWrongRecording subjects.Recording bytes text = IsWrong bytes text
+IsWrongRecording other bytes text = ⊥
+
 -- What a run in threads writes. The bytes don't determine it: the order of the entries can differ from run to run.
 abbrev pub Runs : Threaded → List ℕ → List ℕ → Type 0
 Runs Play bytes text = PlaysSome bytes text
@@ -196,6 +259,10 @@ AnswersPlain Resume bytes status text = ⊥
 AnswersPlain Compare bytes Done text = Compares bytes text
 AnswersPlain Compare bytes Wrong text = IsWrongPair bytes text
 AnswersPlain Compare bytes status text = ⊥
+AnswersPlain Explain bytes Done text = IsRight (read_as bytes) bytes text
+AnswersPlain Explain bytes Refused text = IsFaulty (read_as bytes) bytes text
+AnswersPlain Explain bytes Wrong text = IsWrongRecording (read_as bytes) bytes text
+AnswersPlain Explain bytes status text = ⊥
 AnswersPlain (Decode word) bytes Done text = text ≡ word_text word
 AnswersPlain (Decode word) bytes status text = ⊥
 AnswersPlain (Show page) bytes Done text = text ≡ joined (page_lines page)

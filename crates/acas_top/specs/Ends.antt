@@ -4,10 +4,11 @@ use Rattle.std.specs.Option.{ForSome}
 use Rattle.acas_io.specs.Faults.{Rose, one_more}
 use Rattle.acas_io.specs.Stream.{Grew, GrewByPrefix, TookAll}
 use Rattle.acas_top.specs.Answers.{Answers}
-use Rattle.acas_top.specs.Words.{IsCommand, Say, limit_of}
+use Rattle.acas_top.specs.Words.{IsCommand, Say, limit_of, most}
 use Rattle.acas_top.specs.declared.status.Status.{Status}
 use Rattle.acas_top.specs.declared.status.Status.TheVariants.{Done, OutOfMemory, ReadFault, Refused, TooLong, Usage, WriteFault, Wrong}
 use Rattle.acas_top.specs.declared.words.Command.{Command}
+use Rattle.acas_top.specs.declared.words.Limit.{Limit}
 
 -- A status with which the whole text of an answer was written.
 abbrev pub IsAnswer : Status → Type 0
@@ -17,18 +18,18 @@ IsAnswer Wrong = Unit {0}
 IsAnswer status = ⊥
 
 -- These bytes were read: none where the command reads nothing, and else all that the source had left, up to the limit.
-abbrev pub WasRead : Option ℕ → Option (List ℕ) → Option (List ℕ) → List ℕ → Type 0
+abbrev pub WasRead : Option Limit → Option (List ℕ) → Option (List ℕ) → List ℕ → Type 0
 WasRead None old new bytes = (bytes ≡ []) × (new ≡ old)
-WasRead (Some limit) old new bytes = (length bytes ≤ limit) × TookAll old new bytes
+WasRead (Some limit) old new bytes = (length bytes ≤ most limit bytes) × TookAll old new bytes
 
 -- There is a limit, and the source had more bytes left than that, if it tells its bytes.
-abbrev pub IsTooLong : Option ℕ → Option (List ℕ) → Type 0
+abbrev pub IsTooLong : Option Limit → Option (List ℕ) → Type 0
 IsTooLong None left = ⊥
-IsTooLong (Some limit) left = IfSome left (λ bytes. limit < length bytes)
+IsTooLong (Some limit) left = IfSome left (λ bytes. most limit bytes < length bytes)
 
 -- The source tells its bytes, and they are within the limit of the command that the words say.
 abbrev pub IsWithin : List (List ℕ) → Option (List ℕ) → Type 0
-IsWithin words left = (command : Command) → Say words command → ForSome (limit_of command) (λ limit. IsSomeAnd left (λ bytes. length bytes ≤ limit))
+IsWithin words left = (command : Command) → Say words command → ForSome (limit_of command) (λ limit. IsSomeAnd left (λ bytes. length bytes ≤ most limit bytes))
 
 -- The words say a command, and its answer on the bytes that it read is this status and the text that was written.
 pub record Answered (words : List (List ℕ)) (status : Status) (old new : Option (List ℕ)) (IsPut : List ℕ → Type 0) : Type 0 where
@@ -43,7 +44,7 @@ pub record Answered (words : List (List ℕ)) (status : Status) (old new : Optio
 
 -- Why nothing could be read: one read failed and was counted, there were more bytes than the limit, or memory was
 -- wanting.
-abbrev pub IsUnread : Status → Option ℕ → Option (List ℕ) → ℕ → ℕ → Type 0
+abbrev pub IsUnread : Status → Option Limit → Option (List ℕ) → ℕ → ℕ → Type 0
 IsUnread ReadFault limit left faults now = now ≡ one_more faults
 IsUnread TooLong limit left faults now = IsTooLong limit left × (now ≡ faults)
 IsUnread OutOfMemory limit left faults now = now ≡ faults
@@ -84,7 +85,7 @@ pub record Ended {S K : Type 0} (IsNone : Type 0) (words : List (List ℕ)) (sta
   pub complete : (IsNone → ⊥) → IsWithin words (left source) → (Rose (reads source) (reads source_new) → ⊥) → (Rose (writes sink) (writes sink_new) → ⊥) → IsAnswer status ⊎ (status ≡ OutOfMemory)
 
 -- Bytes were read, to their end, a text was written, and both stand in this relation.
-pub record Passed (limit : Option ℕ) (Relates : List ℕ → List ℕ → Type 0) (old new : Option (List ℕ)) (IsPut : List ℕ → Type 0) : Type 0 where
+pub record Passed (limit : Option Limit) (Relates : List ℕ → List ℕ → Type 0) (old new : Option (List ℕ)) (IsPut : List ℕ → Type 0) : Type 0 where
   pub bytes : List ℕ
   pub text : List ℕ
   pub read : WasRead limit old new bytes

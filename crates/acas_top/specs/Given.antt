@@ -2,16 +2,19 @@
 use Rattle.std.specs.Prelude.{ℕ, ◌≤◌, List, [], ◌∷◌, length, Option, None, Some}
 use Rattle.acas_lines.specs.Lines.{joined}
 use Rattle.acas_top.specs.Answers.{refused_line, verdict_line}
+use Rattle.acas_top.specs.Explaining.{right_encounter_lines, right_recording_lines}
 use Rattle.acas_top.specs.Pages.{page_lines}
 use Rattle.acas_top.specs.Summing.{summed_lines}
 use Rattle.acas_top.specs.Sweeping.{swept_lines}
 use Rattle.acas_top.specs.Telling.{tool_lines}
 use Rattle.acas_top.specs.declared.answers.Answer.{Answer}
-use Rattle.acas_top.specs.declared.answers.Answer.TheVariants.{Compared, Decoded, Judged, Made, Recorded, Refused, Shown, Summed, Swept, Told}
+use Rattle.acas_top.specs.declared.answers.Answer.TheVariants.{Compared, Decoded, Explained, Faultless, Judged, Made, Recorded, Refused, RightEncounter, RightRecording, Shown, Summed, Swept, Told}
 use Rattle.acas_top.specs.declared.status.Status.{Status}
 use Rattle.acas_top.specs.declared.status.Status.TheVariants as statuses
 use Rattle.acas_top.specs.declared.telling.Told.{Told as ToolText}
 use Rattle.acas_top.specs.declared.telling.Told.TheVariants as texts
+use Rattle.acas_top.specs.Words.{most}
+use Rattle.acas_top.specs.declared.words.Limit.{Limit}
 use Rattle.acas_top.specs.declared.words.Tool.TheVariants as tools
 use Rattle.comparison.specs.Comparing.{compared_lines}
 use Rattle.enc_file.specs.Canonical.{canonical_lines}
@@ -34,6 +37,10 @@ answer_status (Summed commits counts) = statuses.Done
 answer_status (Compared one other found) = statuses.Done
 answer_status (Decoded word) = statuses.Done
 answer_status (Shown page) = statuses.Done
+answer_status (Faultless line) = statuses.Done
+answer_status (RightEncounter right) = statuses.Done
+answer_status (RightRecording right) = statuses.Done
+answer_status (Explained at code line) = statuses.Refused
 answer_status (Judged verdict) = verdict_status verdict
 answer_status (Refused at code) = statuses.Refused
 
@@ -56,6 +63,10 @@ answer_lines (Summed commits counts) = summed_lines commits counts
 answer_lines (Compared one other found) = compared_lines one other found
 answer_lines (Decoded word) = word_lines word
 answer_lines (Shown page) = page_lines page
+answer_lines (Faultless line) = line ∷ []
+answer_lines (RightEncounter right) = right_encounter_lines right
+answer_lines (RightRecording right) = right_recording_lines right
+answer_lines (Explained at code line) = refused_line at code ∷ line ∷ []
 answer_lines (Judged verdict) = verdict_line verdict ∷ []
 answer_lines (Refused at code) = refused_line at code ∷ []
 
@@ -63,6 +74,6 @@ abbrev pub answer_text : Answer → List ℕ
 answer_text answer = joined (answer_lines answer)
 
 -- The bytes are within the limit, where there is one.
-abbrev pub IsReadable : Option ℕ → List ℕ → Type 0
+abbrev pub IsReadable : Option Limit → List ℕ → Type 0
 IsReadable None bytes = Unit {0}
-IsReadable (Some limit) bytes = length bytes ≤ limit
+IsReadable (Some limit) bytes = length bytes ≤ most limit bytes

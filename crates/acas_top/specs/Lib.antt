@@ -9,3 +9,4 @@ pub mod Summing
 pub mod Answers
 pub mod Ends
 pub mod Given
+pub mod Explaining

@@ -1,16 +1,19 @@
 -- The commands: which words say them, and how much they read.
-use Rattle.std.specs.Prelude.{◌≡◌, ℕ, ◌<◌, ◌≤◌, ◌^◌, ◌⊎◌, List, [], ◌∷◌, Option, None, Some, codes}
+use Rattle.std.specs.Prelude.{◌≡◌, ℕ, ◌<◌, ◌≤◌, ◌^◌, ◌⊎◌, if◌then◌else◌, List, [], ◌∷◌, Option, None, Some, codes}
 use Rattle.std.specs.Fmt.{decimal}
 use Rattle.acas_base.specs.Ranges.{IsCycle}
 use Rattle.acas_base.specs.declared.TheConstants.{CRAFTS}
 use Rattle.acas_text.specs.Hex.{hex}
+use Rattle.fault_text.specs.Lines.{begins_recording}
 use Rattle.acas_top.specs.declared.words.TheConstants.{ENCOUNTER_BYTES, RECORDING_BYTES}
 use Rattle.acas_top.specs.declared.words.Command.{Command}
 use Rattle.acas_top.specs.declared.words.Command.TheVariants as commands
+use Rattle.acas_top.specs.declared.words.Limit.{Limit}
+use Rattle.acas_top.specs.declared.words.Limit.TheVariants as limits
 use Rattle.acas_top.specs.declared.words.Page.{Page}
 use Rattle.acas_top.specs.declared.words.Page.TheVariants.{Help, Version}
 use Rattle.acas_top.specs.declared.words.Plain.{Plain}
-use Rattle.acas_top.specs.declared.words.Plain.TheVariants.{Audit, Compare, Decode, Gen, Resume, Serial, Show, Sweep, Tell, Tracks}
+use Rattle.acas_top.specs.declared.words.Plain.TheVariants.{Audit, Compare, Decode, Explain, Gen, Resume, Serial, Show, Sweep, Tell, Tracks}
 use Rattle.acas_top.specs.declared.words.Threaded.{Threaded}
 use Rattle.acas_top.specs.declared.words.Threaded.TheVariants.{Play, Sum}
 use Rattle.acas_top.specs.declared.words.Tool.{Tool}
@@ -27,6 +30,7 @@ IsInRange Resume = Unit {0}
 IsInRange Tracks = Unit {0}
 IsInRange Compare = Unit {0}
 IsInRange (Decode word) = word < 2 ^ 56
+IsInRange Explain = Unit {0}
 IsInRange (Show page) = Unit {0}
 
 -- The numbers of a command are in their ranges.
@@ -65,6 +69,7 @@ SayPlain words Resume = words ≡ codes "resume" ∷ []
 SayPlain words Tracks = words ≡ codes "tracks" ∷ []
 SayPlain words Compare = words ≡ codes "compare" ∷ []
 SayPlain words (Decode word) = words ≡ codes "decode" ∷ hex 14 word ∷ []
+SayPlain words Explain = words ≡ codes "explain" ∷ []
 SayPlain words (Show page) = SayPage words page
 
 -- The words say a command.
@@ -84,20 +89,31 @@ AreNoPlain words = (plain : Plain) → IsInRange plain → SayPlain words plain 
 abbrev pub AreNoRun : List (List ℕ) → Type 0
 AreNoRun words = (run : Threaded) → Say words (commands.Run run) → ⊥
 
--- The most bytes that a plain command reads, or none where it reads nothing.
-abbrev pub plain_limit : Plain → Option ℕ
-plain_limit Serial = Some ENCOUNTER_BYTES
-plain_limit Tracks = Some ENCOUNTER_BYTES
-plain_limit Audit = Some RECORDING_BYTES
+-- The most bytes that a limit admits, whatever they are, and the most that these bytes may be.
+abbrev pub greatest : Limit → ℕ
+greatest limits.Encounter = ENCOUNTER_BYTES
+greatest other = RECORDING_BYTES
+
+abbrev pub most : Limit → List ℕ → ℕ
+most limits.Encounter bytes = ENCOUNTER_BYTES
+most limits.Recording bytes = RECORDING_BYTES
+most limits.Either bytes = if begins_recording bytes then RECORDING_BYTES else ENCOUNTER_BYTES
+
+-- How much a plain command reads at most, or none where it reads nothing.
+abbrev pub plain_limit : Plain → Option Limit
+plain_limit Serial = Some limits.Encounter
+plain_limit Tracks = Some limits.Encounter
+plain_limit Audit = Some limits.Recording
 plain_limit (Gen number crafts cycles) = None
-plain_limit (Tell tool) = Some RECORDING_BYTES
+plain_limit (Tell tool) = Some limits.Recording
 plain_limit (Sweep number count crafts cycles) = None
-plain_limit Resume = Some RECORDING_BYTES
-plain_limit Compare = Some RECORDING_BYTES
+plain_limit Resume = Some limits.Recording
+plain_limit Compare = Some limits.Recording
+plain_limit Explain = Some limits.Either
 plain_limit (Decode word) = None
 plain_limit (Show page) = None
 
--- The most bytes that a command reads, or none where it reads nothing.
-abbrev pub limit_of : Command → Option ℕ
+-- How much a command reads at most, or none where it reads nothing.
+abbrev pub limit_of : Command → Option Limit
 limit_of (commands.Plain plain) = plain_limit plain
-limit_of (commands.Run run) = Some ENCOUNTER_BYTES
+limit_of (commands.Run run) = Some limits.Encounter

@@ -1,13 +1,14 @@
 // The answer to a command: a status and a text.
-ghost use Rattle.std.specs.Prelude.{◌≡◌, ℕ, ◌+◌, ◌≤◌, List, IfOk, length};
+ghost use Rattle.std.specs.Prelude.{◌≡◌, ℕ, ◌+◌, ◌≤◌, ◌∷◌, [], List, IfOk, length};
 ghost use Rattle.acas_lines.specs.Split.{lines_of};
-ghost use Rattle.acas_top.specs.Answers.{AnswersPlain, IsMade};
+ghost use Rattle.acas_top.specs.Answers.{AnswersPlain, IsMade, read_as};
 ghost use Rattle.acas_top.specs.Given.{IsReadable, answer_status, answer_text};
 ghost use Rattle.acas_top.specs.Words.{IsInRange, plain_limit};
 ghost use Rattle.acas_top.specs.Sweeping.{Sweeps};
 ghost use Rattle.comparison.specs.Splitting.{IsSplit};
 ghost use Rattle.rec_audit.specs.Judging.{IsRecordingOf};
 
+use crate::explaining::{RightEncounter, RightRecording, Subject, read_as, right_tracks_line};
 use crate::pages::put_page;
 use crate::refusal::refusal_line;
 use crate::runs::{filled, serial_state};
@@ -18,10 +19,13 @@ use crate::verdict::verdict_line;
 use crate::{ENCOUNTER_BYTES, Page, Plain, RECORDING_BYTES, Status, Tool};
 use acas_base::Encounter;
 use acas_lines::{LineSink, Text};
+use acas_text::Line;
 use air_journal::AirState;
 use comparison::{Comparison, Found, compare, split};
 use enc_file::{CanonicalText, ReadError};
 use enc_gen::make;
+use deliveries::Deliveries;
+use fault_text::explained;
 use rec_audit::{Loaded, Verdict, judge, load, load_part};
 use rec_text::Recording;
 use std::alloc::{AllocError, Global};
@@ -46,6 +50,14 @@ pub(crate) enum Answer {
     Compared(AirState, AirState, Found),
     /// What a word says.
     Decoded(u64),
+    /// The line that says that nothing is wrong with a text of tracks.
+    Faultless(Line),
+    /// What is told of an encounter in which nothing is wrong.
+    RightEncounter(RightEncounter),
+    /// What is told of a recording in which nothing is wrong.
+    RightRecording(RightRecording),
+    /// The line of a refusal, with the number of the record and the number of the code, and the sentence of its fault.
+    Explained(u32, u8, Line),
     /// A page about the program.
     Shown(Page),
     /// The line of the verdict on a recording.
@@ -67,12 +79,23 @@ impl Answer {
             | Answer::Summed(_, _)
             | Answer::Compared(_, _, _)
             | Answer::Decoded(_)
+            | Answer::Faultless(_)
+            | Answer::RightEncounter(_)
+            | Answer::RightRecording(_)
             | Answer::Shown(_) => Status::Done,
             Answer::Judged(Verdict::Legal(_)) => Status::Done,
             Answer::Judged(Verdict::Wrong(_, _)) => Status::Wrong,
-            Answer::Refused(_, _) => Status::Refused,
+            Answer::Refused(_, _) | Answer::Explained(_, _, _) => Status::Refused,
         }
     }
+}
+
+// Puts two lines.
+fn put_both<S: LineSink>(one: &Line, other: &Line, sink: &mut S)
+    ensures { S.took sink.old sink.new (one.now ∷ other.now ∷ []) }
+{
+    sink.line(one);
+    sink.line(other);
 }
 
 impl Text for Answer {
@@ -89,6 +112,10 @@ impl Text for Answer {
             Answer::Summed(commits, counts) => put_summed(*commits, counts, sink),
             Answer::Compared(one, other, found) => Comparison { one, other, found }.put(sink),
             Answer::Decoded(word) => WordText(*word).put(sink),
+            Answer::Faultless(line) => sink.line(line),
+            Answer::RightEncounter(right) => right.put(sink),
+            Answer::RightRecording(right) => right.put(sink),
+            Answer::Explained(at, code, line) => put_both(&refusal_line(*at, *code), line, sink),
             Answer::Shown(page) => put_page(*page, sink),
             Answer::Judged(verdict) => sink.line(&verdict_line(*verdict)),
             Answer::Refused(at, code) => sink.line(&refusal_line(*at, *code)),
@@ -218,37 +245,97 @@ fn answer_compare(alloc: Global, bytes: &[u8]) -> Result<Answer, AllocError>
     }
 }
 
+// The answer to `explain` on bytes that begin as a recording.
+fn answer_recording(alloc: Global, bytes: Vec<u8>) -> Result<Answer, AllocError>
+    requires subject { read_as bytes.items ≡ Subject.Recording }
+    requires few { length bytes.items ≤ RECORDING_BYTES }
+    ensures { IfOk result (λ answer. AnswersPlain Plain.Explain bytes.items (answer_status answer) (answer_text answer)) }
+{
+    match load(alloc, bytes.as_slice())? {
+        Loaded::Legal(state) => {
+            let deliveries = Deliveries::new(alloc, state)?;
+            Ok(Answer::RightRecording(RightRecording::new(bytes, deliveries)))
+        }
+        Loaded::Wrong(line, reason) => Ok(Answer::Judged(Verdict::Wrong(line, reason))),
+    }
+}
+
+// The answer to `explain` on bytes that begin as a text of tracks.
+fn answer_about_tracks(alloc: Global, bytes: &[u8]) -> Result<Answer, AllocError>
+    requires subject { read_as bytes.now ≡ Subject.Tracks }
+    requires few { length bytes.now ≤ ENCOUNTER_BYTES }
+    ensures { IfOk result (λ answer. AnswersPlain Plain.Explain bytes.now (answer_status answer) (answer_text answer)) }
+{
+    match track_text::read(alloc, bytes) {
+        Ok(encounter) => Ok(Answer::Faultless(right_tracks_line(&encounter, bytes))),
+        Err(track_text::ReadError::Refused(refusal)) => {
+            let line = track_text::explained(bytes, refusal);
+            Ok(Answer::Explained(refusal.at, refusal.fault.number(), line))
+        }
+        Err(track_text::ReadError::OutOfMemory) => Err(AllocError),
+    }
+}
+
+// The answer to `explain` on all other bytes.
+fn answer_encounter(alloc: Global, bytes: Vec<u8>) -> Result<Answer, AllocError>
+    requires subject { read_as bytes.items ≡ Subject.Encounter }
+    requires few { length bytes.items ≤ ENCOUNTER_BYTES }
+    ensures { IfOk result (λ answer. AnswersPlain Plain.Explain bytes.items (answer_status answer) (answer_text answer)) }
+{
+    match enc_file::read(alloc, bytes.as_slice()) {
+        Ok(encounter) => Ok(Answer::RightEncounter(RightEncounter::new(bytes, encounter))),
+        Err(ReadError::Refused(refusal)) => {
+            let line = explained(alloc, bytes.as_slice(), refusal)?;
+            Ok(Answer::Explained(refusal.at, refusal.code.number(), line))
+        }
+        Err(ReadError::OutOfMemory) => Err(AllocError),
+    }
+}
+
+// The answer to `explain`.
+fn answer_explain(alloc: Global, bytes: Vec<u8>) -> Result<Answer, AllocError>
+    requires { IsReadable (plain_limit Plain.Explain) bytes.items }
+    ensures { IfOk result (λ answer. AnswersPlain Plain.Explain bytes.items (answer_status answer) (answer_text answer)) }
+{
+    match read_as(bytes.as_slice()) {
+        Subject::Recording => answer_recording(alloc, bytes),
+        Subject::Tracks => answer_about_tracks(alloc, bytes.as_slice()),
+        Subject::Encounter => answer_encounter(alloc, bytes),
+    }
+}
+
 /// The answer to a plain command on the bytes that it read. The error says that memory was wanting. All memory is asked
 /// for here.
 pub(crate) fn answer_to<R: Threads + Sync>(
     rt: &R,
     alloc: Global,
     plain: Plain,
-    bytes: &[u8],
+    bytes: Vec<u8>,
 ) -> Result<Answer, AllocError>
     requires range { IsInRange plain }
-    requires bytes { IsReadable (plain_limit plain) bytes.now }
-    ensures { IfOk result (λ answer. AnswersPlain plain bytes.now (answer_status answer) (answer_text answer)) }
+    requires bytes { IsReadable (plain_limit plain) bytes.items }
+    ensures { IfOk result (λ answer. AnswersPlain plain bytes.items (answer_status answer) (answer_text answer)) }
 {
     match plain {
-        Plain::Serial => answer_serial(alloc, bytes),
-        Plain::Audit => answer_audit(alloc, bytes),
+        Plain::Serial => answer_serial(alloc, bytes.as_slice()),
+        Plain::Audit => answer_audit(alloc, bytes.as_slice()),
         Plain::Gen {
             number,
             crafts,
             cycles,
         } => answer_gen(alloc, number, crafts, cycles),
-        Plain::Tell(tool) => answer_tool(alloc, tool, bytes),
+        Plain::Tell(tool) => answer_tool(alloc, tool, bytes.as_slice()),
         Plain::Sweep {
             number,
             count,
             crafts,
             cycles,
         } => answer_sweep(rt, alloc, number, count, crafts, cycles),
-        Plain::Tracks => answer_tracks(alloc, bytes),
-        Plain::Resume => answer_resume(alloc, bytes),
-        Plain::Compare => answer_compare(alloc, bytes),
+        Plain::Tracks => answer_tracks(alloc, bytes.as_slice()),
+        Plain::Resume => answer_resume(alloc, bytes.as_slice()),
+        Plain::Compare => answer_compare(alloc, bytes.as_slice()),
         Plain::Decode { word } => Ok(Answer::Decoded(word)),
+        Plain::Explain => answer_explain(alloc, bytes),
         Plain::Show(page) => Ok(Answer::Shown(page)),
     }
 }

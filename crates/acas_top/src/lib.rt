@@ -4,6 +4,7 @@
 
 mod answers;
 mod counts;
+mod explaining;
 mod pages;
 mod plain_program;
 mod program;
@@ -22,4 +23,4 @@ mod words;
 pub use plain_program::{acas_plain, one_status_law};
 pub use program::acas;
 pub use status::Status;
-pub use words::{Command, ENCOUNTER_BYTES, Page, Plain, RECORDING_BYTES, Threaded, Tool};
+pub use words::{Command, ENCOUNTER_BYTES, Limit, Page, Plain, RECORDING_BYTES, Threaded, Tool};

@@ -30,6 +30,9 @@ use track_text::once_law;
 ///   the recording is wrong, they write the line of its verdict.
 /// - `compare` reads two recordings, one after the other, and writes what differs between them. Where one of them is
 ///   wrong, it writes the line of the verdict.
+/// - `explain` reads an encounter or a recording. Bytes that begin with `recording,` are a recording, also behind one
+///   byte order mark. Where nothing is wrong it writes a line that says so. Of an encounter that is refused it writes the
+///   line of `serial` and a sentence, and of a wrong recording the line of `audit`.
 /// - `gen NUMBER CRAFTS CYCLES` reads nothing, and writes the encounter that is made from the number.
 /// - `sweep NUMBER COUNT CRAFTS CYCLES` reads nothing. It plays the encounters that are made from COUNT numbers, in as
 ///   many threads as there are processors, and writes the counts of each.
@@ -56,7 +59,7 @@ pub fn acas_plain<R: Threads + Sync, S: Source, K: Sink>(
         return Status::Usage;
     };
     match read_input(alloc, Command::Plain(plain), source) {
-        Ok(bytes) => match answer_to(rt, alloc, plain, bytes.as_slice()) {
+        Ok(bytes) => match answer_to(rt, alloc, plain, bytes) {
             Ok(answer) => put_answer(answer, sink),
             Err(_) => Status::OutOfMemory,
         },

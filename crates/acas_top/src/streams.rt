@@ -27,8 +27,13 @@ pub(crate) fn read_input<S: Source>(
     let Some(limit) = command.limit() else {
         return Ok(Vec::new(alloc));
     };
-    match read_all(alloc, source, limit) {
-        Ok(bytes) => Ok(bytes),
+    match read_all(alloc, source, limit.greatest()) {
+        Ok(bytes) => {
+            if limit.most(bytes.as_slice()) < bytes.len() {
+                return Err(Status::TooLong);
+            }
+            Ok(bytes)
+        }
         Err(InError::ReadFault) => Err(Status::ReadFault),
         Err(InError::TooLong) => Err(Status::TooLong),
         Err(InError::OutOfMemory) => Err(Status::OutOfMemory),

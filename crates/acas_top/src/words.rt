@@ -1,18 +1,30 @@
 // The commands, and the words that say them.
 ghost use Rattle.std.specs.Prelude.{◌≡◌, ◌≢◌, [], ◌∷◌, IfNone, IfSome, map};
 ghost use Rattle.std.specs.String.{string_bytes};
-ghost use Rattle.acas_top.specs.Words.{AreNoPlain, AreNoRun, IsInRange, Say, SayPage, limit_of, tool_word};
+ghost use Rattle.acas_top.specs.Words.{AreNoPlain, AreNoRun, IsInRange, Say, SayPage, greatest, limit_of, most, tool_word};
 ghost use Rattle.acas_top.specs.declared.words.Page.{Page};
 ghost use Rattle.acas_top.specs.declared.words.Tool.{Tool};
 
 use acas_base::CRAFTS;
 use acas_text::parse_within;
+use fault_text::begins_recording;
 
 /// The most bytes that a command reads of an encounter's text.
 pub const ENCOUNTER_BYTES: usize = 16_777_216;
 
 /// The most bytes that a command reads of a recording.
 pub const RECORDING_BYTES: usize = 67_108_864;
+
+/// How much a command reads at most.
+#[derive(Clone, Copy, Debug, PartialEq, Eq)]
+pub enum Limit {
+    /// As much as the text of an encounter may have.
+    Encounter,
+    /// As much as a recording may have.
+    Recording,
+    /// As much as a recording, where the bytes begin as one, and else as much as the text of an encounter.
+    Either,
+}
 
 /// What reads a recording, and writes a text about it.
 #[derive(Clone, Copy, Debug, PartialEq, Eq)]
@@ -86,6 +98,8 @@ pub enum Plain {
     Decode {
         word: u64,
     },
+    /// `explain`: reads an encounter or a recording, and writes what is wrong with it, or that nothing is.
+    Explain,
     /// The words that ask for a page: reads nothing, and writes the page.
     Show(Page),
 }
@@ -100,27 +114,56 @@ pub enum Command {
 }
 
 impl Command {
-    /// The most bytes that the command reads, or none where it reads nothing.
-    pub fn limit(self) -> Option<usize>
+    /// How much the command reads at most, or none where it reads nothing.
+    pub fn limit(self) -> Option<Limit>
         ensures { result ≡ limit_of self }
     {
         match self {
             Command::Plain(plain) => plain.limit(),
-            Command::Run(_) => Some(ENCOUNTER_BYTES),
+            Command::Run(_) => Some(Limit::Encounter),
+        }
+    }
+}
+
+impl Limit {
+    /// The most bytes that are read, whatever they are.
+    pub(crate) fn greatest(self) -> usize
+        ensures { result ≡ greatest self }
+    {
+        match self {
+            Limit::Encounter => ENCOUNTER_BYTES,
+            Limit::Recording | Limit::Either => RECORDING_BYTES,
+        }
+    }
+
+    /// The most bytes that these may be.
+    pub(crate) fn most(self, bytes: &[u8]) -> usize
+        ensures { result ≡ most self bytes.now }
+    {
+        match self {
+            Limit::Encounter => ENCOUNTER_BYTES,
+            Limit::Recording => RECORDING_BYTES,
+            Limit::Either => {
+                if begins_recording(bytes) {
+                    return RECORDING_BYTES;
+                }
+                ENCOUNTER_BYTES
+            }
         }
     }
 }
 
 impl Plain {
-    // The most bytes that the command reads, or none where it reads nothing.
-    fn limit(self) -> Option<usize>
+    // How much the command reads at most, or none where it reads nothing.
+    fn limit(self) -> Option<Limit>
         ensures { result ≡ limit_of (Command.Plain self) }
     {
         match self {
-            Plain::Serial | Plain::Tracks => Some(ENCOUNTER_BYTES),
+            Plain::Serial | Plain::Tracks => Some(Limit::Encounter),
             Plain::Audit | Plain::Tell(_) | Plain::Resume | Plain::Compare => {
-                Some(RECORDING_BYTES)
+                Some(Limit::Recording)
             }
+            Plain::Explain => Some(Limit::Either),
             Plain::Gen { .. } | Plain::Sweep { .. } | Plain::Decode { .. } | Plain::Show(_) => None,
         }
     }
@@ -206,6 +249,9 @@ fn of_one(word: &str) -> Option<Plain>
     }
     if word == "compare" {
         return Some(Plain::Compare);
+    }
+    if word == "explain" {
+        return Some(Plain::Explain);
     }
     if word == "tracks" {
         return Some(Plain::Tracks);

@@ -1,5 +1,5 @@
--- What is said of an encounter of which nothing is wrong.
-use Rattle.std.specs.Prelude.{ℕ, ◌++◌, Bool, true, false, List, codes, length}
+-- What is said of an encounter in which nothing is wrong.
+use Rattle.std.specs.Prelude.{ℕ, ◌++◌, ◌==◌, Bool, true, false, if◌then◌else◌, List, codes, length}
 use Rattle.std.specs.List.{count_by}
 use Rattle.std.specs.Fmt.{decimal}
 use Rattle.acas_base.specs.Encounter.{Parts}
@@ -29,11 +29,14 @@ kinds_text crafts =
     decimal (kind_count is_ra crafts) ++ codes " RA, " ++ decimal (kind_count is_ta crafts) ++ codes " TA, " ++ decimal (kind_count is_xpdr crafts) ++ codes " XPDR"
 
 abbrev pub crafts_text : List CraftSpec → List ℕ
-crafts_text crafts = codes "encounter: " ++ decimal (length crafts) ++ codes " aircraft (" ++ kinds_text crafts ++ codes "), "
+crafts_text crafts = decimal (length crafts) ++ codes " aircraft (" ++ kinds_text crafts ++ codes "), "
+
+abbrev pub cycles_text : ℕ → List ℕ
+cycles_text cycles = if cycles == 1 then codes " cycle, " else codes " cycles, "
 
 abbrev pub extent_text : ℕ → ℕ → List ℕ
-extent_text cycles records = decimal cycles ++ codes " cycles, " ++ decimal records ++ codes " records\n"
+extent_text cycles records = decimal cycles ++ cycles_text cycles ++ decimal records ++ codes " records\n"
 
--- Nothing is wrong with an encounter that has this many records.
-abbrev pub faultless_line : Parts → ℕ → List ℕ
-faultless_line e records = crafts_text e.crafts ++ extent_text e.cycles records
+-- Nothing is wrong with the text of an encounter, or with another text that says one. The first words tell what it is.
+abbrev pub faultless_line : List ℕ → Parts → ℕ → List ℕ
+faultless_line what e records = what ++ crafts_text e.crafts ++ extent_text e.cycles records

@@ -64,6 +64,12 @@ abbrev pub fields_left : Option (Bor (List ℕ)) → List (List ℕ)
 fields_left None = []
 fields_left (Some rest) = fields_in rest.now
 
--- Bytes begin as a recording. One byte order mark may stand before.
+-- Bytes begin so, as a recording, or as a text of tracks. One byte order mark may stand before.
+abbrev pub begins : List ℕ → List ℕ → Bool
+begins front bytes = bytes_eq (take (length front) (strip_bom bytes)) front
+
 abbrev pub begins_recording : List ℕ → Bool
-begins_recording bytes = bytes_eq (take 10 (strip_bom bytes)) (codes "recording,")
+begins_recording bytes = begins (codes "recording,") bytes
+
+abbrev pub begins_tracks : List ℕ → Bool
+begins_tracks bytes = begins (codes "tracks,") bytes

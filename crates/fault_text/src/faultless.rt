@@ -1,7 +1,7 @@
-// What is said of an encounter of which nothing is wrong.
+// What is said of an encounter in which nothing is wrong.
 ghost use Rattle.std.specs.Prelude.{◌≡◌, ◌+◌, ◌-◌, ◌≤◌, ◌<◌, ◌^◌, ◌++◌, length};
 ghost use Rattle.enc_file.specs.Records.{records_of};
-ghost use Rattle.fault_text.specs.Faultless.{crafts_text, extent_text, faultless_line, is_ra, is_ta, is_xpdr, kind_count, kinds_text};
+ghost use Rattle.fault_text.specs.Faultless.{crafts_text, cycles_text, extent_text, faultless_line, is_ra, is_ta, is_xpdr, kind_count, kinds_text};
 
 use crate::lines::record_count;
 use acas_base::{CraftSpec, Encounter, Kind};
@@ -59,11 +59,17 @@ fn add_crafts(line: &mut Line, crafts: &[CraftSpec])
     ensures added { line.new ≡ line.old ++ crafts_text crafts.now }
     ensures short { length line.new ≤ length line.old + 100 }
 {
-    line.text("encounter: ");
     line.u32(crafts.len() as u32);
     line.text(" aircraft (");
     add_kinds(line, crafts);
     line.text("), ");
+}
+
+fn cycles_text(cycles: u16) -> &'static str
+    ensures text { result.now ≡ cycles_text cycles }
+    ensures short { length result.now ≤ 10 }
+{
+    if cycles == 1 { " cycle, " } else { " cycles, " }
 }
 
 // Adds how many cycles and how many records there are.
@@ -73,21 +79,23 @@ fn add_extent(line: &mut Line, cycles: u16, records: u32)
     ensures short { length line.new ≤ length line.old + 50 }
 {
     line.u16(cycles);
-    line.text(" cycles, ");
+    line.text(cycles_text(cycles));
     line.u32(records);
     line.text(" records\n");
 }
 
-/// The line that says that nothing is wrong with an encounter: how many aircraft, of which kinds, how many cycles, and
-/// how many records its text has.
-pub fn faultless_line(encounter: &Encounter, text: &[u8]) -> Line
-    requires { length text.now < 2 ^ 32 - 1 }
-    ensures { result ≡ faultless_line encounter.now (length (records_of text.now)) }
+/// The line that says that nothing is wrong with a text that says an encounter: how many aircraft, of which kinds, how
+/// many cycles, and how many records the text has. It begins with `what`, which tells what is read.
+pub fn faultless_line(what: &str, encounter: &Encounter, text: &[u8]) -> Line
+    requires few { length text.now < 2 ^ 32 - 1 }
+    requires short { length what.now ≤ 20 }
+    ensures { result ≡ faultless_line what.now encounter.now (length (records_of text.now)) }
 {
     let crafts = encounter.crafts();
     let records = record_count(text);
     let cycles = encounter.cycles();
     let mut line = Line::new();
+    line.text(what);
     add_crafts(&mut line, crafts);
     add_extent(&mut line, cycles, records);
     line

@@ -17,6 +17,6 @@ pub use earlier::Sought;
 pub use fault::{Fault, Why, explain};
 pub use faultless::faultless_line;
 pub use fields::{field, kind_of};
-pub use lines::{FileLines, begins_recording, records_law};
+pub use lines::{FileLines, Place, begins_recording, begins_tracks, place_of, records_law};
 pub use names::{FieldName, RecordKind};
 pub use shown::{SHOWN_BYTES, add_shown, shown_law};

@@ -2,7 +2,7 @@
 ghost use Rattle.std.specs.Prelude.{◌≡◌, ◌≤◌, ◌<◌, ◌-◌, ◌^◌, ◌∷◌, [], ℕ, List, MatchOption, false, length, map};
 ghost use Rattle.csv.specs.Reading.{strip_bom};
 ghost use Rattle.enc_file.specs.Records.{records_of};
-ghost use Rattle.fault_text.specs.Lines.{BeginsWithEnd, Stands, begins_recording, fields_in, file_lines, lines_after, written};
+ghost use Rattle.fault_text.specs.Lines.{BeginsWithEnd, Stands, begins, begins_recording, begins_tracks, fields_in, file_lines, lines_after, written};
 
 use memchr::memchr2;
 use std::marker::Model;
@@ -22,12 +22,12 @@ pub fn records_law()
 
 /// Where a record stands in a file.
 #[derive(Clone, Copy)]
-pub(crate) struct Place<'a> {
+pub struct Place<'a> {
     /// The number of its line, from 1, blank lines counted. Where there is no such record, it is one more than the line
     /// of the last record.
-    pub(crate) number: u32,
+    pub number: u32,
     /// The line, without its end; empty where there is no such record.
-    pub(crate) line: &'a [u8],
+    pub line: &'a [u8],
 }
 
 // A text without a byte order mark at its start.
@@ -110,7 +110,7 @@ impl<'a> FileLines<'a> {
 }
 
 /// Where the record with the number `at` stands in a file. Records are counted from 1.
-pub(crate) fn place_of(text: &[u8], at: u32) -> Place<'_>
+pub fn place_of(text: &[u8], at: u32) -> Place<'_>
     requires few { length text.now < 2 ^ 32 - 1 }
     requires counted { 1 ≤ at }
     ensures place { Stands (file_lines text.now) at result.number result.line.now }
@@ -155,11 +155,25 @@ pub(crate) fn record_count(text: &[u8]) -> u32
     count
 }
 
+// Whether bytes begin so. One byte order mark may stand before.
+fn begins(bytes: &[u8], front: &[u8]) -> bool
+    ensures { result ≡ begins front.now bytes.now }
+{
+    let rest = unmarked(bytes);
+    let most = rest.len().min(front.len());
+    &rest[..most] == front
+}
+
 /// Whether bytes begin as a recording. One byte order mark may stand before its first word.
 pub fn begins_recording(bytes: &[u8]) -> bool
     ensures { result ≡ begins_recording bytes.now }
 {
-    let rest = unmarked(bytes);
-    let most = rest.len().min(10);
-    &rest[..most] == b"recording,".as_slice()
+    begins(bytes, b"recording,")
+}
+
+/// Whether bytes begin as a text of tracks. One byte order mark may stand before its first word.
+pub fn begins_tracks(bytes: &[u8]) -> bool
+    ensures { result ≡ begins_tracks bytes.now }
+{
+    begins(bytes, b"tracks,")
 }

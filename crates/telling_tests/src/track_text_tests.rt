@@ -190,10 +190,11 @@ fn faulty_texts_of_tracks_are_refused(rt: HostRuntime) -> Result<(), Fail> {
     Ok(())
 }
 
-fn refused_at(at: u32, fault: TrackFault) -> Option<Refusal> {
+fn refused_at(at: u32, fault: TrackFault, address: u32) -> Option<Refusal> {
+    let address = Address::new(address)?;
     Some(Refusal {
         at,
-        fault: Fault::Track(fault),
+        fault: Fault::Track(fault, address),
     })
 }
 

@@ -31,6 +31,11 @@ pub record CanBeFlown (cycles : ℕ) (tracks : List (List Point)) : Type 0 where
   pub covered : All (λ points. covers points cycles ≡ true) tracks
   pub flyable : All AreFlyable (rounded_rows cycles tracks)
 
+-- The aircraft at fault.
+abbrev pub craft_at : TrackFault → ℕ
+craft_at (Cover craft) = craft
+craft_at (Rate craft cycle) = craft
+
 -- The first aircraft, by its row, and its first cycle, from which no leg can lead to the next place.
 abbrev pub IsFast : List (List Place) → TrackFault → Type 0
 IsFast rows (Cover craft) = ⊥

@@ -4,7 +4,7 @@ ghost use Rattle.acas_base.specs.Ranges.{IsCycle};
 ghost use Rattle.acas_base.specs.declared.TheConstants.{CRAFTS};
 ghost use Rattle.flight.specs.Inside.{IsInBox};
 ghost use Rattle.leg_rows.specs.Rows.{AreFlyable, IsFirstExcess};
-ghost use Rattle.track_file.specs.Along.{CanBeFlown, FliesAlong, IsFaultOf, IsFast, rounded_row, rounded_rows};
+ghost use Rattle.track_file.specs.Along.{CanBeFlown, FliesAlong, IsFaultOf, IsFast, craft_at, rounded_row, rounded_rows};
 ghost use Rattle.track_file.specs.Track.{IsTrack, covers};
 ghost use Rattle.track_file.specs.declared.along.TrackFault.{TrackFault};
 
@@ -22,6 +22,17 @@ pub enum TrackFault {
     Cover { craft: u8 },
     /// From a cycle to the next an aircraft would have to fly faster than a leg can.
     Rate { craft: u8, cycle: u16 },
+}
+
+impl TrackFault {
+    /// The index of the aircraft at fault.
+    pub fn craft(self) -> u8
+        ensures { result ≡ craft_at self }
+    {
+        match self {
+            TrackFault::Cover { craft } | TrackFault::Rate { craft, .. } => craft,
+        }
+    }
 }
 
 /// The rounded places of a track in the cycles of a run. The error says that memory was wanting.

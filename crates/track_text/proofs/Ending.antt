@@ -12,9 +12,11 @@ use Rattle.enc_file.specs.declared.record.Record.{Record}
 use Rattle.enc_file.specs.declared.record.Record.TheVariants as said
 use Rattle.enc_file.specs.declared.refusal.Code.TheVariants as code
 use Rattle.enc_file.proofs.Crafted.{crafts-few}
-use Rattle.track_file.specs.Along.{CanBeFlown, FliesAlong, IsFaultOf}
+use Rattle.track_file.specs.Along.{CanBeFlown, FliesAlong, IsFaultOf, craft_at, rounded_row}
 use Rattle.track_file.specs.declared.along.TrackFault.{TrackFault}
+use Rattle.track_file.specs.declared.along.TrackFault.TheVariants.{Cover, Rate}
 use Rattle.track_file.specs.declared.track.Point.{Point}
+use Rattle.track_text.specs.Conditions.{address_at}
 use Rattle.track_text.specs.Earlier.{cycles_of, shared_of, track_of, tracks_of}
 use Rattle.track_text.specs.Tables.{AreBegun, HasMade, IsFine, IsFirstFault, KeepsTracks, fault_of, headed}
 use Rattle.track_text.specs.declared.record.TrackRecord.{TrackRecord}
@@ -58,11 +60,20 @@ end-sound earlier begun is = ap (λ b. if b then Some code.Count else None) (ap 
 same-encounter : (earlier : List TrackRecord) (e : Parts) → AreBegun earlier → SoFar (headed (shared_of earlier)) e → e ≡ encounter_by (shared_of earlier)
 same-encounter earlier e begun so = so.1 ∙ ap encounter_by (headed-same (shared_of earlier) begun.some)
 
-pub end-fault : (earlier : List TrackRecord) (e : Parts) (tracks : List (List Point)) (fault : TrackFault) → AreBegun earlier → SoFar (headed (shared_of earlier)) e → tracks ≡ tracks_of earlier → IsFaultOf e.cycles tracks fault
-    → IsFirstFault earlier (Shared said.End) (Track fault)
-end-fault earlier e tracks fault begun so are wrong =
-    let cycles : e.cycles ≡ cycles_of earlier = ap (λ (p : Parts). p.cycles) (same-encounter earlier e begun so) in
-    (end-sound earlier begun so.0, refl, subst (λ l. IsFaultOf (cycles_of earlier) l fault) are (subst (λ n. IsFaultOf n tracks fault) cycles wrong))
+-- The aircraft at fault is one of those that have tracks.
+pub fault-within : (cycles : ℕ) (tracks : List (List Point)) (fault : TrackFault) → IsFaultOf cycles tracks fault → craft_at fault < length tracks
+fault-within cycles tracks (Cover craft) wrong = wrong.0
+fault-within cycles tracks (Rate craft cycle) wrong = omega (arith, wrong.1.0, length-map tracks (rounded_row cycles))
+
+pub end-fault : (earlier : List TrackRecord) (e : Parts) (tracks : List (List Point)) (fault : TrackFault) (address : ℕ) → AreBegun earlier → SoFar (headed (shared_of earlier)) e → tracks ≡ tracks_of earlier → IsFaultOf e.cycles tracks fault
+    → address_at e.crafts (craft_at fault) ≡ Some address → IsFirstFault earlier (Shared said.End) (Track fault address)
+end-fault earlier e tracks fault address begun so are wrong named =
+    let cycles : e.cycles ≡ cycles_of earlier = ap (λ (p : Parts). p.cycles) (same-encounter earlier e begun so) in (
+      end-sound earlier begun so.0,
+      refl,
+      subst (λ l. IsFaultOf (cycles_of earlier) l fault) are (subst (λ n. IsFaultOf n tracks fault) cycles wrong),
+      ap (λ (p : Parts). address_at p.crafts (craft_at fault)) (sym (same-encounter earlier e begun so)) ∙ named,
+    )
 
 pub end-made : (earlier : List TrackRecord) (t : TrackTables) (e made : Parts) (tracks : List (List Point)) (n : ℕ) → KeepsTracks earlier t → AreBegun earlier → SoFar (headed (shared_of earlier)) e → tracks ≡ tracks_of earlier
     → CanBeFlown e.cycles tracks → FliesAlong made e tracks → (new : TrackTables) → new.count ≡ t.count + 1 → IsFine earlier (Shared said.End) × HasMade (Shared said.End ∷ earlier) new made

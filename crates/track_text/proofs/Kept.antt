@@ -39,7 +39,7 @@ use Rattle.track_text.specs.declared.refusal.ReadError.{ReadError}
 use Rattle.track_text.specs.declared.refusal.ReadError.TheVariants.{OutOfMemory, Refused}
 use Rattle.track_text.specs.declared.tables.TrackTables.{TrackTables}
 use Rattle.track_text.proofs.Lowest.{faultless, lowest-text, lowest-track}
-use Rattle.track_text.proofs.Told.{IsGoing, end-fields, fault_after, record-told-as}
+use Rattle.track_text.proofs.ToldAs.{IsGoing, end-fields, fault_after, record-told-as}
 
 -- Before the end and after it.
 
@@ -189,8 +189,8 @@ some-same a b is = cc is
 
 first-lowest : (earlier : List TrackRecord) (fields : List (List ℕ)) (now : TrackRecord) (why : Fault) → IsGoing earlier → record_of fields ≡ Ok now → IsFirstFault earlier now why → IsLowestFault earlier (Some fields) why
 first-lowest earlier fields now (Text why) going read first = lowest-text earlier (Some fields) why (sym (told-of earlier fields now going read) ∙ first)
-first-lowest earlier fields now (Track fault) going read first =
-    lowest-track earlier (Some fields) fault (sym (told-of earlier fields now going read) ∙ first.0) (ap Some (ends-fields fields now read first.1)) first.2
+first-lowest earlier fields now (Track fault address) going read first =
+    lowest-track earlier (Some fields) fault address (sym (told-of earlier fields now going read) ∙ first.0) (ap Some (ends-fields fields now read first.1)) first.2 first.3
 
 pub taken : {T : Type 0} (earlier : List TrackRecord) (fields : List (List ℕ)) (now : TrackRecord) (t : TrackTables) (r : Result T ReadError) → IsGoing earlier → record_of fields ≡ Ok now → Adds earlier now t r → Takes earlier fields t r
 taken earlier fields now t (Ok x) going read h = (

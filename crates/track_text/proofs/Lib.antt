@@ -1,5 +1,5 @@
 pub mod Since
-pub mod Told
+pub mod ToldAs
 pub mod Lowest
 pub mod Kept
 pub mod WholeTracks

@@ -45,7 +45,7 @@ none-missing all (Text code.Box) ended has = absurd (cc has)
 none-missing all (Text code.Mask) ended has = absurd (cc has)
 none-missing all (Text code.NoEnd) ended has = both_ways _ (ap not ended) has
 none-missing all (Text code.After) ended has = absurd (cc has)
-none-missing all (Track fault) ended has = absurd (cc has.0)
+none-missing all (Track fault address) ended has = absurd (cc has.0)
 
 -- Records that are passed to their end have no fault on the way or after it.
 none-from : (before : List TrackRecord) (rows : List (List (List ℕ))) (all earlier : List TrackRecord) (more : ℕ) (why : Fault) → ArePassed before rows all → has_ended (shared_of all) ≡ true

@@ -4,13 +4,15 @@ use Rattle.std.specs.Prelude.{◌+◌, ◌<◌, slice_get, slice_index_or, take}
 use Rattle.std.proofs.lemmas.Bool.{both_ways, cases_order}
 use Rattle.flight.specs.declared.place.Place.{Place}
 use Rattle.leg_rows.specs.Rows.{AreFlyable, IsFirstExcess}
-use Rattle.track_file.specs.Along.{IsFast, IsFaultOf, rounded_rows}
+use Rattle.enc_file.specs.Earlier.{crafts_of}
+use Rattle.track_file.specs.Along.{IsFast, IsFaultOf, craft_at, rounded_rows}
 use Rattle.track_file.specs.declared.along.TrackFault.{TrackFault}
 use Rattle.track_file.specs.declared.along.TrackFault.TheVariants.{Cover, Rate}
 use Rattle.track_file.specs.declared.track.Point.{Point}
 use Rattle.enc_file.proofs.LowestCode.{number-within, same-code}
 use Rattle.track_text.specs.Codes.{fault_number, track_number}
-use Rattle.track_text.specs.Conditions.{ArePassed, HasFault, IsLowestFault, IsRefused, said_by}
+use Rattle.track_text.specs.Conditions.{ArePassed, HasFault, IsLowestFault, IsRefused, address_at, said_by}
+use Rattle.track_text.specs.Earlier.{shared_of}
 use Rattle.track_text.specs.declared.record.TrackRecord.{TrackRecord}
 use Rattle.track_text.specs.declared.refusal.Fault.{Fault}
 use Rattle.track_text.specs.declared.refusal.Fault.TheVariants.{Text, Track}
@@ -62,11 +64,16 @@ track-same cycles tracks (Cover x) (Rate y d) same one two = absurd (omega (arit
 track-same cycles tracks (Rate x c) (Cover y) same one two = absurd (omega (arith, same))
 track-same cycles tracks (Rate x c) (Rate y d) same one two = fast-same (rounded_rows cycles tracks) x c y d one.1 two.1
 
+same-address : (x y : ℕ) → Some x ≡ Some y → x ≡ y
+same-address x y is = cc is
+
 number-same : (earlier : List TrackRecord) (next : Option (List (List ℕ))) (a b : Fault) → fault_number a ≡ fault_number b → HasFault earlier next a → HasFault earlier next b → a ≡ b
 number-same earlier next (Text a) (Text b) same one two = ap Text (same-code a b same)
-number-same earlier next (Text a) (Track b) same one two = absurd (omega (arith, same, track-late b, (number-within a).1))
-number-same earlier next (Track a) (Text b) same one two = absurd (omega (arith, same, track-late a, (number-within b).1))
-number-same earlier next (Track a) (Track b) same one two = ap Track (track-same _ _ a b same one.1 two.1)
+number-same earlier next (Text a) (Track b y) same one two = absurd (omega (arith, same, track-late b, (number-within a).1))
+number-same earlier next (Track a x) (Text b) same one two = absurd (omega (arith, same, track-late a, (number-within b).1))
+number-same earlier next (Track a x) (Track b y) same one two =
+    let alike = track-same _ _ a b same one.1 two.1 in
+    ap (λ fault. Track fault x) alike ∙ ap (Track b) (same-address x y (sym one.2 ∙ ap (λ fault. address_at (crafts_of (shared_of earlier)) (craft_at fault)) alike ∙ two.2))
 
 lowest-same : (earlier : List TrackRecord) (next : Option (List (List ℕ))) (a b : Fault) → IsLowestFault earlier next a → IsLowestFault earlier next b → a ≡ b
 lowest-same earlier next a b one two = elim (cases_order (fault_number a) (fault_number b)) [

@@ -12,4 +12,4 @@ track_number (Rate craft cycle) = 14
 
 abbrev pub fault_number : Fault → ℕ
 fault_number (Text code) = code_number code
-fault_number (Track fault) = track_number fault
+fault_number (Track fault address) = track_number fault

@@ -3,6 +3,7 @@
 use Rattle.std.specs.Prelude.{◌≡◌, ℕ, ℤ, ◌+◌, ◌==◌, ◌<◌, ◌&&◌, ◌||◌, not, Bool, true, false, pos, neg_ℤ, if◌then◌else◌, List, [], ◌∷◌, length, codes, Option, Some, None, option_map, is_none, is_some, slice_get, take, Result, Ok, Err}
 use Rattle.std.specs.List.{list_any}
 use Rattle.std.specs.Str.{bytes_eq}
+use Rattle.acas_base.specs.declared.craft.CraftSpec.{CraftSpec}
 use Rattle.enc_file.specs.Conditions as enc
 use Rattle.enc_file.specs.Conditions.{CraftKind, RecordKind, if_going, if_said, is_first, is_stranger, no_address, no_number}
 use Rattle.enc_file.specs.Earlier.{crafts_of, for_index, has_ended}
@@ -12,7 +13,7 @@ use Rattle.enc_file.specs.Values.{address_in, field, kind_in, number_in}
 use Rattle.enc_file.specs.declared.record.Record.TheVariants as said
 use Rattle.enc_file.specs.declared.refusal.Code.{Code}
 use Rattle.enc_file.specs.declared.refusal.Code.TheVariants as code
-use Rattle.track_file.specs.Along.{IsFaultOf}
+use Rattle.track_file.specs.Along.{IsFaultOf, craft_at}
 use Rattle.track_file.specs.Track.{is_from}
 use Rattle.track_text.specs.Codes.{fault_number}
 use Rattle.track_text.specs.Earlier.{cycles_of, shared_of, track_of, tracks_of}
@@ -94,10 +95,15 @@ has_text_fault earlier next code.Mask = if_kind earlier next is_masked
 has_text_fault earlier next code.NoEnd = is_none next && not (has_ended (shared_of earlier))
 has_text_fault earlier next code.After = is_some next && has_ended (shared_of earlier)
 
+-- The address of the aircraft with an index.
+abbrev pub address_at : List CraftSpec → ℕ → Option ℕ
+address_at crafts index = option_map (λ (craft : CraftSpec). craft.address) (slice_get crafts index)
+
 -- The next record has this fault. At the end, the aircraft can't fly along their tracks.
 abbrev pub HasFault : List TrackRecord → Option (List (List ℕ)) → Fault → Type 0
 HasFault earlier next (Text why) = has_text_fault earlier next why ≡ true
-HasFault earlier next (Track fault) = (next ≡ Some end_record) × IsFaultOf (cycles_of earlier) (tracks_of earlier) fault
+HasFault earlier next (Track fault address) =
+    (next ≡ Some end_record) × IsFaultOf (cycles_of earlier) (tracks_of earlier) fault × (address_at (crafts_of (shared_of earlier)) (craft_at fault) ≡ Some address)
 
 -- There is this fault, and none with a lower number.
 pub record IsLowestFault (earlier : List TrackRecord) (next : Option (List (List ℕ))) (why : Fault) : Type 0 where

@@ -4,3 +4,4 @@ pub mod Earlier
 pub mod Conditions
 pub mod Reading
 pub mod Tables
+pub mod Telling

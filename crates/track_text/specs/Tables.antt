@@ -12,10 +12,10 @@ use Rattle.enc_file.specs.declared.record.Record.{Record}
 use Rattle.enc_file.specs.declared.record.Record.TheVariants as said
 use Rattle.enc_file.specs.declared.refusal.Code.{Code}
 use Rattle.enc_file.specs.declared.refusal.Code.TheVariants as code
-use Rattle.track_file.specs.Along.{CanBeFlown, IsFaultOf}
+use Rattle.track_file.specs.Along.{CanBeFlown, IsFaultOf, craft_at}
 use Rattle.track_file.specs.Track.{IsPoint, IsTrack}
 use Rattle.track_file.specs.declared.track.Point.{Point}
-use Rattle.track_text.specs.Conditions.{HasNoFault, IsLowestFault, has_point_since, said_by}
+use Rattle.track_text.specs.Conditions.{HasNoFault, IsLowestFault, address_at, has_point_since, said_by}
 use Rattle.track_text.specs.Earlier.{cycles_of, is_end, shared_of, track_of, tracks_of}
 use Rattle.track_text.specs.Reading.{IsMade, Refuses}
 use Rattle.track_text.specs.declared.record.TrackRecord.{TrackRecord}
@@ -49,7 +49,8 @@ ends (At address point) = false
 -- A record has this fault after those before it, and none with a lower number.
 abbrev pub IsFirstFault : List TrackRecord → TrackRecord → Fault → Type 0
 IsFirstFault earlier now (Text why) = fault_of earlier now ≡ Some why
-IsFirstFault earlier now (Track fault) = (fault_of earlier now ≡ None) × (ends now ≡ true) × IsFaultOf (cycles_of earlier) (tracks_of earlier) fault
+IsFirstFault earlier now (Track fault address) =
+    (fault_of earlier now ≡ None) × (ends now ≡ true) × IsFaultOf (cycles_of earlier) (tracks_of earlier) fault × (address_at (crafts_of (shared_of earlier)) (craft_at fault) ≡ Some address)
 
 -- It has none.
 pub record IsFine (earlier : List TrackRecord) (now : TrackRecord) : Type 0 where

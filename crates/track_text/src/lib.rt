@@ -1,4 +1,4 @@
-//! The text of recorded tracks: read from bytes to the encounter whose aircraft fly along them.
+//! The text of recorded tracks: read from bytes to the encounter whose aircraft fly along them, or to why there is none.
 #![tactic(auto)]
 
 mod laws;
@@ -7,8 +7,10 @@ mod record;
 mod refusal;
 mod saying;
 mod tables;
+mod told;
 
 pub use laws::{once_law, only_law};
 pub use reading::read;
 pub use record::TrackRecord;
 pub use refusal::{Fault, ReadError, Refusal};
+pub use told::explained;

@@ -3,6 +3,7 @@ ghost use Rattle.std.specs.Prelude.{◌≡◌};
 ghost use Rattle.track_text.specs.Codes.{fault_number};
 ghost use Rattle.track_text.specs.declared.refusal.ReadError.TheVariants.{OutOfMemory, Refused};
 
+use acas_base::Address;
 use enc_file::Code;
 use std::alloc::{AllocError, AllocFailed};
 use thiserror::Error;
@@ -13,8 +14,8 @@ use track_file::TrackFault;
 pub enum Fault {
     /// A fault that the text of an encounter can have, too. It isn't `Box`.
     Text(Code),
-    /// At the end: the aircraft can't fly along their tracks.
-    Track(TrackFault),
+    /// At the end: the aircraft can't fly along their tracks. The address is that of the aircraft at fault.
+    Track(TrackFault, Address),
 }
 
 impl Fault {
@@ -24,8 +25,8 @@ impl Fault {
     {
         match self {
             Fault::Text(code) => code.number(),
-            Fault::Track(TrackFault::Cover { .. }) => 13,
-            Fault::Track(TrackFault::Rate { .. }) => 14,
+            Fault::Track(TrackFault::Cover { .. }, _) => 13,
+            Fault::Track(TrackFault::Rate { .. }, _) => 14,
         }
     }
 }

@@ -1,9 +1,10 @@
 // What the records of tracks so far give, and what is wrong with the next one.
-ghost use Rattle.std.specs.Prelude.{◌≡◌, ◌-◌, ◌<◌, ◌^◌, [], List, IfOk, MatchResult, None, false, length};
+ghost use Rattle.std.specs.Prelude.{◌≡◌, ◌-◌, ◌<◌, ◌^◌, [], List, IfOk, MatchResult, None, Some, false, length};
 ghost use Rattle.std.specs.List.{list_any};
 ghost use Rattle.csv.specs.Records.{fields_of};
+ghost use Rattle.track_file.specs.Along.{craft_at};
 ghost use Rattle.track_file.specs.Track.{IsPoint, IsTrack, is_from};
-ghost use Rattle.track_text.specs.Conditions.{IsLowestFault};
+ghost use Rattle.track_text.specs.Conditions.{IsLowestFault, address_at};
 ghost use Rattle.track_text.specs.Earlier.{is_end};
 ghost use Rattle.track_text.specs.Reading.{IsMade, Refuses, refusal_after};
 ghost use Rattle.track_text.specs.Tables.{Adds, AreBare, AreBegun, HoldsTracks, IsHeld, IsKept, IsTrackSaid, KeepsTracks, Takes};
@@ -13,11 +14,11 @@ ghost use Rattle.track_text.specs.declared.record.TrackRecord.{TrackRecord};
 use crate::record::TrackRecord;
 use crate::refusal::{Fault, ReadError, Refusal};
 use crate::saying::{VERSION, is_header, record_of};
-use acas_base::{Address, CRAFTS, Encounter};
+use acas_base::{Address, CRAFTS, CraftSpec, Encounter};
 use csv::ByteRecord;
 use enc_file::{Code, ReadError as SharedError, Record, Tables, index_of, missing_after};
 use std::alloc::{AllocError, Global};
-use track_file::{Point, fly_along};
+use track_file::{Point, TrackFault, fly_along};
 
 // Whether some point of a track is at a time or after it.
 fn is_since(points: &[Point], time: i32) -> bool
@@ -49,6 +50,14 @@ fn no_tracks(alloc: Global) -> Result<Vec<Vec<Point>>, AllocError>
         tracks.push(Vec::new(alloc))?;
     }
     Ok(tracks)
+}
+
+// The address of the aircraft at fault.
+fn address_of(crafts: &[CraftSpec], fault: TrackFault) -> Address
+    requires { craft_at fault < length crafts.now }
+    ensures { address_at crafts.now (craft_at fault) ≡ Some result }
+{
+    crafts[usize::from(fault.craft())].address
 }
 
 impl TrackTables {
@@ -138,7 +147,10 @@ impl TrackTables {
                 self.count += 1;
                 Ok(())
             }
-            Err(fault) => Err(self.refused(Fault::Track(fault))),
+            Err(fault) => {
+                let address = address_of(encounter.crafts(), fault);
+                Err(self.refused(Fault::Track(fault, address)))
+            }
         }
     }
 

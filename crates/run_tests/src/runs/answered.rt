@@ -98,3 +98,38 @@ fn makes_and_plays_encounters(rt: HostRuntime) -> Result<(), Fail> {
     assert!(rt; run(&rt, "gen 4294967295 16 600", b"")?.status == Status::Done);
     Ok(())
 }
+
+#[test]
+fn explains_what_it_reads(rt: HostRuntime) -> Result<(), Fail> {
+    let right = b"encounter: 1 aircraft (1 RA, 0 TA, 0 XPDR), 1 cycles, 4 records\n";
+    let legal = b"recording: legal, 1 entries\n";
+    assert!(rt;
+        answers(
+            &rt,
+            "explain",
+            b"encounter,1\n\nrun,1,+0\n",
+            Status::Refused,
+            b"refused,2,4\nline 3: GROUND is \"+0\", and has to be a whole number from -1000 to 15000 ft, without a space, a sign or a zero too many\n"
+        )?
+    );
+    assert!(rt;
+        answers(
+            &rt,
+            "explain",
+            b"encounter,1\nrun,1,0\ncraft,400A01,RA,0,0,0\nend\n",
+            Status::Done,
+            right
+        )?
+    );
+    assert!(rt; answers(&rt, "explain", ONE_CYCLE_RECORDING, Status::Done, legal)?);
+    assert!(rt;
+        answers(
+            &rt,
+            "explain",
+            b"recording,1",
+            Status::Wrong,
+            b"wrong,1,2\n"
+        )?
+    );
+    Ok(())
+}

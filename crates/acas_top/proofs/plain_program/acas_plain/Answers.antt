@@ -21,7 +21,7 @@ returns-in-Ok-answer_to-clause-ended g c =
     let plain = c.in-Some.plain in
     let said = c.in-Some.ensures.some in
     let answer = c.in-Ok-answer_to.answer in
-    let answers : AnswersPlain plain c.in-Ok.bytes.items (answer_status answer) (answer_text answer) = rw c.as_slice.ensures.value at c.in-Ok-answer_to.ensures in
+    let answers : AnswersPlain plain c.in-Ok.bytes.items (answer_status answer) (answer_text answer) = c.in-Ok-answer_to.ensures in
     put-ends (Plain plain) c.in-Ok.bytes.items (answer_text answer) (answer_status answer) c.put_answer.result said c.in-Some.ensures.valid (λ none. none plain c.in-Some.ensures.valid said) c.in-Ok.ensures.untouched
     c.in-Ok.ensures.read c.in-Ok.ensures.no_fault answers c.put_answer.ensures
 
@@ -29,7 +29,7 @@ pub returns-in-Ok-answer_to-clause-played : goal.returns-in-Ok-answer_to-clause-
 returns-in-Ok-answer_to-clause-played g c = λ also done.
     let plain = c.in-Some.plain in
     let answer = c.in-Ok-answer_to.answer in
-    let answers : AnswersPlain plain c.in-Ok.bytes.items (answer_status answer) (answer_text answer) = rw c.as_slice.ensures.value at c.in-Ok-answer_to.ensures in
+    let answers : AnswersPlain plain c.in-Ok.bytes.items (answer_status answer) (answer_text answer) = c.in-Ok-answer_to.ensures in
     let put = put-done (answer_status answer) c.put_answer.result (answer_text answer) _ _ _ _ done c.put_answer.ensures in
     let done_answers = subst (λ (status : Status). AnswersPlain plain c.in-Ok.bytes.items status (answer_text answer)) put.0 answers in
     done-serial (Plain plain) _ _ _ c.in-Ok.bytes.items (answer_text answer) _ c.in-Some.ensures.some done_answers c.in-Ok.ensures.read put.1 also

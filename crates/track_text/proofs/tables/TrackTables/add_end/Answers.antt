@@ -1,6 +1,6 @@
 use Rattle.std.proofs.Common.{◌≡◌, ◌∙◌, ◌≤◌, Global, Vec, ap, arith, length, map, refl, subst, sym, take}
 use Rattle.std.specs.Prelude.{All}
-use Rattle.std.proofs.lemmas.List.{length-take-le}
+use Rattle.std.proofs.lemmas.List.{length-map, length-take-le}
 use Rattle.std.proofs.lemmas.List.Elements.{All-take}
 use Rattle.acas_base.specs.Encounter.{Parts}
 use Rattle.enc_file.specs.Earlier.{crafts_of}
@@ -12,7 +12,9 @@ use Rattle.track_text.specs.Earlier.{shared_of, tracks_of}
 use Rattle.track_text.specs.Tables.{IsFirstFault, headed}
 use Rattle.track_text.specs.declared.record.TrackRecord.TheVariants.{Shared}
 use Rattle.track_text.specs.declared.refusal.Fault.TheVariants.{Text, Track}
-use Rattle.track_text.proofs.Ending.{end-counted, end-fault, end-made, few-crafts, tracks-are}
+use Rattle.track_file.specs.Along.{craft_at}
+use Rattle.track_text.specs.Conditions.{address_at}
+use Rattle.track_text.proofs.Ending.{end-counted, end-fault, end-made, fault-within, few-crafts, tracks-are}
 use Rattle.track_text.proofs.Kept.{headed-same, refuses, wanting}
 use Rattle.track_text.proofs.tables.TrackTables.add_end.Goals as goal
 
@@ -65,5 +67,17 @@ returns c = λ earlier begun kept.
     let many : n ≡ length (crafts_of (shared_of earlier)) = ap (λ l. length l) (c.crafts-count.ensures.value ∙ ap (λ (p : Parts). p.crafts) so.1 ∙ ap crafts_of (headed-same (shared_of earlier) begun.some)) in
     let few : n ≤ length c.args.self.now.tracks.items = omega (arith, many, few-crafts earlier c.args.self.now kept, ap (λ s. length (crafts_of s)) (headed-same (shared_of earlier) begun.some)) in
     let are : map (λ (v : Vec Point Global). v.items) (take n c.deref.result.now) ≡ tracks_of earlier = ap (λ l. map (λ (v : Vec Point Global). v.items) (take n l)) c.deref.ensures.value ∙ tracks-are earlier c.args.self.now n kept many few in
-    refuses earlier c.args.self.now (IsFirstFault earlier (Shared said.End)) (Track c.in-Err.fault) c.refused-in-Err.result kept.count
-    (end-fault earlier c.in-Some.encounter (map (λ (v : Vec Point Global). v.items) (take n c.deref.result.now)) c.in-Err.fault begun so are (rw c.in-Err.is at c.in_ok-made.ensures.fault)) c.refused-in-Err.ensures
+    refuses earlier c.args.self.now (IsFirstFault earlier (Shared said.End)) (Track c.in-Err.fault c.address_of-address.result) c.refused-in-Err.result kept.count
+    (end-fault earlier c.in-Some.encounter (map (λ (v : Vec Point Global). v.items) (take n c.deref.result.now)) c.in-Err.fault c.address_of-address.result begun so are (rw c.in-Err.is at c.in_ok-made.ensures.fault)
+    (ap (λ l. address_at l (craft_at c.in-Err.fault)) (sym c.crafts-address.ensures.value) ∙ c.address_of-address.ensures)) c.refused-in-Err.ensures
+
+pub address_of-address-requires : goal.address_of-address-requires
+address_of-address-requires c =
+    let earlier = c.requires.kept.0 in
+    let kept = c.requires.kept.1 in
+    let so = rw c.in-Some.is at (c.in_ok-encounter.ensures (headed (shared_of earlier)) kept.tables) in
+    let n = length c.crafts-count.result.now in
+    let many : n ≡ length (crafts_of (headed (shared_of earlier))) = ap (λ l. length l) (c.crafts-count.ensures.value ∙ ap (λ (p : Parts). p.crafts) so.1) in
+    let few = length-take-le n c.deref.result.now (omega (arith, many, few-crafts earlier c.args.self.now kept, ap (λ l. length l) c.deref.ensures.value)) in
+    let within = fault-within c.in-Some.encounter.cycles (map (λ (v : Vec Point Global). v.items) (take n c.deref.result.now)) c.in-Err.fault (rw c.in-Err.is at c.in_ok-made.ensures.fault) in
+    omega (arith, within, length-map (take n c.deref.result.now) (λ (v : Vec Point Global). v.items), few, ap (λ l. length l) c.crafts-count.ensures.value, ap (λ l. length l) c.crafts-address.ensures.value)
