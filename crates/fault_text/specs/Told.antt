@@ -13,6 +13,7 @@ use Rattle.enc_file.specs.declared.refusal.Refusal.{Refusal}
 use Rattle.fault_text.specs.Before.{TellsCounted, TellsRepeat, TellsUnknown}
 use Rattle.fault_text.specs.Lines.{IsPlaced, Stands, fields_in, file_lines, is_written, written}
 use Rattle.fault_text.specs.Names.{first_failing, names_of, word_text}
+use Rattle.fault_text.specs.Sentences.{sentence}
 use Rattle.fault_text.specs.declared.fault.Fault.{Fault}
 use Rattle.fault_text.specs.declared.fault.Why.{Why}
 use Rattle.fault_text.specs.declared.fault.Why.TheVariants as why
@@ -188,3 +189,9 @@ pub record Explains (text : List ℕ) (refusal : Refusal) (fault : Fault) : Type
   pub line : List ℕ
   pub place : Stands (file_lines text) refusal.at fault.line line
   pub tells : Tells refusal.code text refusal.at line fault.why
+
+-- The line is the sentence of what is wrong with a refused text.
+pub record IsExplained (text : List ℕ) (refusal : Refusal) (line : List ℕ) : Type 0 where
+  pub fault : Fault
+  pub explains : Explains text refusal fault
+  pub line_is : line ≡ sentence fault

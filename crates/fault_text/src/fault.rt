@@ -1,18 +1,18 @@
 // Why a text is refused, as a value.
-ghost use Rattle.std.specs.Prelude.{◌≡◌, ◌≤◌, ◌-◌, ◌<◌, ◌^◌, Err, false, length, true};
+ghost use Rattle.std.specs.Prelude.{◌≡◌, ◌≤◌, ◌-◌, ◌<◌, ◌^◌, Err, IfOk, false, length, true};
 ghost use Rattle.enc_file.specs.Conditions.{is_address_wrong, is_count_wrong, is_masked, is_number_wrong, is_turned};
 ghost use Rattle.enc_file.specs.Reading.{reading_of};
 ghost use Rattle.fault_text.specs.Lines.{fields_in, file_lines};
-ghost use Rattle.fault_text.specs.Told.{Explains, IsAtFault, IsFormat, IsHeaded, IsNamedAgainst, IsRecord, Tells, TellsAddress, TellsAfterEarlier, TellsHeader, TellsMask, TellsNumber, TellsRecord, TellsTurned, stated_kind};
+ghost use Rattle.fault_text.specs.Told.{Explains, IsAtFault, IsExplained, IsFormat, IsHeaded, IsNamedAgainst, IsRecord, Tells, TellsAddress, TellsAfterEarlier, TellsHeader, TellsMask, TellsNumber, TellsRecord, TellsTurned, stated_kind};
 
 use crate::against::against_why;
-use crate::earlier::Sought;
 use crate::fields::{count, field, kind_of, version_of};
 use crate::lines::place_of;
 use crate::names::{FieldName, RecordKind};
 use crate::search::leftmost;
-use acas_base::Address;
+use acas_text::Line;
 use enc_file::{Code, Refusal, count_in, mask_in};
+use std::alloc::{AllocError, Global};
 
 /// What is wrong with a refused text, and where.
 #[derive(Clone, Copy)]
@@ -64,9 +64,11 @@ pub enum Why<'a> {
         found: &'a [u8],
         bits: u32,
     },
-    /// There may be one such record alone. An earlier one stands in this line, the last such before this one.
+    /// There may be one such record alone, or one about each aircraft or pair. `refused` is the line of this record. An
+    /// earlier one about the same aircraft or pair stands in `line`, the last such before this one.
     Again {
-        of: Sought,
+        kind: RecordKind,
+        refused: &'a [u8],
         line: u32,
     },
     /// The number isn't above the one that the last earlier record of this kind about the same aircraft or pair has.
@@ -80,11 +82,11 @@ pub enum Why<'a> {
     /// No earlier aircraft has the address that stands in the field.
     Unknown {
         name: FieldName,
-        address: Address,
+        found: &'a [u8],
     },
     /// The two addresses are equal.
     Equal {
-        address: Address,
+        found: &'a [u8],
     },
     /// One aircraft too many for the text's format, 1 or 2.
     ManyCrafts {
@@ -192,7 +194,7 @@ fn record_why(code: Code, version: u8, line: &[u8]) -> Why<'_>
 }
 
 // What is wrong with a record of a known kind after those before it.
-fn earlier_why(text: &[u8], refusal: Refusal, version: u8, line: &[u8]) -> Why<'static>
+fn earlier_why<'a>(text: &[u8], refusal: Refusal, version: u8, line: &'a [u8]) -> Why<'a>
     requires few { length text.now < 2 ^ 32 - 1 }
     requires version { IsFormat text.now version }
     requires against { IsNamedAgainst text.now refusal version line.now }
@@ -254,4 +256,16 @@ pub fn explain(text: &[u8], refusal: Refusal) -> Fault<'_>
         line: place.number,
         why: why_of(text, refusal, place.line),
     }
+}
+
+/// The sentence that says what is wrong with a refused text, as a line: that of the fault that [`explain`] gives.
+///
+/// The error says that memory was wanting.
+pub fn explained(alloc: Global, text: &[u8], refusal: Refusal) -> Result<Line, AllocError>
+    requires few { length text.now < 2 ^ 32 - 1 }
+    requires refused { reading_of text.now ≡ Err refusal }
+    ensures { IfOk result (IsExplained text.now refusal) }
+{
+    let _ = alloc;
+    Ok(explain(text, refusal).sentence())
 }

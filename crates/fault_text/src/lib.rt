@@ -13,8 +13,7 @@ mod search;
 mod sentence;
 mod shown;
 
-pub use earlier::Sought;
-pub use fault::{Fault, Why, explain};
+pub use fault::{Fault, Why, explain, explained};
 pub use faultless::faultless_line;
 pub use fields::{field, kind_of};
 pub use lines::{FileLines, begins_recording, records_law};

@@ -285,22 +285,24 @@ fn add_why(line: &mut Line, why: &Why<'_>)
             line.u32(bits);
             line.text(" of its bits are 1, and at most three may be");
         }
-        Why::Again { of, line: number } => add_again(line, of, number),
+        Why::Again {
+            kind,
+            refused,
+            line: number,
+        } => add_again(line, Sought::alike(kind, refused), number),
         Why::NotAbove {
             kind,
             found,
             reached,
             line: number,
         } => add_not_above(line, kind, found, reached, number),
-        Why::Unknown { name, address } => {
-            line.text(name.text());
-            line.text(" is ");
-            add_address(line, address);
+        Why::Unknown { name, found } => {
+            add_found(line, name, found);
             line.text(", which has no craft record before this line");
         }
-        Why::Equal { address } => {
+        Why::Equal { found } => {
             line.text("the two addresses are equal, ");
-            add_address(line, address);
+            add_shown(line, found);
         }
         Why::ManyCrafts { version } => line.text(many_crafts_text(version)),
         Why::NoRun => line.text("there is no run record"),

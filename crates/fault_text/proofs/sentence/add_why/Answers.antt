@@ -32,3 +32,16 @@ returns-in-NoEnd-clause-added c = c.text-in-NoEnd.ensures.added ∙ ap (λ w. c.
 pub returns-in-After-clause-added : goal.returns-in-After-clause-added
 returns-in-After-clause-added c =
     two c.args.line.now c.text-in-After.new.self c.u32-in-After.new.self _ _ c.text-in-After.ensures.added c.u32-in-After.ensures.added ∙ ap (λ w. c.args.line.now ++ why_text w) (sym c.in-After.is)
+
+pub returns-in-Equal-clause-added : goal.returns-in-Equal-clause-added
+returns-in-Equal-clause-added c =
+    two c.args.line.now c.text-in-Equal.new.self c.add_shown-in-Equal.new.line _ _ c.text-in-Equal.ensures.added c.add_shown-in-Equal.ensures.added ∙ ap (λ w. c.args.line.now ++ why_text w) (sym c.in-Equal.is)
+
+pub returns-in-NoRun-clause-added : goal.returns-in-NoRun-clause-added
+returns-in-NoRun-clause-added c = c.text-in-NoRun.ensures.added ∙ ap (λ w. c.args.line.now ++ why_text w) (sym c.in-NoRun.is)
+
+pub returns-in-NoneActive-clause-added : goal.returns-in-NoneActive-clause-added
+returns-in-NoneActive-clause-added c = c.text-in-NoneActive.ensures.added ∙ ap (λ w. c.args.line.now ++ why_text w) (sym c.in-NoneActive.is)
+
+pub returns-in-Outside-clause-added : goal.returns-in-Outside-clause-added
+returns-in-Outside-clause-added c = c.text-in-Outside.ensures.added ∙ ap (λ w. c.args.line.now ++ why_text w) (sym c.in-Outside.is)
