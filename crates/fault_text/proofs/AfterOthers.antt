@@ -105,7 +105,7 @@ tells-above text refusal k line a place found reached e up last one two =
 given-of : (address : ℕ) (earlier : List Record) (b : Bool) → list_any (is_about (of-craft kind.Craft address)) earlier ≡ b → is_given earlier address ≡ b
 given-of address earlier b e = given-any address earlier ∙ e
 
-stranger-unknown : (text : List ℕ) (refusal : Refusal) (r : IsRefused (records_of text) refusal) (address : ℕ) → IsLastBefore (of-craft kind.Craft address) (file_lines text) refusal.at None → is_given r.earlier address ≡ false
+pub stranger-unknown : (text : List ℕ) (refusal : Refusal) (r : IsRefused (records_of text) refusal) (address : ℕ) → IsLastBefore (of-craft kind.Craft address) (file_lines text) refusal.at None → is_given r.earlier address ≡ false
 stranger-unknown text refusal r address none = given-of address r.earlier false (found-none text refusal r (of-craft kind.Craft address) (craft-fit address) none)
 
 pub stranger-none : (text : List ℕ) (refusal : Refusal) (r : IsRefused (records_of text) refusal) (fields : List (List ℕ)) (place : ℕ) (found : List ℕ) (address : ℕ) → found ≡ field fields place → address_in found ≡ Some address

@@ -110,12 +110,8 @@ const AFTER_SIX: [(&[u8], &[u8]); 24] = [
     ),
 ];
 
-// The line of an encounter whose `end` in line 5 is refused, since an aircraft leaves the box.
-const BOX: &[u8] =
-    b"line 5: an aircraft leaves the box: x and y have to be from -1000000 to 1000000 ft, and the altitude from -1000 to 60000 ft, in each cycle of the run\n";
-
 // A text from its start, and the line that tells its fault.
-const WHOLE: [(&[u8], &[u8]); 33] = [
+const WHOLE: [(&[u8], &[u8]); 32] = [
     (
         b"encounter,1\ngains,1,1,1,1\ngains,1,1,1,1\n",
         b"line 3: a second gains record; the first one is in line 2\n",
@@ -135,10 +131,6 @@ const WHOLE: [(&[u8], &[u8]); 33] = [
     (
         b"encounter,1\nrun,1,0\ncraft,400A01,XPDR,0,0,0\nend\n",
         b"line 4: there is no aircraft of kind RA or TA\n",
-    ),
-    (
-        b"encounter,1\nrun,3,0\ncraft,400A01,RA,999000,0,35000\nleg,400A01,1,1000,0,0\nend\n",
-        BOX,
     ),
     (
         b"",
@@ -250,6 +242,59 @@ const WHOLE: [(&[u8], &[u8]); 33] = [
     ),
 ];
 
+// A text whose `end` is refused since an aircraft leaves the box, and the line that tells which one does first, when and
+// where.
+const OUTSIDE: [(&[u8], &[u8]); 12] = [
+    (
+        b"encounter,1\nrun,3,0\ncraft,400A01,RA,999000,0,35000\nleg,400A01,1,1000,0,0\nend\n",
+        b"line 5: aircraft 400A01 leaves the box in cycle 3: x is 1001000 ft, and has to be from -1000000 to 1000000 ft\n",
+    ),
+    (
+        b"encounter,1\nrun,2,0\ncraft,400A01,RA,0,-1000000,0\nleg,400A01,1,0,-1,0\nend\n",
+        b"line 5: aircraft 400A01 leaves the box in cycle 2: y is -1000001 ft, and has to be from -1000000 to 1000000 ft\n",
+    ),
+    (
+        b"encounter,1\nrun,2,0\ncraft,400A01,RA,0,0,60000\nleg,400A01,1,0,0,1\nend\n",
+        b"line 5: aircraft 400A01 leaves the box in cycle 2: altitude is 60000 1/60 ft, and has to be from -1000 to 60000 ft\n",
+    ),
+    (
+        b"encounter,1\nrun,2,0\ncraft,400A01,RA,0,0,60000\nleg,400A01,1,0,0,119\nend\n",
+        b"line 5: aircraft 400A01 leaves the box in cycle 2: altitude is 60001 59/60 ft, and has to be from -1000 to 60000 ft\n",
+    ),
+    (
+        b"encounter,1\nrun,2,0\ncraft,400A01,RA,0,0,-1000\nleg,400A01,1,0,0,-1\nend\n",
+        b"line 5: aircraft 400A01 leaves the box in cycle 2: altitude is -1000 1/60 ft, and has to be from -1000 to 60000 ft\n",
+    ),
+    (
+        b"encounter,1\nrun,2,0\ncraft,400A01,RA,0,0,-1000\nleg,400A01,1,0,0,-60\nend\n",
+        b"line 5: aircraft 400A01 leaves the box in cycle 2: altitude is -1001 ft, and has to be from -1000 to 60000 ft\n",
+    ),
+    (
+        b"encounter,1\nrun,3,0\ncraft,400B02,XPDR,999999,0,0\ncraft,400A01,RA,1000000,0,0\nleg,400A01,1,1,0,0\nleg,400B02,2,2,0,0\nend\n",
+        b"line 7: aircraft 400B02 leaves the box in cycle 3: x is 1000001 ft, and has to be from -1000000 to 1000000 ft\n",
+    ),
+    (
+        b"encounter,1\nrun,3,0\ncraft,400B02,RA,0,0,0\ncraft,400A01,RA,1000000,0,0\nleg,400A01,2,1,0,0\nend\n",
+        b"line 6: aircraft 400A01 leaves the box in cycle 3: x is 1000001 ft, and has to be from -1000000 to 1000000 ft\n",
+    ),
+    (
+        b"encounter,1\nrun,3,0\ncraft,400A01,RA,999999,0,60000\nleg,400A01,1,1,0,1\nend\n",
+        b"line 5: aircraft 400A01 leaves the box in cycle 2: altitude is 60000 1/60 ft, and has to be from -1000 to 60000 ft\n",
+    ),
+    (
+        b"encounter,1\nrun,2,0\ncraft,400A01,RA,1000000,1000000,60000\nleg,400A01,1,1,1,1\nend\n",
+        b"line 5: aircraft 400A01 leaves the box in cycle 2: x is 1000001 ft, and has to be from -1000000 to 1000000 ft\n",
+    ),
+    (
+        b"encounter,1\nrun,2,0\ncraft,400A01,RA,0,1000000,60000\nleg,400A01,1,0,1,1\nend\n",
+        b"line 5: aircraft 400A01 leaves the box in cycle 2: y is 1000001 ft, and has to be from -1000000 to 1000000 ft\n",
+    ),
+    (
+        b"\xEF\xBB\xBFencounter,2\r\n\r\nrun,2,0\r\ncraft,400A01,RA,0,0,60000\r\nclimb,400A01,60000\r\nleg,400A01,1,0,0,60\r\nend\r\n",
+        b"line 7: aircraft 400A01 leaves the box in cycle 2: altitude is 60001 ft, and has to be from -1000 to 60000 ft\n",
+    ),
+];
+
 // The example with the number of each record.
 const EXAMPLE: [(usize, &[u8]); 7] = [
     (1, b"encounter,1\n"),
@@ -339,15 +384,11 @@ const CHANGED: [(usize, &[u8], &[u8]); 25] = [
         b"fate,400A01,400A01,1\nend\n",
         b"line 7: the two addresses are equal, \"400A01\"\n",
     ),
-    (
-        2,
-        b"",
-        b"line 6: there is no run record\n",
-    ),
+    (2, b"", b"line 6: there is no run record\n"),
     (
         3,
         b"craft,400A01,TA,990000,0,35000\n",
-        b"line 7: an aircraft leaves the box: x and y have to be from -1000000 to 1000000 ft, and the altitude from -1000 to 60000 ft, in each cycle of the run\n",
+        b"line 7: aircraft 400A01 leaves the box in cycle 15: x is 1000640 ft, and has to be from -1000000 to 1000000 ft\n",
     ),
     (
         7,
@@ -454,6 +495,7 @@ fn first_other_change(alloc: Global) -> Result<Option<usize>, AllocError> {
 fn faults_are_told(rt: HostRuntime) -> Result<(), Fail> {
     assert_eq!(rt; first_other(rt.alloc(), FRONT, &AFTER_SIX)?, None);
     assert_eq!(rt; first_other(rt.alloc(), b"", &WHOLE)?, None);
+    assert_eq!(rt; first_other(rt.alloc(), b"", &OUTSIDE)?, None);
     assert_eq!(rt; first_other_change(rt.alloc())?, None);
     Ok(())
 }
