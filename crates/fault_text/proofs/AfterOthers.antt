@@ -1,10 +1,11 @@
 -- What is told of a record that has a fault after those before it.
 use Rattle.std.proofs.Common.{◌≡◌, ◌∙◌, ℕ, ◌≤◌, Bool, true, false, List, [], ◌∷◌, ◌++◌, length, Option, Some, None, refl, sym, ap, subst, arith, leb-true, eqb-true}
+use Rattle.std.specs.Borrow.{Bor}
 use Rattle.std.specs.Prelude.{◌==◌, ◌||◌, not, is_none, is_some}
 use Rattle.std.specs.List.{list_any}
 use Rattle.std.proofs.lemmas.Bool.{false≢true}
 use Rattle.std.proofs.lemmas.List.Folds.{list_any-append}
-use Rattle.std.proofs.lemmas.Option.{none-some, same_Some}
+use Rattle.std.proofs.lemmas.Option.{same_Some}
 use Rattle.acas_base.specs.Encounter.{is_active, most_crafts}
 use Rattle.enc_file.specs.Conditions.{IsRefused, if_pair, if_said, is_given, is_miscounted, is_repeat, is_stranger, is_unknown}
 use Rattle.enc_file.specs.Earlier.{crafts_of, run_of, version_of}
@@ -15,7 +16,7 @@ use Rattle.enc_file.specs.declared.record.Run.{Run}
 use Rattle.enc_file.specs.declared.refusal.Code.{Code}
 use Rattle.enc_file.specs.declared.refusal.Code.TheVariants as code
 use Rattle.enc_file.specs.declared.refusal.Refusal.{Refusal}
-use Rattle.fault_text.specs.Before.{Collides, IsLastBefore, TellsEqual, alike, has_first, has_second, is_about, reached_place, rises, rising_place}
+use Rattle.fault_text.specs.Before.{Collides, IsLastBefore, IsStrange, TellsEqual, alike, has_first, has_second, is_about, reached_place, rises, rising_place}
 use Rattle.fault_text.specs.Lines.{fields_in, file_lines}
 use Rattle.fault_text.specs.Told.{IsAgainst, IsFormat, TellsAgainst, TellsEarlier, against_by, stated_kind}
 use Rattle.fault_text.specs.declared.earlier.Sought.{Sought}
@@ -83,11 +84,11 @@ risen text refusal k line a place e up f =
     not-above k (fields_in line) (fields_in place.line.now) f.older f.newer f.now up (subst (λ rs. is_repeat rs (stated_kind k) (fields_in line) ≡ true) f.whole (fault-as text refusal k line code.Repeat a e))
     (record { row-is = is-row f.older (fields_in place.line.now) f.now f.is-said; fine = f.fine; passes = f.passes; last = f.last })
 
-pub tells-again : (text : List ℕ) (refusal : Refusal) (k : RecordKind) (line : List ℕ) (a : IsAgainst text refusal k line) (place : Place) (sought : Sought) → refusal.code ≡ code.Repeat → rises k ≡ false → sought ≡ alike k (fields_in line)
-    → IsLastBefore (alike k (fields_in line)) (file_lines text) refusal.at (Some place) → TellsEarlier text refusal k line (why.Again sought place.number)
-tells-again text refusal k line a place sought e up same last =
+pub tells-again : (text : List ℕ) (refusal : Refusal) (k : RecordKind) (line : List ℕ) (a : IsAgainst text refusal k line) (place : Place) (told : Bor (List ℕ)) → told.now ≡ line → refusal.code ≡ code.Repeat → rises k ≡ false
+    → IsLastBefore (alike k (fields_in line)) (file_lines text) refusal.at (Some place) → TellsEarlier text refusal k line (why.Again k told place.number)
+tells-again text refusal k line a place told same e up last =
     let f = repeat-found text refusal k line a place last in
-    tells-as text refusal k line (why.Again sought place.number) code.Repeat a e (record { once = up; same = same; now = f.now; collides = collides text refusal a.refused k (fields_in line) place f })
+    tells-as text refusal k line (why.Again k told place.number) code.Repeat a e (record { once = up; same = refl; whole = ap fields_in same; now = f.now; collides = collides text refusal a.refused k (fields_in line) place f })
 
 pub tells-above : (text : List ℕ) (refusal : Refusal) (k : RecordKind) (line : List ℕ) (a : IsAgainst text refusal k line) (place : Place) (found reached : ℕ) → refusal.code ≡ code.Repeat → rises k ≡ true
     → IsLastBefore (alike k (fields_in line)) (file_lines text) refusal.at (Some place) → count_in 1 600 (field (fields_in line) (rising_place k)) ≡ Some found → count_in 1 600 (field (fields_in place.line.now) (reached_place k)) ≡ Some reached
@@ -104,8 +105,12 @@ tells-above text refusal k line a place found reached e up last one two =
 given-of : (address : ℕ) (earlier : List Record) (b : Bool) → list_any (is_about (of-craft kind.Craft address)) earlier ≡ b → is_given earlier address ≡ b
 given-of address earlier b e = given-any address earlier ∙ e
 
-pub stranger-none : (text : List ℕ) (refusal : Refusal) (r : IsRefused (records_of text) refusal) (address : ℕ) → IsLastBefore (of-craft kind.Craft address) (file_lines text) refusal.at None → is_given r.earlier address ≡ false
-stranger-none text refusal r address none = given-of address r.earlier false (found-none text refusal r (of-craft kind.Craft address) (craft-fit address) none)
+pub stranger-unknown : (text : List ℕ) (refusal : Refusal) (r : IsRefused (records_of text) refusal) (address : ℕ) → IsLastBefore (of-craft kind.Craft address) (file_lines text) refusal.at None → is_given r.earlier address ≡ false
+stranger-unknown text refusal r address none = given-of address r.earlier false (found-none text refusal r (of-craft kind.Craft address) (craft-fit address) none)
+
+pub stranger-none : (text : List ℕ) (refusal : Refusal) (r : IsRefused (records_of text) refusal) (fields : List (List ℕ)) (place : ℕ) (found : List ℕ) (address : ℕ) → found ≡ field fields place → address_in found ≡ Some address
+    → IsLastBefore (of-craft kind.Craft address) (file_lines text) refusal.at None → IsStrange r.earlier fields place found
+stranger-none text refusal r fields place found address is spelled none = record { stands = is; address = address; spelled = spelled; unknown = stranger-unknown text refusal r address none }
 
 pub stranger-some : (text : List ℕ) (refusal : Refusal) (r : IsRefused (records_of text) refusal) (address : ℕ) (place : Place) → IsLastBefore (of-craft kind.Craft address) (file_lines text) refusal.at (Some place) → is_given r.earlier address ≡ true
 stranger-some text refusal r address place some =
@@ -138,26 +143,18 @@ equal-by earlier kind.Plan fields h one two = pair-by _ _ _ h one (two refl)
 equal-by earlier kind.Fate fields h one two = pair-by _ _ _ h one (two refl)
 equal-by earlier other fields h one two = absurd (false≢true h)
 
-equal-at : (earlier : List Record) (fields : List (List ℕ)) (one two : Option ℕ) (address : ℕ) → address_in (field fields 1) ≡ one → address_in (field fields 2) ≡ two → one ≡ Some address
-    → if_said one (λ first. if_said two (λ second. first == second)) ≡ true → if_said one (λ first. not (is_given earlier first)) ≡ false → TellsEqual earlier fields address
-equal-at earlier fields None two address e f is h known = absurd (false≢true h)
-equal-at earlier fields (Some a) None address e f is h known = absurd (false≢true h)
-equal-at earlier fields (Some a) (Some b) address e f is h known =
-    let same : a ≡ address = same_Some a address is in
-    let equal : a ≡ b = eqb-true a b h in
-    record { first = e ∙ is; second = f ∙ ap Some (sym equal ∙ same); known = ap (is_given earlier) (sym same) ∙ flip (is_given earlier a) known } where
+equal-at : (earlier : List Record) (fields : List (List ℕ)) (found : List ℕ) (one two : Option ℕ) → found ≡ field fields 1 → address_in found ≡ one → address_in (field fields 2) ≡ two
+    → if_said one (λ first. if_said two (λ second. first == second)) ≡ true → if_said one (λ first. not (is_given earlier first)) ≡ false → TellsEqual earlier fields found
+equal-at earlier fields found None two at e f h known = absurd (false≢true h)
+equal-at earlier fields found (Some a) None at e f h known = absurd (false≢true h)
+equal-at earlier fields found (Some a) (Some b) at e f h known =
+    record { stands = at; address = a; first = e; second = f ∙ ap Some (sym (eqb-true a b h)); known = flip (is_given earlier a) known } where
       flip : (b : Bool) → not b ≡ false → b ≡ true
       flip true h = refl
       flip false h = absurd (false≢true (sym h))
 
-pub tells-equal : (earlier : List Record) (fields : List (List ℕ)) (address : ℕ) → address_in (field fields 1) ≡ Some address → if_pair fields (λ pair. pair.first == pair.second) ≡ true → is_stranger earlier fields 1 ≡ false → TellsEqual earlier fields address
-tells-equal earlier fields address is h known = equal-at earlier fields (address_in (field fields 1)) (address_in (field fields 2)) address refl refl is h known
-
-pub equal-some : (fields : List (List ℕ)) → address_in (field fields 1) ≡ None → if_pair fields (λ pair. pair.first == pair.second) ≡ true → ⊥
-equal-some fields e h = none (address_in (field fields 1)) (λ first. if_said (address_in (field fields 2)) (λ second. first == second)) e h where
-  none : (o : Option ℕ) (test : ℕ → Bool) → o ≡ None → if_said o test ≡ true → ⊥
-  none None test e h = false≢true h
-  none (Some x) test e h = none-some x (sym e)
+pub tells-equal : (earlier : List Record) (fields : List (List ℕ)) (found : List ℕ) → found ≡ field fields 1 → if_pair fields (λ pair. pair.first == pair.second) ≡ true → is_stranger earlier fields 1 ≡ false → TellsEqual earlier fields found
+tells-equal earlier fields found at h known = equal-at earlier fields found (address_in (field fields 1)) (address_in (field fields 2)) at (ap address_in at) refl h known
 
 -- Counts.
 pub many-by : (text : List ℕ) (refusal : Refusal) (line : List ℕ) (version : ℕ) (a : IsAgainst text refusal kind.Craft line) → refusal.code ≡ code.Count → IsFormat text version → TellsEarlier text refusal kind.Craft line (why.ManyCrafts version)

@@ -19,3 +19,5 @@ pub mod LastLine
 pub mod AfterOthers
 pub mod NamedAgainst
 pub mod Counted
+pub mod EndRefused
+pub mod Leaves

@@ -147,9 +147,10 @@ rises other = false
 
 -- Of some kinds there is one record alone, or one about each aircraft or pair. Of the other kinds each record about an
 -- aircraft or pair has to exceed the one before.
-pub record TellsAgain (text : List ℕ) (earlier : List Record) (kind : RecordKind) (fields : List (List ℕ)) (sought : Sought) (number : ℕ) : Type 0 where
+pub record TellsAgain (text : List ℕ) (earlier : List Record) (kind : RecordKind) (fields : List (List ℕ)) (named : RecordKind) (told : List (List ℕ)) (number : ℕ) : Type 0 where
   pub once : rises kind ≡ false
-  pub same : sought ≡ alike kind fields
+  pub same : named ≡ kind
+  pub whole : told ≡ fields
   pub now : Record
   pub collides : Collides text earlier kind fields number now
 
@@ -163,27 +164,34 @@ pub record TellsNotAbove (text : List ℕ) (earlier : List Record) (kind : Recor
   pub order : found ≤ reached
 
 abbrev pub TellsRepeat : List ℕ → List Record → RecordKind → List (List ℕ) → Why → Type 0
-TellsRepeat text earlier kind fields (why.Again of number) = TellsAgain text earlier kind fields of number
+TellsRepeat text earlier kind fields (why.Again of line number) = TellsAgain text earlier kind fields of (fields_in line.now) number
 TellsRepeat text earlier kind fields (why.NotAbove of found reached number) = TellsNotAbove text earlier kind fields of found reached number
 TellsRepeat text earlier kind fields other = ⊥
 
--- The address in a field, which no earlier aircraft has.
-pub record TellsStranger (earlier : List Record) (kind : RecordKind) (fields : List (List ℕ)) (place : ℕ) (name : FieldName) (address : ℕ) : Type 0 where
-  pub called : slice_get (names_of kind) (place - 1) ≡ Some name
-  pub spelled : address_in (field fields place) ≡ Some address
+-- The field at a place. It spells an address, which no earlier aircraft has.
+pub record IsStrange (earlier : List Record) (fields : List (List ℕ)) (place : ℕ) (found : List ℕ) : Type 0 where
+  pub stands : found ≡ field fields place
+  pub address : ℕ
+  pub spelled : address_in found ≡ Some address
   pub unknown : is_given earlier address ≡ false
 
--- The two addresses are equal, and an earlier aircraft has them.
-pub record TellsEqual (earlier : List Record) (fields : List (List ℕ)) (address : ℕ) : Type 0 where
-  pub first : address_in (field fields 1) ≡ Some address
+pub record TellsStranger (earlier : List Record) (kind : RecordKind) (fields : List (List ℕ)) (place : ℕ) (name : FieldName) (found : List ℕ) : Type 0 where
+  pub called : slice_get (names_of kind) (place - 1) ≡ Some name
+  pub strange : IsStrange earlier fields place found
+
+-- The first of two equal addresses, which an earlier aircraft has.
+pub record TellsEqual (earlier : List Record) (fields : List (List ℕ)) (found : List ℕ) : Type 0 where
+  pub stands : found ≡ field fields 1
+  pub address : ℕ
+  pub first : address_in found ≡ Some address
   pub second : address_in (field fields 2) ≡ Some address
   pub known : is_given earlier address ≡ true
 
 -- The leftmost unknown address; or, where all are known, two equal ones.
 abbrev pub TellsUnknown : List Record → RecordKind → List (List ℕ) → Why → Type 0
-TellsUnknown earlier kind fields (why.Unknown name address) =
-    TellsStranger earlier kind fields 1 name address ⊎ (TellsStranger earlier kind fields 2 name address × (is_stranger earlier fields 1 ≡ false))
-TellsUnknown earlier kind fields (why.Equal address) = TellsEqual earlier fields address
+TellsUnknown earlier kind fields (why.Unknown name found) =
+    TellsStranger earlier kind fields 1 name found.now ⊎ (TellsStranger earlier kind fields 2 name found.now × (is_stranger earlier fields 1 ≡ false))
+TellsUnknown earlier kind fields (why.Equal found) = TellsEqual earlier fields found.now
 TellsUnknown earlier kind fields other = ⊥
 
 -- One aircraft too many. At the end: no run; or, where there is one, nobody active.

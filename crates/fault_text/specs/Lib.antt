@@ -6,3 +6,6 @@ pub mod Hints
 pub mod Sentences
 pub mod Before
 pub mod Faultless
+pub mod Leaving
+pub mod LeavingText
+pub mod Outside

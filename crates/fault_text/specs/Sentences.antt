@@ -3,7 +3,11 @@ use Rattle.std.specs.Prelude.{ℕ, ℤ, ◌==◌, ◌&&◌, ◌||◌, if◌then�
 use Rattle.std.specs.Fmt.{decimal, signed_decimal}
 use Rattle.std.specs.Str.{bytes_eq}
 use Rattle.acas_text.specs.Hex.{hex}
+use Rattle.enc_file.specs.Values.{address_in}
+use Rattle.fault_text.specs.Before.{alike}
 use Rattle.fault_text.specs.Hints.{address_hint, number_hint}
+use Rattle.fault_text.specs.LeavingText.{leaving_text}
+use Rattle.fault_text.specs.Lines.{fields_in}
 use Rattle.fault_text.specs.Names.{content_of, name_text, word_text}
 use Rattle.fault_text.specs.Shown.{shown}
 use Rattle.fault_text.specs.declared.earlier.Sought.{Sought}
@@ -117,14 +121,14 @@ why_text (why.NoValue n found) = found_text n found.now ++ codes ", and has to b
 why_text (why.Turned from to) = codes "TO is " ++ decimal to ++ codes ", and may not be below FROM, " ++ decimal from
 why_text (why.NoAddress n found) = found_text n found.now ++ codes ", and has to be an address: six digits 0-9A-F" ++ address_hint found.now
 why_text (why.ManyBits n found bits) = found_text n found.now ++ codes ": " ++ decimal bits ++ codes " of its bits are 1, and at most three may be"
-why_text (why.Again of number) = again_text of number
+why_text (why.Again kind now number) = again_text (alike kind (fields_in now.now)) number
 why_text (why.NotAbove of found reached number) = not_above_text of found reached number
-why_text (why.Unknown n address) = name_text n ++ codes " is " ++ hex 6 address ++ codes ", which has no craft record before this line"
-why_text (why.Equal address) = codes "the two addresses are equal, " ++ hex 6 address
+why_text (why.Unknown n found) = found_text n found.now ++ codes ", which has no craft record before this line"
+why_text (why.Equal found) = codes "the two addresses are equal, " ++ shown found.now
 why_text (why.ManyCrafts version) = many_crafts_text version
 why_text why.NoRun = codes "there is no run record"
 why_text why.NoneActive = codes "there is no aircraft of kind RA or TA"
-why_text why.Outside = codes "an aircraft leaves the box: x and y have to be from -1000000 to 1000000 ft, and the altitude from -1000 to 60000 ft, in each cycle of the run"
+why_text (why.Outside craft cycle axis value) = codes "aircraft" ++ named_text (codes " ") (address_in craft.now) ++ leaving_text cycle axis value
 why_text why.NoEnd = codes "the last record has to be \"end\", and there is none; was the text cut off?"
 why_text (why.After end) = codes "a record after \"end\", which is in line " ++ decimal end
 

@@ -13,6 +13,8 @@ use Rattle.enc_file.specs.declared.refusal.Refusal.{Refusal}
 use Rattle.fault_text.specs.Before.{TellsCounted, TellsRepeat, TellsUnknown}
 use Rattle.fault_text.specs.Lines.{IsPlaced, Stands, fields_in, file_lines, is_written, written}
 use Rattle.fault_text.specs.Names.{first_failing, names_of, word_text}
+use Rattle.fault_text.specs.Outside.{TellsOutside}
+use Rattle.fault_text.specs.Sentences.{sentence}
 use Rattle.fault_text.specs.declared.fault.Fault.{Fault}
 use Rattle.fault_text.specs.declared.fault.Why.{Why}
 use Rattle.fault_text.specs.declared.fault.Why.TheVariants as why
@@ -168,7 +170,7 @@ pub record TellsAfterEarlier (text : List ℕ) (refusal : Refusal) (line : List 
   pub named : IsNamed line kind
   pub earlier : TellsEarlier text refusal kind line w
 
--- What is wrong, by the code. Of the code Box it isn't told which aircraft leaves the box, where and when.
+-- What is wrong, by the code.
 abbrev pub Tells : Code → List ℕ → ℕ → List ℕ → Why → Type 0
 Tells code.Header text at line w = TellsHeader line w
 Tells code.Kind text at line w = TellsName text line w
@@ -181,10 +183,16 @@ Tells code.Count text at line w = TellsAfterEarlier text (record { at = at; code
 Tells code.Mask text at line w = TellsRecord code.Mask line w
 Tells code.NoEnd text at line w = w ≡ why.NoEnd
 Tells code.After text at line w = TellsAfter text at w
-Tells code.Box text at line w = w ≡ why.Outside
+Tells code.Box text at line w = TellsOutside text (record { at = at; code = code.Box }) w
 
 -- The line of the refused record, and what is wrong with it.
 pub record Explains (text : List ℕ) (refusal : Refusal) (fault : Fault) : Type 0 where
   pub line : List ℕ
   pub place : Stands (file_lines text) refusal.at fault.line line
   pub tells : Tells refusal.code text refusal.at line fault.why
+
+-- The line is the sentence of what is wrong with a refused text.
+pub record IsExplained (text : List ℕ) (refusal : Refusal) (line : List ℕ) : Type 0 where
+  pub fault : Fault
+  pub explains : Explains text refusal fault
+  pub line_is : line ≡ sentence fault

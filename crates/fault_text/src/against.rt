@@ -1,12 +1,12 @@
 // What is wrong with a record after those before it.
 ghost use Rattle.std.specs.Prelude.{◌≡◌, ◌+◌, ◌-◌, ◌≤◌, ◌<◌, ◌^◌, IsSome, MatchOption, Some, false, length, slice_get, true};
-ghost use Rattle.enc_file.specs.Conditions.{IsRefused, is_given, is_stranger};
+ghost use Rattle.enc_file.specs.Conditions.{IsRefused, is_stranger};
 ghost use Rattle.enc_file.specs.Records.{records_of};
 ghost use Rattle.enc_file.specs.Values.{address_in, count_in};
 ghost use Rattle.enc_file.specs.Values.{field as stated_field};
 ghost use Rattle.enc_file.specs.declared.refusal.Code.{Code};
 ghost use Rattle.enc_file.specs.declared.refusal.Code.TheVariants as code;
-ghost use Rattle.fault_text.specs.Before.{has_first, has_second, reached_place, rises, rising_place};
+ghost use Rattle.fault_text.specs.Before.{IsStrange, has_first, has_second, reached_place, rises, rising_place};
 ghost use Rattle.fault_text.specs.Lines.{fields_in, file_lines, written};
 ghost use Rattle.fault_text.specs.Names.{names_of};
 ghost use Rattle.fault_text.specs.Told.{IsAgainst, IsFormat, TellsEarlier};
@@ -15,7 +15,6 @@ use crate::earlier::{Sought, has_second, last_before};
 use crate::fault::Why;
 use crate::fields::field;
 use crate::names::{FieldName, RecordKind};
-use acas_base::Address;
 use enc_file::{Code, Refusal, address_in, count_in};
 
 fn rises(kind: RecordKind) -> bool
@@ -56,7 +55,7 @@ fn number_at(line: &[u8], place: usize) -> u16
 }
 
 // Which earlier record a record repeats.
-fn repeat_why(text: &[u8], refusal: Refusal, kind: RecordKind, line: &[u8]) -> Why<'static>
+fn repeat_why<'a>(text: &[u8], refusal: Refusal, kind: RecordKind, line: &'a [u8]) -> Why<'a>
     requires few { length text.now < 2 ^ 32 - 1 }
     requires code { refusal.code ≡ code.Repeat }
     requires against { IsAgainst text.now refusal kind line.now }
@@ -76,22 +75,23 @@ fn repeat_why(text: &[u8], refusal: Refusal, kind: RecordKind, line: &[u8]) -> W
             line: place.number,
         };
     }
-    let of = Sought::alike(kind, line);
     Why::Again {
-        of,
+        kind,
+        refused: line,
         line: place.number,
     }
 }
 
-// The address that stands at a place, where no earlier aircraft has it.
-fn stranger(text: &[u8], at: u32, line: &[u8], place: usize) -> Option<Address>
+// The field at a place, where it is an address that no earlier aircraft has.
+fn stranger<'a>(text: &[u8], at: u32, line: &'a [u8], place: usize) -> Option<&'a [u8]>
     requires few { length text.now < 2 ^ 32 - 1 }
     requires counted { 1 ≤ at }
     requires enough { at ≤ length (written (file_lines text.now)) + 1 }
     ensures { (code : Code) (r : IsRefused (records_of text.now) (record { at = at; code = code }))
-        → MatchOption result (is_stranger r.earlier (fields_in line.now) place ≡ false) (λ address. (address_in (stated_field (fields_in line.now) place) ≡ Some address) × (is_given r.earlier address ≡ false)) }
+        → MatchOption result (is_stranger r.earlier (fields_in line.now) place ≡ false) (λ found. IsStrange r.earlier (fields_in line.now) place found.now) }
 {
-    let address = address_in(field(line, place))?;
+    let found = field(line, place);
+    let address = address_in(found)?;
     let of = Sought {
         kind: RecordKind::Craft,
         first: Some(address),
@@ -99,7 +99,7 @@ fn stranger(text: &[u8], at: u32, line: &[u8], place: usize) -> Option<Address>
     };
     match last_before(text, at, of) {
         Some(_) => None,
-        None => Some(address),
+        None => Some(found),
     }
 }
 
@@ -126,25 +126,24 @@ fn second_name(kind: RecordKind) -> FieldName
 }
 
 // Which address is unknown, or that two are equal.
-fn unknown_why(text: &[u8], refusal: Refusal, kind: RecordKind, line: &[u8]) -> Why<'static>
+fn unknown_why<'a>(text: &[u8], refusal: Refusal, kind: RecordKind, line: &'a [u8]) -> Why<'a>
     requires few { length text.now < 2 ^ 32 - 1 }
     requires code { refusal.code ≡ code.Unknown }
     requires against { IsAgainst text.now refusal kind line.now }
     ensures { TellsEarlier text.now refusal kind line.now result }
 {
-    if let Some(address) = stranger(text, refusal.at, line, 1) {
+    if let Some(found) = stranger(text, refusal.at, line, 1) {
         let name = first_name(kind);
-        return Why::Unknown { name, address };
+        return Why::Unknown { name, found };
     }
     if has_second(kind) {
-        if let Some(address) = stranger(text, refusal.at, line, 2) {
+        if let Some(found) = stranger(text, refusal.at, line, 2) {
             let name = second_name(kind);
-            return Why::Unknown { name, address };
+            return Why::Unknown { name, found };
         }
     }
-    match address_in(field(line, 1)) {
-        Some(address) => Why::Equal { address },
-        None => unreachable!(),
+    Why::Equal {
+        found: field(line, 1),
     }
 }
 
@@ -177,13 +176,13 @@ fn count_why(
 }
 
 /// What is wrong with a record after those before it. Its code is Repeat, Unknown or Count.
-pub(crate) fn against_why(
+pub(crate) fn against_why<'a>(
     text: &[u8],
     refusal: Refusal,
     version: u8,
     kind: RecordKind,
-    line: &[u8],
-) -> Why<'static>
+    line: &'a [u8],
+) -> Why<'a>
     requires few { length text.now < 2 ^ 32 - 1 }
     requires version { IsFormat text.now version }
     requires against { IsAgainst text.now refusal kind line.now }

@@ -12,10 +12,10 @@ use enc_file::address_in;
 
 /// The records of a kind that say these addresses. Where an address is none, all pass.
 #[derive(Clone, Copy)]
-pub struct Sought {
-    pub kind: RecordKind,
-    pub first: Option<Address>,
-    pub second: Option<Address>,
+pub(crate) struct Sought {
+    pub(crate) kind: RecordKind,
+    pub(crate) first: Option<Address>,
+    pub(crate) second: Option<Address>,
 }
 
 // Whether a kind of record says an address first, and second.

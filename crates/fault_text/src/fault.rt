@@ -1,18 +1,21 @@
 // Why a text is refused, as a value.
-ghost use Rattle.std.specs.Prelude.{◌≡◌, ◌≤◌, ◌-◌, ◌<◌, ◌^◌, Err, false, length, true};
+ghost use Rattle.std.specs.Prelude.{◌≡◌, ◌≢◌, ◌≤◌, ◌-◌, ◌<◌, ◌^◌, Err, IfOk, false, length, true};
 ghost use Rattle.enc_file.specs.Conditions.{is_address_wrong, is_count_wrong, is_masked, is_number_wrong, is_turned};
 ghost use Rattle.enc_file.specs.Reading.{reading_of};
+ghost use Rattle.enc_file.specs.declared.refusal.Code.TheVariants as code;
 ghost use Rattle.fault_text.specs.Lines.{fields_in, file_lines};
-ghost use Rattle.fault_text.specs.Told.{Explains, IsAtFault, IsFormat, IsHeaded, IsNamedAgainst, IsRecord, Tells, TellsAddress, TellsAfterEarlier, TellsHeader, TellsMask, TellsNumber, TellsRecord, TellsTurned, stated_kind};
+ghost use Rattle.fault_text.specs.Told.{Explains, IsAtFault, IsExplained, IsFormat, IsHeaded, IsNamedAgainst, IsRecord, Tells, TellsAddress, TellsAfterEarlier, TellsHeader, TellsMask, TellsNumber, TellsRecord, TellsTurned, stated_kind};
 
 use crate::against::against_why;
-use crate::earlier::Sought;
 use crate::fields::{count, field, kind_of, version_of};
+use crate::leaving::Axis;
 use crate::lines::place_of;
 use crate::names::{FieldName, RecordKind};
+use crate::outside::outside_why;
 use crate::search::leftmost;
-use acas_base::Address;
+use acas_text::Line;
 use enc_file::{Code, Refusal, count_in, mask_in};
+use std::alloc::{AllocError, Global};
 
 /// What is wrong with a refused text, and where.
 #[derive(Clone, Copy)]
@@ -64,9 +67,11 @@ pub enum Why<'a> {
         found: &'a [u8],
         bits: u32,
     },
-    /// There may be one such record alone. An earlier one stands in this line, the last such before this one.
+    /// There may be one such record alone, or one about each aircraft or pair. `refused` is the line of this record. An
+    /// earlier one about the same aircraft or pair stands in `line`, the last such before this one.
     Again {
-        of: Sought,
+        kind: RecordKind,
+        refused: &'a [u8],
         line: u32,
     },
     /// The number isn't above the one that the last earlier record of this kind about the same aircraft or pair has.
@@ -80,11 +85,11 @@ pub enum Why<'a> {
     /// No earlier aircraft has the address that stands in the field.
     Unknown {
         name: FieldName,
-        address: Address,
+        found: &'a [u8],
     },
     /// The two addresses are equal.
     Equal {
-        address: Address,
+        found: &'a [u8],
     },
     /// One aircraft too many for the text's format, 1 or 2.
     ManyCrafts {
@@ -94,8 +99,15 @@ pub enum Why<'a> {
     NoRun,
     /// At the end: no aircraft is of kind RA or TA.
     NoneActive,
-    /// At the end: an aircraft leaves the box in some cycle of the run.
-    Outside,
+    /// At the end: an aircraft isn't in the box in some cycle of the run. Of several it is the first one of the text, and
+    /// of its cycles the first one. `craft` is the field with its address.
+    Outside {
+        craft: &'a [u8],
+        cycle: u16,
+        axis: Axis,
+        /// Where it is on that axis: in ft, or in 1/60 ft where it is the altitude.
+        value: i32,
+    },
     /// The text has no `end`.
     NoEnd,
     /// The record stands after `end`, which is in this line.
@@ -192,7 +204,7 @@ fn record_why(code: Code, version: u8, line: &[u8]) -> Why<'_>
 }
 
 // What is wrong with a record of a known kind after those before it.
-fn earlier_why(text: &[u8], refusal: Refusal, version: u8, line: &[u8]) -> Why<'static>
+fn earlier_why<'a>(text: &[u8], refusal: Refusal, version: u8, line: &'a [u8]) -> Why<'a>
     requires few { length text.now < 2 ^ 32 - 1 }
     requires version { IsFormat text.now version }
     requires against { IsNamedAgainst text.now refusal version line.now }
@@ -213,10 +225,11 @@ fn format_of(text: &[u8]) -> u8
     version_of(place_of(text, 1).line)
 }
 
-// What is wrong with the refused record.
+// What is wrong with the refused record, where it isn't that an aircraft leaves the box.
 fn why_of<'a>(text: &'a [u8], refusal: Refusal, line: &'a [u8]) -> Why<'a>
     requires few { length text.now < 2 ^ 32 - 1 }
     requires part { length line.now ≤ length text.now }
+    requires boxed { refusal.code ≢ code.Box }
     requires refused { reading_of text.now ≡ Err refusal }
     requires place { IsRecord (file_lines text.now) refusal.at line.now }
     ensures { Tells refusal.code text.now refusal.at line.now result }
@@ -233,7 +246,7 @@ fn why_of<'a>(text: &'a [u8], refusal: Refusal, line: &'a [u8]) -> Why<'a>
         Code::Repeat | Code::Unknown | Code::Count => {
             earlier_why(text, refusal, format_of(text), line)
         }
-        Code::Box => Why::Outside,
+        Code::Box => unreachable!(),
         Code::NoEnd => Why::NoEnd,
         Code::After => Why::After {
             end: place_of(text, refusal.at - 1).number,
@@ -243,15 +256,32 @@ fn why_of<'a>(text: &'a [u8], refusal: Refusal, line: &'a [u8]) -> Why<'a>
 
 /// What is wrong with a refused text.
 ///
-/// It looks at one record again, and at most three times at those before it.
-pub fn explain(text: &[u8], refusal: Refusal) -> Fault<'_>
+/// It looks at one record again, and at most three times at those before it. The error says that memory was wanting: where
+/// an aircraft leaves the box, the encounter is made again.
+pub fn explain(alloc: Global, text: &[u8], refusal: Refusal) -> Result<Fault<'_>, AllocError>
     requires few { length text.now < 2 ^ 32 - 1 }
     requires refused { reading_of text.now ≡ Err refusal }
-    ensures { Explains text.now refusal result }
+    ensures { IfOk result (Explains text.now refusal) }
 {
     let place = place_of(text, refusal.at);
-    Fault {
+    let why = match refusal.code {
+        Code::Box => outside_why(alloc, text, refusal)?,
+        _ => why_of(text, refusal, place.line),
+    };
+    Ok(Fault {
         line: place.number,
-        why: why_of(text, refusal, place.line),
-    }
+        why,
+    })
+}
+
+/// The sentence that says what is wrong with a refused text, as a line: that of the fault that [`explain`] gives.
+///
+/// The error says that memory was wanting.
+pub fn explained(alloc: Global, text: &[u8], refusal: Refusal) -> Result<Line, AllocError>
+    requires few { length text.now < 2 ^ 32 - 1 }
+    requires refused { reading_of text.now ≡ Err refusal }
+    ensures { IfOk result (IsExplained text.now refusal) }
+{
+    let fault = explain(alloc, text, refusal)?;
+    Ok(fault.sentence())
 }

@@ -2,21 +2,25 @@
 #![tactic(auto)]
 
 mod against;
+mod before;
 mod earlier;
 mod fault;
 mod faultless;
 mod fields;
 mod hints;
+mod leaving;
+mod leaving_text;
 mod lines;
 mod names;
+mod outside;
 mod search;
 mod sentence;
 mod shown;
 
-pub use earlier::Sought;
-pub use fault::{Fault, Why, explain};
+pub use fault::{Fault, Why, explain, explained};
 pub use faultless::faultless_line;
 pub use fields::{field, kind_of};
+pub use leaving::Axis;
 pub use lines::{FileLines, Place, begins_recording, begins_tracks, place_of, records_law};
 pub use names::{FieldName, RecordKind};
 pub use shown::{SHOWN_BYTES, add_shown, shown_law};

@@ -6,10 +6,12 @@ ghost use Rattle.fault_text.specs.Sentences.{again_text, field_count_text, field
 use crate::earlier::Sought;
 use crate::fault::{Fault, Why};
 use crate::hints::{address_hint, number_hint};
+use crate::leaving_text::add_leaving;
 use crate::names::{Content, FieldName, RecordKind};
 use crate::shown::add_shown;
 use acas_base::Address;
 use acas_text::{LINE_BYTES, Line};
+use enc_file::address_in;
 
 fn unit_text(name: FieldName) -> &'static str
     ensures text { result.now ≡ unit_text name }
@@ -285,30 +287,37 @@ fn add_why(line: &mut Line, why: &Why<'_>)
             line.u32(bits);
             line.text(" of its bits are 1, and at most three may be");
         }
-        Why::Again { of, line: number } => add_again(line, of, number),
+        Why::Again {
+            kind,
+            refused,
+            line: number,
+        } => add_again(line, Sought::alike(kind, refused), number),
         Why::NotAbove {
             kind,
             found,
             reached,
             line: number,
         } => add_not_above(line, kind, found, reached, number),
-        Why::Unknown { name, address } => {
-            line.text(name.text());
-            line.text(" is ");
-            add_address(line, address);
+        Why::Unknown { name, found } => {
+            add_found(line, name, found);
             line.text(", which has no craft record before this line");
         }
-        Why::Equal { address } => {
+        Why::Equal { found } => {
             line.text("the two addresses are equal, ");
-            add_address(line, address);
+            add_shown(line, found);
         }
         Why::ManyCrafts { version } => line.text(many_crafts_text(version)),
         Why::NoRun => line.text("there is no run record"),
         Why::NoneActive => line.text("there is no aircraft of kind RA or TA"),
-        Why::Outside => {
-            line.text(
-                "an aircraft leaves the box: x and y have to be from -1000000 to 1000000 ft, and the altitude from -1000 to 60000 ft, in each cycle of the run",
-            );
+        Why::Outside {
+            craft,
+            cycle,
+            axis,
+            value,
+        } => {
+            line.text("aircraft");
+            add_named(line, " ", address_in(craft));
+            add_leaving(line, cycle, axis, value);
         }
         Why::NoEnd => {
             line.text(

@@ -10,6 +10,8 @@ mod enc_file_tests;
 #[cfg(test)]
 mod enc_gen_tests;
 #[cfg(test)]
+mod fault_text_tests;
+#[cfg(test)]
 mod rec_audit_tests;
 #[cfg(test)]
 mod rec_text_tests;

@@ -1,4 +1,4 @@
-use Rattle.std.proofs.Common.{◌≡◌, ◌∙◌, ap, sym, true, false}
+use Rattle.std.proofs.Common.{refl, ◌≡◌, ◌∙◌, ap, sym, true, false}
 use Rattle.std.specs.Prelude.{is_some}
 use Rattle.enc_file.specs.Values.{count_in, field}
 use Rattle.fault_text.specs.Before.{alike, rises}
@@ -31,4 +31,4 @@ pub returns : goal.returns
 returns c =
     let up : rises c.args.kind ≡ false = sym c.rises.ensures ∙ c.if-rises.false in
     let last = last-as c.args.text.now c.args.refusal c.alike-sought.result (alike c.args.kind (fields_in c.args.line.now)) c.last_before.result _ c.alike-sought.ensures c.in-Some.is c.last_before.ensures in
-    tells-again c.args.text.now c.args.refusal c.args.kind c.args.line.now c.requires.against c.in-Some.place c.alike-of.result c.requires.code up c.alike-of.ensures last
+    tells-again c.args.text.now c.args.refusal c.args.kind c.args.line.now c.requires.against c.in-Some.place c.args.line refl c.requires.code up last

@@ -1,7 +1,5 @@
-use Rattle.std.proofs.Common.{◌≡◌, ◌∙◌, ◌∷◌, ◌++◌, [], List, ℕ, ap, sym, false, refl, arith, length}
-use Rattle.std.proofs.lemmas.List.{append-nil}
-use Rattle.enc_file.specs.Records.{records_of}
-use Rattle.fault_text.specs.Lines.{fields_in, file_lines, lines_after, written}
+use Rattle.std.proofs.Common.{◌∙◌, ◌∷◌, ◌++◌, [], ap, sym, false, refl, arith}
+use Rattle.fault_text.specs.Lines.{file_lines, lines_after}
 use Rattle.fault_text.proofs.FirstLine.{is-blank, is-no-blank, moved, passed-blank, passed-record}
 use Rattle.fault_text.proofs.Counted.{all-counted}
 use Rattle.fault_text.proofs.lines.record_count.Goals as goal

@@ -1,5 +1,8 @@
-use Rattle.std.proofs.Common.{◌∙◌, ◌++◌, ap, sym}
-use Rattle.fault_text.specs.Sentences.{wanted, why_text}
+use Rattle.std.proofs.Common.{rules, ◌≡◌, ◌∙◌, ◌++◌, ap, sym}
+use Rattle.std.specs.Prelude.{codes}
+use Rattle.enc_file.specs.Values.{address_in}
+use Rattle.fault_text.specs.LeavingText.{leaving_text}
+use Rattle.fault_text.specs.Sentences.{named_text, wanted, why_text}
 use Rattle.fault_text.specs.Hints.{address_hint}
 use Rattle.fault_text.proofs.Pieces.{four, three, two}
 use Rattle.fault_text.proofs.sentence.add_why.Goals as goal
@@ -32,3 +35,20 @@ returns-in-NoEnd-clause-added c = c.text-in-NoEnd.ensures.added ∙ ap (λ w. c.
 pub returns-in-After-clause-added : goal.returns-in-After-clause-added
 returns-in-After-clause-added c =
     two c.args.line.now c.text-in-After.new.self c.u32-in-After.new.self _ _ c.text-in-After.ensures.added c.u32-in-After.ensures.added ∙ ap (λ w. c.args.line.now ++ why_text w) (sym c.in-After.is)
+
+pub returns-in-Equal-clause-added : goal.returns-in-Equal-clause-added
+returns-in-Equal-clause-added c =
+    two c.args.line.now c.text-in-Equal.new.self c.add_shown-in-Equal.new.line _ _ c.text-in-Equal.ensures.added c.add_shown-in-Equal.ensures.added ∙ ap (λ w. c.args.line.now ++ why_text w) (sym c.in-Equal.is)
+
+pub returns-in-NoRun-clause-added : goal.returns-in-NoRun-clause-added
+returns-in-NoRun-clause-added c = c.text-in-NoRun.ensures.added ∙ ap (λ w. c.args.line.now ++ why_text w) (sym c.in-NoRun.is)
+
+pub returns-in-NoneActive-clause-added : goal.returns-in-NoneActive-clause-added
+returns-in-NoneActive-clause-added c = c.text-in-NoneActive.ensures.added ∙ ap (λ w. c.args.line.now ++ why_text w) (sym c.in-NoneActive.is)
+
+pub returns-in-Outside-clause-added : goal.returns-in-Outside-clause-added
+returns-in-Outside-clause-added c =
+    let added : c.add_leaving.new.line ≡ c.add_named.new.line ++ leaving_text c.in-Outside.cycle c.in-Outside.axis c.in-Outside.value = search rules in
+    three c.args.line.now c.text-in-Outside.new.self c.add_named.new.line c.add_leaving.new.line (codes "aircraft") (named_text (codes " ") (address_in c.in-Outside.craft.now)) _
+    c.text-in-Outside.ensures.added (c.add_named.ensures.added ∙ ap (λ o. c.text-in-Outside.new.self ++ named_text (codes " ") o) c.address_in.ensures) added
+    ∙ ap (λ w. c.args.line.now ++ why_text w) (sym c.in-Outside.is)

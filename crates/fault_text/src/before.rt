@@ -1,0 +1,49 @@
+// The encounter that the records before a refused `end` say.
+ghost use Rattle.std.specs.Prelude.{◌≡◌, ◌-◌, ◌<◌, ◌^◌, Err, IfOk, length};
+ghost use Rattle.enc_file.specs.Conditions.{IsRefused};
+ghost use Rattle.enc_file.specs.Earlier.{encounter_by};
+ghost use Rattle.enc_file.specs.Reading.{reading_of};
+ghost use Rattle.enc_file.specs.Records.{records_of};
+ghost use Rattle.enc_file.specs.declared.refusal.Code.TheVariants as code;
+
+use acas_base::Encounter;
+use csv::{ByteRecord, ReaderBuilder};
+use enc_file::{ReadError, Refusal, Tables};
+use std::alloc::{AllocError, Global};
+
+/// The encounter that the records before a refused `end` say, where one of its aircraft leaves the box. The error says
+/// that memory was wanting.
+pub(crate) fn encounter_before(
+    alloc: Global,
+    text: &[u8],
+    refusal: Refusal,
+) -> Result<Encounter, AllocError>
+    requires few { length text.now < 2 ^ 32 - 1 }
+    requires code { refusal.code ≡ code.Box }
+    requires refused { reading_of text.now ≡ Err refusal }
+    ensures { (r : IsRefused (records_of text.now) refusal) → IfOk result (λ e. e ≡ encounter_by r.earlier) }
+{
+    let mut reader = ReaderBuilder::new()
+        .has_headers(false)
+        .flexible(true)
+        .quoting(false)
+        .from_reader(alloc, text);
+    let mut tables = Tables::new(alloc)?;
+    let mut row = ByteRecord::new(alloc);
+    let mut left = refusal.at;
+    while left > 1 {
+        match reader.read_byte_record(&mut row) {
+            Ok(true) => match tables.take(alloc, &row) {
+                Ok(()) => left -= 1,
+                Err(ReadError::OutOfMemory) => return Err(AllocError),
+                Err(ReadError::Refused(_)) => unreachable!(),
+            },
+            Ok(false) => unreachable!(),
+            Err(_) => return Err(AllocError),
+        }
+    }
+    match tables.encounter(alloc)? {
+        Some(encounter) => Ok(encounter),
+        None => unreachable!(),
+    }
+}
