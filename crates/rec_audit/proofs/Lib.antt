@@ -16,3 +16,5 @@ pub mod OneWay
 pub mod OneOpening
 pub mod OneVerdict
 pub mod Activity
+pub mod AllowedCommit
+pub mod Telling

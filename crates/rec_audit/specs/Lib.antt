@@ -9,3 +9,5 @@ pub mod Cursors
 pub mod Asking
 pub mod Engine
 pub mod Compared
+pub mod Allowing
+pub mod Explaining

@@ -1,21 +1,26 @@
 //! The judge of recordings.
 #![tactic(auto)]
 
+mod allowed;
 mod asking;
 mod compare;
 mod endings;
 mod entries;
+mod explaining;
 mod fault;
 mod fields;
+mod here;
 mod judging;
 mod keys;
 mod laws;
 mod lines;
 mod opening;
 mod replay;
+mod sentences;
 mod values;
 mod verdict;
 
+pub use explaining::{Explained, explain};
 pub use judging::{judge, load, load_part};
 pub use laws::verdict_law;
 pub use verdict::{Loaded, Reason, Verdict};

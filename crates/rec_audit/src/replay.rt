@@ -38,8 +38,8 @@ fn take_entry_at(state: &AirState, at: u32, made: &mut Line, lines: &mut TextLin
     }
 }
 
-// The entry that the next line spells. The line isn't taken.
-fn read_first(lines: &TextLines<'_>, count: u8) -> Option<Entry>
+/// The entry that the next line spells. The line isn't taken.
+pub(crate) fn read_first(lines: &TextLines<'_>, count: u8) -> Option<Entry>
     requires { (0 < count) × (count ≤ CRAFTS) }
     ensures { ReadsFirst count lines.now.left result }
 {

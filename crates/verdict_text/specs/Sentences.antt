@@ -127,12 +127,15 @@ form_of (field.OwnCell own) crafts = codes "-"
 -- ---- all
 
 abbrev pub why_text : Why → List ℕ
+why_text (why.Refused code) = codes "the encounter that begins here is refused with code " ++ decimal code
+why_text why.Misspelled = codes "this line is missing or not spelled as one that can stand here, or the encounter isn't in its canonical text"
 why_text why.Mark = codes "a byte order mark stands in front of this line, and a recording has none"
 why_text why.CarriageReturn = codes "a carriage return stands in this line, and the lines of a recording end with a line feed alone"
-why_text (why.OtherLine wanted found) = codes "this line has to be " ++ quoted wanted ++ codes ", and " ++ found_text found
+why_text (why.OtherLine wanted found) = codes "this line has to be " ++ quoted wanted.now ++ codes ", and " ++ found_text found
+why_text why.OtherReport = codes "here the report and the close of these entries have another line, or none"
 why_text why.TooMany = codes "this line is one too many: the recording ends with \"close\""
 why_text why.NoEnd = codes "no line is \"end\": the recording is cut off in its encounter, or is none"
-why_text (why.NotCanonical wanted) = codes "the encounter isn't in its canonical text; there this line would be " ++ quoted wanted
+why_text (why.NotCanonical wanted) = codes "the encounter isn't in its canonical text; there this line would be " ++ quoted wanted.now
 why_text (why.NoCount found) = codes "this line has to be \"journal,\" and a number from 0 to 999999999, and " ++ found_text found
 why_text (why.NoEntry announced entries) = codes "this line is missing: " ++ counted announced (codes " entry is announced, and ") (codes " entries are announced, and ") ++ counted entries (codes " stands here") (codes " stand here")
 why_text (why.Unfinished text) = shown text.now ++ codes " has no line feed: the recording is cut off here"
@@ -142,7 +145,7 @@ why_text (why.NoValue name crafts text) = field_text name ++ codes " is " ++ sho
 why_text (why.NoCommit own cycle cause) = commit_text own cycle cause
 why_text (why.NoSend own target cause) = send_text own target cause
 why_text (why.NoTake own position copy cause) = take_text own position copy cause
-why_text (why.OtherContent wanted) = codes "here this line would be " ++ quoted wanted
+why_text (why.OtherContent wanted) = codes "here this line would be " ++ quoted wanted.now
 why_text (why.Incomplete lack) = codes "the entries end too early: " ++ lack_text lack
 
 -- The line that tells a fault.

@@ -4,7 +4,7 @@ use crate::spelling::{EntryField, EntryKind};
 use crate::wanted::Wanted;
 
 /// What is wrong with a recording, and where.
-#[derive(Drop)]
+#[derive(Clone, Copy)]
 pub struct Fault<'a> {
     /// The line of the recording, from 1.
     pub line: u32,
@@ -25,24 +25,32 @@ pub enum Found<'a> {
 
 /// Why a line of a recording can't stand there. Aircraft are named by their indices, and messages by the positions of
 /// their sends.
-#[derive(Drop)]
+#[derive(Clone, Copy)]
 pub enum Why<'a> {
+    /// The encounter is refused with this code.
+    Refused {
+        code: u8,
+    },
+    /// The line is missing, or isn't spelled as one that can stand there; or the encounter isn't in its canonical text.
+    Misspelled,
     /// A byte order mark stands in front of the line.
     Mark,
     /// A carriage return stands in the line.
     CarriageReturn,
     /// The line has to be this one.
     OtherLine {
-        wanted: Wanted,
+        wanted: &'a Wanted,
         found: Found<'a>,
     },
+    /// The report and the close of the entries have another line here, or none.
+    OtherReport,
     /// The line is one too many.
     TooMany,
     /// No line is `end`.
     NoEnd,
     /// The line isn't as the canonical text of the encounter has it: there it is this one.
     NotCanonical {
-        wanted: Wanted,
+        wanted: &'a Wanted,
     },
     /// The line has to tell the number of entries.
     NoCount {
@@ -94,7 +102,7 @@ pub enum Why<'a> {
     },
     /// The entry that is allowed here about the same thing has this line.
     OtherContent {
-        wanted: Wanted,
+        wanted: &'a Wanted,
     },
     /// The entries end too early.
     Incomplete {

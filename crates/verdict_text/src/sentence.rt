@@ -37,10 +37,20 @@ fn add_found(line: &mut Line, found: &Found<'_>)
     }
 }
 
+// Adds the code of a refused encounter.
+fn add_refused(line: &mut Line, code: u8)
+    requires { length line.old + WHY_BYTES ≤ LINE_BYTES }
+    ensures added { line.new ≡ line.old ++ why_text (why.Refused code) }
+    ensures short { length line.new ≤ length line.old + WHY_BYTES }
+{
+    line.text("the encounter that begins here is refused with code ");
+    add_small(line, code);
+}
+
 // Adds which line has to stand there, and what does.
 fn add_other_line(line: &mut Line, wanted: &Wanted, found: &Found<'_>)
     requires { length line.old + WHY_BYTES ≤ LINE_BYTES }
-    ensures added { line.new ≡ line.old ++ why_text (why.OtherLine wanted.now found.now) }
+    ensures added { line.new ≡ line.old ++ why_text (why.OtherLine wanted.entry found.now) }
     ensures short { length line.new ≤ length line.old + WHY_BYTES }
 {
     line.text("this line has to be ");
@@ -52,7 +62,7 @@ fn add_other_line(line: &mut Line, wanted: &Wanted, found: &Found<'_>)
 // Adds how a line of the encounter would be written.
 fn add_not_canonical(line: &mut Line, wanted: &Wanted)
     requires { length line.old + WHY_BYTES ≤ LINE_BYTES }
-    ensures added { line.new ≡ line.old ++ why_text (why.NotCanonical wanted.now) }
+    ensures added { line.new ≡ line.old ++ why_text (why.NotCanonical wanted.entry) }
     ensures short { length line.new ≤ length line.old + WHY_BYTES }
 {
     line.text("the encounter isn't in its canonical text; there this line would be ");
@@ -108,7 +118,7 @@ fn add_no_kind(line: &mut Line, found: &[u8])
 // Adds the line that is allowed.
 fn add_other_content(line: &mut Line, wanted: &Wanted)
     requires { length line.old + WHY_BYTES ≤ LINE_BYTES }
-    ensures added { line.new ≡ line.old ++ why_text (why.OtherContent wanted.now) }
+    ensures added { line.new ≡ line.old ++ why_text (why.OtherContent wanted.entry) }
     ensures short { length line.new ≤ length line.old + WHY_BYTES }
 {
     line.text("here this line would be ");
@@ -171,43 +181,50 @@ fn add_why(line: &mut Line, why: &Why<'_>)
     ensures added { line.new ≡ line.old ++ why_text why.now }
     ensures short { length line.new ≤ length line.old + WHY_BYTES }
 {
-    match why {
+    match *why {
+        Why::Refused { code } => add_refused(line, code),
+        Why::Misspelled => line.text(
+            "this line is missing or not spelled as one that can stand here, or the encounter isn't in its canonical text",
+        ),
         Why::Mark => line.text(
             "a byte order mark stands in front of this line, and a recording has none",
         ),
         Why::CarriageReturn => line.text(
             "a carriage return stands in this line, and the lines of a recording end with a line feed alone",
         ),
-        Why::OtherLine { wanted, found } => add_other_line(line, wanted, found),
+        Why::OtherLine { wanted, found } => add_other_line(line, wanted, &found),
+        Why::OtherReport => line.text(
+            "here the report and the close of these entries have another line, or none",
+        ),
         Why::TooMany => line.text("this line is one too many: the recording ends with \"close\""),
         Why::NoEnd => line.text(
             "no line is \"end\": the recording is cut off in its encounter, or is none",
         ),
         Why::NotCanonical { wanted } => add_not_canonical(line, wanted),
-        Why::NoCount { found } => add_no_count(line, found),
-        Why::NoEntry { announced, entries } => add_no_entry(line, *announced, *entries),
+        Why::NoCount { found } => add_no_count(line, &found),
+        Why::NoEntry { announced, entries } => add_no_entry(line, announced, entries),
         Why::Unfinished { found } => add_unfinished(line, found),
         Why::NoKind { found } => add_no_kind(line, found),
         Why::FieldCount {
             kind,
             crafts,
             fields,
-        } => add_field_count(line, *kind, *crafts, *fields),
+        } => add_field_count(line, kind, crafts, fields),
         Why::NoValue {
             name,
             crafts,
             found,
-        } => add_value(line, *name, *crafts, found),
-        Why::NoCommit { own, cycle, cause } => add_commit(line, *own, *cycle, *cause),
-        Why::NoSend { own, target, cause } => add_send(line, *own, *target, *cause),
+        } => add_value(line, name, crafts, found),
+        Why::NoCommit { own, cycle, cause } => add_commit(line, own, cycle, cause),
+        Why::NoSend { own, target, cause } => add_send(line, own, target, cause),
         Why::NoTake {
             own,
             send,
             copy,
             cause,
-        } => add_take(line, *own, *send, *copy, *cause),
+        } => add_take(line, own, send, copy, cause),
         Why::OtherContent { wanted } => add_other_content(line, wanted),
-        Why::Incomplete { lack } => add_incomplete(line, *lack),
+        Why::Incomplete { lack } => add_incomplete(line, lack),
     }
 }
 

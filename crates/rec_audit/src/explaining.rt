@@ -1,0 +1,90 @@
+// Recordings explained.
+ghost use Rattle.std.specs.Prelude.{◌≡◌, ◌-◌, ◌<◌, ◌^◌, IfOk, drop, length, true};
+ghost use Rattle.acas_lines.specs.Split.{lines_of};
+ghost use Rattle.rec_audit.specs.Explaining.{IsExplained, TellsSomething, is_after_entries};
+ghost use Rattle.rec_audit.specs.Judging.{IsWrong};
+
+use crate::here::tell_here;
+use crate::judging::{load, load_part};
+use crate::laws::verdict_law;
+use crate::lines::TextLines;
+use crate::sentences::sentence_of;
+use crate::verdict::{Loaded, Reason};
+use acas_text::Line;
+use air_journal::AirState;
+use std::alloc::{AllocError, Global};
+use verdict_text::Why;
+
+/// What is told of a recording.
+#[derive(Drop)]
+pub enum Explained {
+    /// It is the recording of a legal and complete journal: the encounter and the journal.
+    Legal(AirState),
+    /// The first wrong line, from 1, and why it is wrong, as in a verdict; and a sentence that tells it, with its line
+    /// feed.
+    Wrong(u32, Reason, Line),
+}
+
+// Takes so many lines, where there are so many.
+fn skip(lines: &mut TextLines<'_>, count: u32)
+    ensures { lines.new.left ≡ drop count lines.old.left }
+{
+    for _ in 0..count {
+        let _ = lines.next();
+    }
+}
+
+// Tells what is wrong with a line after the entries before it, which are read once more.
+fn tell_after(alloc: Global, bytes: &[u8], line: u32, reason: Reason) -> Result<Line, AllocError>
+    requires small { length bytes.now < 2 ^ 32 - 1 }
+    requires wrong { IsWrong (lines_of bytes.now) line reason }
+    requires after { is_after_entries reason ≡ true }
+    ensures { IfOk result (TellsSomething bytes.now line reason) }
+{
+    verdict_law();
+    let mut lines = TextLines::of(bytes);
+    skip(&mut lines, line - 1);
+    let before = &bytes[..bytes.len() - lines.rest().len()];
+    match load_part(alloc, before)? {
+        Loaded::Legal(mut state) => Ok(tell_here(&mut state, &lines, line, reason)),
+        Loaded::Wrong(_, _) => unreachable!(),
+    }
+}
+
+// Tells why a line is wrong.
+fn tell(alloc: Global, bytes: &[u8], line: u32, reason: Reason) -> Result<Line, AllocError>
+    requires small { length bytes.now < 2 ^ 32 - 1 }
+    requires wrong { IsWrong (lines_of bytes.now) line reason }
+    ensures { IfOk result (TellsSomething bytes.now line reason) }
+{
+    match reason {
+        Reason::Encounter(code) => Ok(sentence_of(
+            line,
+            Why::Refused {
+                code: code.number(),
+            },
+        )),
+        Reason::Spelling => Ok(sentence_of(line, Why::Misspelled)),
+        Reason::NotAllowed => tell_after(alloc, bytes, line, reason),
+        Reason::OtherContent => tell_after(alloc, bytes, line, reason),
+        Reason::Incomplete => tell_after(alloc, bytes, line, reason),
+        Reason::Report => Ok(sentence_of(line, Why::OtherReport)),
+    }
+}
+
+/// Judges a recording, as [`load`] does, and tells in a sentence why the first wrong line can't stand there. For that
+/// the lines before it are read once more.
+///
+/// It takes memory as [`load`] does, and time linear in the bytes. The error says that memory was wanting.
+pub fn explain(alloc: Global, bytes: &[u8]) -> Result<Explained, AllocError>
+    requires { length bytes.now < 2 ^ 32 - 1 }
+    ensures { IfOk result (IsExplained bytes.now) }
+{
+    match load(alloc, bytes)? {
+        Loaded::Legal(state) => Ok(Explained::Legal(state)),
+        Loaded::Wrong(line, reason) => {
+            let told = tell(alloc, bytes, line, reason)?;
+            Ok(Explained::Wrong(line, reason, told))
+        }
+    }
+}
