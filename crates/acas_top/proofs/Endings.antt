@@ -12,7 +12,7 @@ use Rattle.acas_top.specs.Statuses.{status_number}
 use Rattle.acas_top.specs.Words.{AreNoCommand, AreNoPlain, AreNoRun, IsCommand, Say, limit_of, most}
 use Rattle.acas_top.specs.Given.{answer_status, answer_text}
 use Rattle.acas_top.specs.declared.answers.Answer.{Answer}
-use Rattle.acas_top.specs.declared.answers.Answer.TheVariants.{Compared, Decoded, Explained, Faultless, Judged, Made, Recorded, Refused, RightEncounter, RightRecording, Shown, Summed, Swept, Told}
+use Rattle.acas_top.specs.declared.answers.Answer.TheVariants.{Compared, Decoded, ExplainedRefusal, ExplainedWrong, Faultless, Judged, Made, Recorded, Refused, RightEncounter, RightRecording, Shown, Summed, Swept, Told}
 use Rattle.acas_top.specs.declared.status.Status.{Status}
 use Rattle.acas_top.specs.declared.status.Status.TheVariants as statuses
 use Rattle.rec_audit.specs.declared.verdict.Verdict.TheVariants.{Legal, Wrong}
@@ -25,7 +25,7 @@ use Rattle.acas_top.specs.declared.words.Page.TheVariants.{Help, Version}
 use Rattle.acas_top.specs.declared.words.Plain.TheVariants.{Audit, Compare, Decode, Explain, Gen, Resume, Serial, Show, Sweep, Tell, Tracks}
 use Rattle.acas_top.specs.declared.words.Threaded.{Threaded}
 use Rattle.acas_top.specs.declared.words.Threaded.TheVariants.{Play, Sum}
-use Rattle.acas_top.specs.declared.words.Tool.TheVariants.{Messages, Places, Reports, Response, Summary, Watch, Why}
+use Rattle.acas_top.specs.declared.words.Tool.TheVariants.{Messages, Picture, Places, Reports, Response, Summary, Watch, Why}
 
 pub within-long : (limit : Option Limit) (left : Option (List ℕ)) → IsTooLong limit left → ForSome limit (λ n. IsSomeAnd left (λ bytes. length bytes ≤ most n bytes)) → ⊥
 within-long None left long within = long
@@ -62,6 +62,7 @@ limit-said words (commands.Plain Serial) said = sym (ap limit-by said)
 limit-said words (commands.Plain Audit) said = sym (ap limit-by said)
 limit-said words (commands.Plain (Gen number crafts cycles)) said = sym (ap limit-by said)
 limit-said words (commands.Plain (Tell Messages)) said = sym (ap limit-by said)
+limit-said words (commands.Plain (Tell Picture)) said = sym (ap limit-by said)
 limit-said words (commands.Plain (Tell Places)) said = sym (ap limit-by said)
 limit-said words (commands.Plain (Tell Reports)) said = sym (ap limit-by said)
 limit-said words (commands.Plain (Tell Response)) said = sym (ap limit-by said)
@@ -89,6 +90,7 @@ one-limit words one other said also = limit-said words one said ∙ sym (limit-s
 only-serial : (words : List (List ℕ)) (bytes text : List ℕ) (command : Command) → Say words command → Say words (commands.Plain Serial) → Answers command bytes Done text → Plays bytes text
 only-serial words bytes text (commands.Plain Serial) said also plays = plays
 only-serial words bytes text (commands.Plain (Tell Messages)) said also plays = absurd (clash (codes "serial") words _ _ said also refl refl)
+only-serial words bytes text (commands.Plain (Tell Picture)) said also plays = absurd (clash (codes "serial") words _ _ said also refl refl)
 only-serial words bytes text (commands.Plain (Tell Places)) said also plays = absurd (clash (codes "serial") words _ _ said also refl refl)
 only-serial words bytes text (commands.Plain (Tell Reports)) said also plays = absurd (clash (codes "serial") words _ _ said also refl refl)
 only-serial words bytes text (commands.Plain (Tell Response)) said also plays = absurd (clash (codes "serial") words _ _ said also refl refl)
@@ -295,7 +297,8 @@ is-answer (Judged (Wrong line reason)) = tt
 is-answer (Faultless line) = tt
 is-answer (RightEncounter right) = tt
 is-answer (RightRecording right) = tt
-is-answer (Explained at code line) = tt
+is-answer (ExplainedRefusal at code told) = tt
+is-answer (ExplainedWrong line reason told) = tt
 is-answer (Refused at code) = tt
 
 own-put : (own : Status) (text : List ℕ) (old new : Option (List ℕ)) (faults now : ℕ) → IsAnswer own → Grew old new text → now ≡ faults → WasPut own own text old new faults now

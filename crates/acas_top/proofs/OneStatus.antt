@@ -1,9 +1,8 @@
 -- At most one status answers a command on the bytes that it read.
-use Rattle.std.proofs.Common.{◌≡◌, ◌∙◌, Bool, true, false, List, ℕ, length, refl, sym, subst}
-use Rattle.std.specs.Prelude.{MatchBool}
-use Rattle.std.proofs.lemmas.Bool.{false≢true}
-use Rattle.fault_text.specs.Lines.{begins_recording}
-use Rattle.acas_top.specs.Answers.{Answers, AnswersPlain, ExplainsRefusal, ExplainsRight, ExplainsWrong, Imports, IsFaultless, IsLegal, IsLegalRecording, IsWrong, IsWrongPair, IsWrongPart, Plays, Refuses, RefusesTracks, Resumes, Runs}
+use Rattle.std.proofs.Common.{◌≡◌, List, ℕ, length, refl, subst}
+use Rattle.acas_top.specs.declared.explaining.Subject.{Subject}
+use Rattle.acas_top.specs.declared.explaining.Subject.TheVariants as subjects
+use Rattle.acas_top.specs.Answers.{Answers, AnswersPlain, Imports, IsFaulty, IsLegal, IsRight, IsWrong, IsWrongPair, IsWrongPart, IsWrongRecording, Plays, Refuses, RefusesTracks, Resumes, Runs, read_as}
 use Rattle.acas_top.specs.Comparing.{Compares, IsWrongOfTwo, in_first, in_second}
 use Rattle.air_journal.specs.States.{State}
 use Rattle.comparison.specs.Splitting.{IsSplit}
@@ -157,33 +156,39 @@ not-run-only run bytes text other Done refused is = absurd (not-run run bytes ot
 not-run-only run bytes text other Refused refused is = refl
 not-run-only run bytes text other also refused is = absurd is
 
--- What is explained is a recording or an encounter, and right or wrong.
-right-by : HasOneVerdict → (bytes text : List ℕ) (b : Bool) → begins_recording bytes ≡ b → MatchBool b (IsLegalRecording bytes text) (IsFaultless bytes text) → (other : List ℕ) (also : Status) → AnswersPlain Explain bytes also other → Done ≡ also
-right-by law bytes text b e right other Done is = refl
-right-by law bytes text true e right other Refused is = absurd (false≢true (sym is.other ∙ e))
-right-by law bytes text false e right other Refused is = let one = right.says in let two = is.is in absurd (cc)
-right-by law bytes text true e right other Wrong is =
-    let same = law bytes (verdicts.Legal (length right.state.journal)) (verdicts.Wrong is.wrong.line is.wrong.reason) (record { state = right.state; recording = right.recording_is; count = refl }) is.wrong.is in
-    absurd (cc)
-right-by law bytes text false e right other Wrong is = absurd (false≢true (sym e ∙ is.begun))
-right-by law bytes text b e right other also is = absurd is
+-- What is explained is right or not, by one rule for each thing that bytes are read as.
+right-not-faulty : HasOneImport → (kind : Subject) (bytes text other : List ℕ) → IsRight kind bytes text → IsFaulty kind bytes other → ⊥
+right-not-faulty flown subjects.Recording bytes text other right faulty = faulty
+right-not-faulty flown subjects.Tracks bytes text other right faulty = flown bytes right.encounter faulty.refusal right.says faulty.is
+right-not-faulty flown subjects.Encounter bytes text other right faulty = let one = right.says in let two = faulty.is in cc
 
-right-only : HasOneVerdict → (bytes text other : List ℕ) (also : Status) → ExplainsRight bytes text → AnswersPlain Explain bytes also other → Done ≡ also
-right-only law bytes text other also right is = right-by law bytes text (begins_recording bytes) refl right other also is
+right-not-wrong : HasOneVerdict → (kind : Subject) (bytes text other : List ℕ) → IsRight kind bytes text → IsWrongRecording kind bytes other → ⊥
+right-not-wrong law subjects.Recording bytes text other right wrong =
+    let same = law bytes (verdicts.Legal (length right.state.journal)) (verdicts.Wrong wrong.line wrong.reason) (record { state = right.state; recording = right.recording_is; count = refl }) wrong.is in
+    cc
+right-not-wrong law subjects.Tracks bytes text other right wrong = wrong
+right-not-wrong law subjects.Encounter bytes text other right wrong = wrong
 
-refusal-by : (bytes text other : List ℕ) (b : Bool) → begins_recording bytes ≡ b → ExplainsRefusal bytes text → MatchBool b (IsLegalRecording bytes other) (IsFaultless bytes other) → Refused ≡ Done
-refusal-by bytes text other true e refusal right = absurd (false≢true (sym refusal.other ∙ e))
-refusal-by bytes text other false e refusal right = let one = right.says in let two = refusal.is in absurd (cc)
+faulty-not-wrong : (kind : Subject) (bytes text other : List ℕ) → IsFaulty kind bytes text → IsWrongRecording kind bytes other → ⊥
+faulty-not-wrong subjects.Recording bytes text other faulty wrong = faulty
+faulty-not-wrong subjects.Tracks bytes text other faulty wrong = wrong
+faulty-not-wrong subjects.Encounter bytes text other faulty wrong = wrong
 
-refusal-only : (bytes text other : List ℕ) (also : Status) → ExplainsRefusal bytes text → AnswersPlain Explain bytes also other → Refused ≡ also
-refusal-only bytes text other Done refusal is = refusal-by bytes text other (begins_recording bytes) refl refusal is
-refusal-only bytes text other Refused refusal is = refl
-refusal-only bytes text other Wrong refusal is = absurd (false≢true (sym refusal.other ∙ is.begun))
-refusal-only bytes text other also refusal is = absurd is
+right-only : HasOneVerdict → HasOneImport → (bytes text other : List ℕ) (also : Status) → IsRight (read_as bytes) bytes text → AnswersPlain Explain bytes also other → Done ≡ also
+right-only law flown bytes text other Done right is = refl
+right-only law flown bytes text other Refused right is = absurd (right-not-faulty flown (read_as bytes) bytes text other right is)
+right-only law flown bytes text other Wrong right is = absurd (right-not-wrong law (read_as bytes) bytes text other right is)
+right-only law flown bytes text other also right is = absurd is
 
-wrong-explained-only : HasOneVerdict → (bytes text other : List ℕ) (also : Status) → ExplainsWrong bytes text → AnswersPlain Explain bytes also other → Wrong ≡ also
-wrong-explained-only law bytes text other Done wrong is = sym (right-only law bytes other text Wrong is wrong)
-wrong-explained-only law bytes text other Refused wrong is = absurd (false≢true (sym is.other ∙ wrong.begun))
+faulty-only : HasOneImport → (bytes text other : List ℕ) (also : Status) → IsFaulty (read_as bytes) bytes text → AnswersPlain Explain bytes also other → Refused ≡ also
+faulty-only flown bytes text other Done faulty is = absurd (right-not-faulty flown (read_as bytes) bytes other text is faulty)
+faulty-only flown bytes text other Refused faulty is = refl
+faulty-only flown bytes text other Wrong faulty is = absurd (faulty-not-wrong (read_as bytes) bytes text other faulty is)
+faulty-only flown bytes text other also faulty is = absurd is
+
+wrong-explained-only : HasOneVerdict → (bytes text other : List ℕ) (also : Status) → IsWrongRecording (read_as bytes) bytes text → AnswersPlain Explain bytes also other → Wrong ≡ also
+wrong-explained-only law bytes text other Done wrong is = absurd (right-not-wrong law (read_as bytes) bytes other text is wrong)
+wrong-explained-only law bytes text other Refused wrong is = absurd (faulty-not-wrong (read_as bytes) bytes other text is wrong)
 wrong-explained-only law bytes text other Wrong wrong is = refl
 wrong-explained-only law bytes text other also wrong is = absurd is
 
@@ -212,8 +217,8 @@ one-plain law part cut flown Resume bytes text other status also is other_is = a
 one-plain law part cut flown Compare bytes text other Done also is other_is = compared-only law cut bytes text other also is other_is
 one-plain law part cut flown Compare bytes text other Wrong also is other_is = wrong-pair-only law cut bytes text other also is other_is
 one-plain law part cut flown Compare bytes text other status also is other_is = absurd is
-one-plain law part cut flown Explain bytes text other Done also is other_is = right-only law bytes text other also is other_is
-one-plain law part cut flown Explain bytes text other Refused also is other_is = refusal-only bytes text other also is other_is
+one-plain law part cut flown Explain bytes text other Done also is other_is = right-only law flown bytes text other also is other_is
+one-plain law part cut flown Explain bytes text other Refused also is other_is = faulty-only flown bytes text other also is other_is
 one-plain law part cut flown Explain bytes text other Wrong also is other_is = wrong-explained-only law bytes text other also is other_is
 one-plain law part cut flown Explain bytes text other status also is other_is = absurd is
 one-plain law part cut flown (Decode word) bytes text other Done Done is other_is = refl

@@ -9,7 +9,7 @@ use Rattle.acas_top.specs.declared.words.Page.TheVariants.{Help, Version}
 use Rattle.acas_top.specs.declared.words.Plain.TheVariants.{Audit, Compare, Decode, Explain, Gen, Resume, Serial, Show, Sweep, Tell, Tracks}
 use Rattle.acas_top.specs.declared.words.Threaded.TheVariants.{Play, Sum}
 use Rattle.acas_top.specs.declared.words.Tool.{Tool}
-use Rattle.acas_top.specs.declared.words.Tool.TheVariants.{Messages, Places, Reports, Response, Summary, Watch, Why}
+use Rattle.acas_top.specs.declared.words.Tool.TheVariants.{Messages, Picture, Places, Reports, Response, Summary, Watch, Why}
 
 -- A word that the test tells from another one is another one.
 different : (word other : List ℕ) → bytes_eq other other ≡ true → false ≡ bytes_eq word other → word ≢ other
@@ -23,14 +23,15 @@ pub other-than-runs : (word : List ℕ) → false ≡ bytes_eq word (codes "play
 other-than-runs word play sum Play = λ is. different word (codes "play") refl play (ap first is)
 other-than-runs word play sum Sum = λ is. different word (codes "sum") refl sum (ap first is)
 
-pub other-than-tools : (word : List ℕ) → false ≡ bytes_eq word (codes "messages") → false ≡ bytes_eq word (codes "places") → false ≡ bytes_eq word (codes "reports") → false ≡ bytes_eq word (codes "response") → false ≡ bytes_eq word (codes "summary") → false ≡ bytes_eq word (codes "watch") → false ≡ bytes_eq word (codes "why") → (tool : Tool) → word ≢ tool_word tool
-other-than-tools word messages places reports response summary watch why Messages = different word (codes "messages") refl messages
-other-than-tools word messages places reports response summary watch why Places = different word (codes "places") refl places
-other-than-tools word messages places reports response summary watch why Reports = different word (codes "reports") refl reports
-other-than-tools word messages places reports response summary watch why Response = different word (codes "response") refl response
-other-than-tools word messages places reports response summary watch why Summary = different word (codes "summary") refl summary
-other-than-tools word messages places reports response summary watch why Watch = different word (codes "watch") refl watch
-other-than-tools word messages places reports response summary watch why Why = different word (codes "why") refl why
+pub other-than-tools : (word : List ℕ) → false ≡ bytes_eq word (codes "messages") → false ≡ bytes_eq word (codes "picture") → false ≡ bytes_eq word (codes "places") → false ≡ bytes_eq word (codes "reports") → false ≡ bytes_eq word (codes "response") → false ≡ bytes_eq word (codes "summary") → false ≡ bytes_eq word (codes "watch") → false ≡ bytes_eq word (codes "why") → (tool : Tool) → word ≢ tool_word tool
+other-than-tools word messages picture places reports response summary watch why Messages = different word (codes "messages") refl messages
+other-than-tools word messages picture places reports response summary watch why Picture = different word (codes "picture") refl picture
+other-than-tools word messages picture places reports response summary watch why Places = different word (codes "places") refl places
+other-than-tools word messages picture places reports response summary watch why Reports = different word (codes "reports") refl reports
+other-than-tools word messages picture places reports response summary watch why Response = different word (codes "response") refl response
+other-than-tools word messages picture places reports response summary watch why Summary = different word (codes "summary") refl summary
+other-than-tools word messages picture places reports response summary watch why Watch = different word (codes "watch") refl watch
+other-than-tools word messages picture places reports response summary watch why Why = different word (codes "why") refl why
 
 pub other-than-pages : (word : List ℕ) → false ≡ bytes_eq word (codes "--help") → false ≡ bytes_eq word (codes "-h") → false ≡ bytes_eq word (codes "help") → false ≡ bytes_eq word (codes "--version") → (page : Page) → SayPage (word ∷ []) page → ⊥
 other-than-pages word long short plain version Help (inl is) = different word (codes "--help") refl long (ap first is)

@@ -1,5 +1,5 @@
 -- The answer to each command on the bytes that it read: a status, and the text that is written.
-use Rattle.std.specs.Prelude.{◌≡◌, ℕ, List, ◌++◌, Bool, true, false, Err, if◌then◌else◌, codes, length}
+use Rattle.std.specs.Prelude.{◌≡◌, ℕ, List, ◌++◌, Err, if◌then◌else◌, codes, length}
 use Rattle.std.specs.Fmt.{decimal}
 use Rattle.acas_base.specs.Encounter.{Parts}
 use Rattle.acas_base.specs.declared.entry.Entry.{Entry}
@@ -39,6 +39,7 @@ use Rattle.enc_gen.specs.Generated.{generated}
 use Rattle.fault_text.specs.Lines.{begins_recording, begins_tracks}
 use Rattle.fault_text.specs.Told.{IsExplained}
 use Rattle.acas_top.specs.Explaining.{right_encounter_lines, right_recording_lines, right_tracks_line}
+use Rattle.rec_audit.specs.Explaining.{TellsSomething}
 use Rattle.rec_audit.specs.Judging.{IsBeginningOf, IsPartLoaded, IsRecordingOf, Judged}
 use Rattle.rec_audit.specs.Reasons.{reason_number}
 use Rattle.rec_audit.specs.declared.verdict.Loaded.TheVariants as loaded
@@ -224,10 +225,18 @@ IsFaulty subjects.Recording bytes text = ⊥
 IsFaulty subjects.Tracks bytes text = ExplainsTracks bytes text
 IsFaulty subjects.Encounter bytes text = ExplainsRefusal bytes text
 
--- The bytes begin as a recording, and they are none of a legal and complete journal. The text is the line of the
--- verdict.
+-- The bytes are no recording of a legal and complete journal. The text is the line of the verdict, and the sentence that
+-- tells why this line can't stand there.
+pub record ExplainsWrong (bytes text : List ℕ) : Type 0 where
+  pub line : ℕ
+  pub reason : Reason
+  pub is : Judged bytes (verdicts.Wrong line reason)
+  pub told : List ℕ
+  pub tells : TellsSomething bytes line reason told
+  pub text_is : text ≡ verdict_line (verdicts.Wrong line reason) ++ told
+
 abbrev pub IsWrongRecording : Subject → List ℕ → List ℕ → Type 0
-IsWrongRecording subjects.Recording bytes text = IsWrong bytes text
+IsWrongRecording subjects.Recording bytes text = ExplainsWrong bytes text
 IsWrongRecording other bytes text = ⊥
 
 -- What a run in threads writes. The bytes don't determine it: the order of the entries can differ from run to run.

@@ -8,7 +8,7 @@ use Rattle.acas_top.specs.Summing.{summed_lines}
 use Rattle.acas_top.specs.Sweeping.{swept_lines}
 use Rattle.acas_top.specs.Telling.{tool_lines}
 use Rattle.acas_top.specs.declared.answers.Answer.{Answer}
-use Rattle.acas_top.specs.declared.answers.Answer.TheVariants.{Compared, Decoded, Explained, Faultless, Judged, Made, Recorded, Refused, RightEncounter, RightRecording, Shown, Summed, Swept, Told}
+use Rattle.acas_top.specs.declared.answers.Answer.TheVariants.{Compared, Decoded, ExplainedRefusal, ExplainedWrong, Faultless, Judged, Made, Recorded, Refused, RightEncounter, RightRecording, Shown, Summed, Swept, Told}
 use Rattle.acas_top.specs.declared.status.Status.{Status}
 use Rattle.acas_top.specs.declared.status.Status.TheVariants as statuses
 use Rattle.acas_top.specs.declared.telling.Told.{Told as ToolText}
@@ -40,7 +40,8 @@ answer_status (Shown page) = statuses.Done
 answer_status (Faultless line) = statuses.Done
 answer_status (RightEncounter right) = statuses.Done
 answer_status (RightRecording right) = statuses.Done
-answer_status (Explained at code line) = statuses.Refused
+answer_status (ExplainedRefusal at code told) = statuses.Refused
+answer_status (ExplainedWrong line reason told) = statuses.Wrong
 answer_status (Judged verdict) = verdict_status verdict
 answer_status (Refused at code) = statuses.Refused
 
@@ -50,6 +51,7 @@ told_lines (texts.Messages state) = tool_lines tools.Messages state.encounter st
 told_lines (texts.Places state) = tool_lines tools.Places state.encounter state.journal
 told_lines (texts.Reports state) = tool_lines tools.Reports state.encounter state.journal
 told_lines (texts.Response state) = tool_lines tools.Response state.encounter state.journal
+told_lines (texts.Picture state) = tool_lines tools.Picture state.encounter state.journal
 told_lines (texts.Summary deliveries) = tool_lines tools.Summary deliveries.encounter deliveries.journal
 told_lines (texts.Watch state) = tool_lines tools.Watch state.encounter state.journal
 told_lines (texts.Why state) = tool_lines tools.Why state.encounter state.journal
@@ -66,7 +68,8 @@ answer_lines (Shown page) = page_lines page
 answer_lines (Faultless line) = line ∷ []
 answer_lines (RightEncounter right) = right_encounter_lines right
 answer_lines (RightRecording right) = right_recording_lines right
-answer_lines (Explained at code line) = refused_line at code ∷ line ∷ []
+answer_lines (ExplainedRefusal at code told) = refused_line at code ∷ told ∷ []
+answer_lines (ExplainedWrong line reason told) = verdict_line (verdicts.Wrong line reason) ∷ told ∷ []
 answer_lines (Judged verdict) = verdict_line verdict ∷ []
 answer_lines (Refused at code) = refused_line at code ∷ []
 

@@ -4,7 +4,7 @@ use Rattle.acas_base.specs.Encounter.{Parts}
 use Rattle.acas_base.specs.declared.entry.Entry.{Entry}
 use Rattle.acas_lines.specs.Lines.{joined}
 use Rattle.acas_top.specs.declared.words.Tool.{Tool}
-use Rattle.acas_top.specs.declared.words.Tool.TheVariants.{Messages, Places, Reports, Response, Summary, Watch, Why}
+use Rattle.acas_top.specs.declared.words.Tool.TheVariants.{Messages, Picture, Places, Reports, Response, Summary, Watch, Why}
 use Rattle.air_journal.specs.States.{State}
 use Rattle.deliveries.specs.Text.{delivery_lines}
 use Rattle.journal_tables.specs.Messages.{message_lines}
@@ -14,6 +14,7 @@ use Rattle.ra_report.specs.Blocks.{report_lines}
 use Rattle.reasons.specs.Reasons.{reasons_lines}
 use Rattle.rec_audit.specs.Judging.{IsRecordingOf}
 use Rattle.response.specs.Response.{response_lines}
+use Rattle.picture.specs.Picture.{picture_lines}
 use Rattle.summary.specs.Summary.{summary_lines}
 
 -- The lines that a tool tells of an encounter and its journal, and their text.
@@ -22,6 +23,7 @@ tool_lines Messages e journal = message_lines e journal
 tool_lines Places e journal = place_lines e journal
 tool_lines Reports e journal = report_lines e journal
 tool_lines Response e journal = response_lines e journal
+tool_lines Picture e journal = picture_lines e journal
 tool_lines Summary e journal = summary_lines e journal ++ delivery_lines e journal
 tool_lines Watch e journal = watch_lines e journal
 tool_lines Why e journal = reasons_lines e journal

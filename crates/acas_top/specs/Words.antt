@@ -17,7 +17,7 @@ use Rattle.acas_top.specs.declared.words.Plain.TheVariants.{Audit, Compare, Deco
 use Rattle.acas_top.specs.declared.words.Threaded.{Threaded}
 use Rattle.acas_top.specs.declared.words.Threaded.TheVariants.{Play, Sum}
 use Rattle.acas_top.specs.declared.words.Tool.{Tool}
-use Rattle.acas_top.specs.declared.words.Tool.TheVariants.{Messages, Places, Reports, Response, Summary, Watch, Why}
+use Rattle.acas_top.specs.declared.words.Tool.TheVariants.{Messages, Picture, Places, Reports, Response, Summary, Watch, Why}
 
 -- The numbers of a plain command are in their ranges.
 abbrev pub IsInRange : Plain → Type 0
@@ -44,6 +44,7 @@ tool_word Messages = codes "messages"
 tool_word Places = codes "places"
 tool_word Reports = codes "reports"
 tool_word Response = codes "response"
+tool_word Picture = codes "picture"
 tool_word Summary = codes "summary"
 tool_word Watch = codes "watch"
 tool_word Why = codes "why"

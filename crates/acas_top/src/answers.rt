@@ -22,11 +22,11 @@ use acas_lines::{LineSink, Text};
 use acas_text::Line;
 use air_journal::AirState;
 use comparison::{Comparison, Found, compare, split};
+use deliveries::Deliveries;
 use enc_file::{CanonicalText, ReadError};
 use enc_gen::make;
-use deliveries::Deliveries;
 use fault_text::explained;
-use rec_audit::{Loaded, Verdict, judge, load, load_part};
+use rec_audit::{Explained, Loaded, Reason, Verdict, explain, judge, load, load_part};
 use rec_text::Recording;
 use std::alloc::{AllocError, Global};
 use std::thread::Threads;
@@ -57,7 +57,10 @@ pub(crate) enum Answer {
     /// What is told of a recording in which nothing is wrong.
     RightRecording(RightRecording),
     /// The line of a refusal, with the number of the record and the number of the code, and the sentence of its fault.
-    Explained(u32, u8, Line),
+    ExplainedRefusal(u32, u8, Line),
+    /// The line of the verdict on a wrong recording, with the number of the line and the reason, and the sentence that
+    /// tells why this line can't stand there.
+    ExplainedWrong(u32, Reason, Line),
     /// A page about the program.
     Shown(Page),
     /// The line of the verdict on a recording.
@@ -85,7 +88,8 @@ impl Answer {
             | Answer::Shown(_) => Status::Done,
             Answer::Judged(Verdict::Legal(_)) => Status::Done,
             Answer::Judged(Verdict::Wrong(_, _)) => Status::Wrong,
-            Answer::Refused(_, _) | Answer::Explained(_, _, _) => Status::Refused,
+            Answer::ExplainedWrong(_, _, _) => Status::Wrong,
+            Answer::Refused(_, _) | Answer::ExplainedRefusal(_, _, _) => Status::Refused,
         }
     }
 }
@@ -115,7 +119,14 @@ impl Text for Answer {
             Answer::Faultless(line) => sink.line(line),
             Answer::RightEncounter(right) => right.put(sink),
             Answer::RightRecording(right) => right.put(sink),
-            Answer::Explained(at, code, line) => put_both(&refusal_line(*at, *code), line, sink),
+            Answer::ExplainedRefusal(at, code, told) => put_both(
+                &refusal_line(*at, *code),
+                told,
+                sink,
+            ),
+            Answer::ExplainedWrong(line, reason, told) => {
+                put_both(&verdict_line(Verdict::Wrong(*line, *reason)), told, sink);
+            }
             Answer::Shown(page) => put_page(*page, sink),
             Answer::Judged(verdict) => sink.line(&verdict_line(*verdict)),
             Answer::Refused(at, code) => sink.line(&refusal_line(*at, *code)),
@@ -251,12 +262,12 @@ fn answer_recording(alloc: Global, bytes: Vec<u8>) -> Result<Answer, AllocError>
     requires few { length bytes.items ≤ RECORDING_BYTES }
     ensures { IfOk result (λ answer. AnswersPlain Plain.Explain bytes.items (answer_status answer) (answer_text answer)) }
 {
-    match load(alloc, bytes.as_slice())? {
-        Loaded::Legal(state) => {
+    match explain(alloc, bytes.as_slice())? {
+        Explained::Legal(state) => {
             let deliveries = Deliveries::new(alloc, state)?;
             Ok(Answer::RightRecording(RightRecording::new(bytes, deliveries)))
         }
-        Loaded::Wrong(line, reason) => Ok(Answer::Judged(Verdict::Wrong(line, reason))),
+        Explained::Wrong(line, reason, told) => Ok(Answer::ExplainedWrong(line, reason, told)),
     }
 }
 
@@ -269,8 +280,8 @@ fn answer_about_tracks(alloc: Global, bytes: &[u8]) -> Result<Answer, AllocError
     match track_text::read(alloc, bytes) {
         Ok(encounter) => Ok(Answer::Faultless(right_tracks_line(&encounter, bytes))),
         Err(track_text::ReadError::Refused(refusal)) => {
-            let line = track_text::explained(bytes, refusal);
-            Ok(Answer::Explained(refusal.at, refusal.fault.number(), line))
+            let told = track_text::explained(bytes, refusal);
+            Ok(Answer::ExplainedRefusal(refusal.at, refusal.fault.number(), told))
         }
         Err(track_text::ReadError::OutOfMemory) => Err(AllocError),
     }
@@ -285,8 +296,8 @@ fn answer_encounter(alloc: Global, bytes: Vec<u8>) -> Result<Answer, AllocError>
     match enc_file::read(alloc, bytes.as_slice()) {
         Ok(encounter) => Ok(Answer::RightEncounter(RightEncounter::new(bytes, encounter))),
         Err(ReadError::Refused(refusal)) => {
-            let line = explained(alloc, bytes.as_slice(), refusal)?;
-            Ok(Answer::Explained(refusal.at, refusal.code.number(), line))
+            let told = explained(alloc, bytes.as_slice(), refusal)?;
+            Ok(Answer::ExplainedRefusal(refusal.at, refusal.code.number(), told))
         }
         Err(ReadError::OutOfMemory) => Err(AllocError),
     }

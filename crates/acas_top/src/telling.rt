@@ -9,6 +9,7 @@ use air_journal::AirState;
 use deliveries::Deliveries;
 use journal_tables::{Messages, Places};
 use pair_watch::Watch;
+use picture::Picture;
 use ra_report::Reports;
 use reasons::Reasons;
 use response::Response;
@@ -19,6 +20,7 @@ use summary::Summary;
 #[derive(Drop)]
 pub(crate) enum Told {
     Messages(Messages),
+    Picture(AirState),
     Places(AirState),
     Reports(AirState),
     Response(AirState),
@@ -33,6 +35,7 @@ pub(crate) fn told_by(alloc: Global, tool: Tool, state: AirState) -> Result<Told
 {
     match tool {
         Tool::Messages => Ok(Told::Messages(Messages::new(alloc, state)?)),
+        Tool::Picture => Ok(Told::Picture(state)),
         Tool::Places => Ok(Told::Places(state)),
         Tool::Reports => Ok(Told::Reports(state)),
         Tool::Response => Ok(Told::Response(state)),
@@ -58,6 +61,7 @@ impl Text for Told {
     fn put<S: LineSink>(&self, sink: &mut S) {
         match self {
             Told::Messages(messages) => messages.put(sink),
+            Told::Picture(state) => Picture(state).put(sink),
             Told::Places(state) => Places(state).put(sink),
             Told::Reports(state) => Reports(state).put(sink),
             Told::Response(state) => Response(state).put(sink),

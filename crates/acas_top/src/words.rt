@@ -31,6 +31,8 @@ pub enum Limit {
 pub enum Tool {
     /// `messages`: each resolution message, and what became of its copies, as a table.
     Messages,
+    /// `picture`: the advisories of each aircraft against time, drawn as SVG.
+    Picture,
     /// `places`: where each aircraft was in each cycle, and what its crew was advised, as a table.
     Places,
     /// `reports`: the RA report blocks that the aircraft would have downlinked.
@@ -176,6 +178,9 @@ fn tool_of(word: &str) -> Option<Tool>
 {
     if word == "messages" {
         return Some(Tool::Messages);
+    }
+    if word == "picture" {
+        return Some(Tool::Picture);
     }
     if word == "places" {
         return Some(Tool::Places);

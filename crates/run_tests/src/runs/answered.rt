@@ -1,5 +1,5 @@
-// What words write, to the byte. Expected values: by hand from "Refusals", "Recorded tracks" and "Encounters made from
-// a number" in docs/FORMATS.md.
+// What words write, to the byte. Expected values: by hand from "Refusals", "Recorded tracks", "Explained", "What has no
+// effect" and "Encounters made from a number" in docs/FORMATS.md.
 use super::{APART, LEVEL, ONE_CYCLE, ONE_CYCLE_RECORDING, TRAFFIC, answers, joined, run};
 use acas_top::Status;
 use std::alloc::{AllocError, Global};
@@ -99,37 +99,60 @@ fn makes_and_plays_encounters(rt: HostRuntime) -> Result<(), Fail> {
     Ok(())
 }
 
+// What is read, the status, and what `explain` writes.
+type Explained = (&'static [u8], Status, &'static [u8]);
+
+const EXPLAINED: [Explained; 8] = [
+    (
+        b"",
+        Status::Refused,
+        b"refused,1,1\nline 1: there is no record; the first one has to be \"encounter,1\" or \"encounter,2\"\n",
+    ),
+    (
+        b"encounter,1\n\nrun,1,+0\n",
+        Status::Refused,
+        b"refused,2,4\nline 3: GROUND is \"+0\", and has to be a whole number from -1000 to 15000 ft, without a space, a sign or a zero too many\n",
+    ),
+    (
+        b"encounter,1\nrun,1,0\ncraft,400A01,RA,0,0,0\nend\n",
+        Status::Done,
+        b"encounter: 1 aircraft (1 RA, 0 TA, 0 XPDR), 1 cycle, 4 records\nline 3: 400A01 gives no resolution advisories: it is too near the ground in each cycle (sensitivity level 2)\nline 3: 400A01 measures nobody: it is never within 182280 ft of another aircraft\n",
+    ),
+    (
+        ONE_CYCLE_RECORDING,
+        Status::Done,
+        b"recording: legal, 1 entry\nline 5: 400100 measures nobody: it is never within 182280 ft of another aircraft\nline 6: this leg has no effect: it would move 400100 after cycle 1, the last one\n",
+    ),
+    (
+        OTHER_CYCLE,
+        Status::Wrong,
+        b"wrong,9,3\nline 9: aircraft 0 may not commit cycle 2 here: its next cycle is 1\n",
+    ),
+    (
+        b"tracks,1\nrun,2,0\ncraft,400A01,RA\nat,400A01,0,0,0,600000\nat,400A01,1000,2000,0,600000\nend\n",
+        Status::Done,
+        b"tracks: 1 aircraft (1 RA, 0 TA, 0 XPDR), 2 cycles, 6 records\n",
+    ),
+    (
+        b"tracks,1\nrun,2,0\ncraft,400A01,RA\n\nat,400A01,0,0,0,600000\nat,400A01,1000,2001,0,600000\nend\n",
+        Status::Refused,
+        b"refused,6,14\nline 7: the track of 400A01 is too fast for a leg from cycle 1 to the next one: at most 2000 ft/s in x and in y, and 10000 ft/min\n",
+    ),
+    (
+        b"tracks,1\nrun,2,0\ncraft,400A01,RA,0\n",
+        Status::Refused,
+        b"refused,3,3\nline 3: \"craft,400A01,RA,0\" has more or fewer fields than a record of its kind\n",
+    ),
+];
+
+// The recording of one cycle, with another cycle in its entry.
+const OTHER_CYCLE: &[u8] =
+    b"recording,1\nencounter,1\nrun,1,0\ngains,683,256,512,128\ncraft,400100,RA,-55000,39000,22400\nleg,400100,1,550,-390,-800\nend\njournal,1\nc,0,2,-\nreport,0\nclose\n";
+
 #[test]
 fn explains_what_it_reads(rt: HostRuntime) -> Result<(), Fail> {
-    let right = b"encounter: 1 aircraft (1 RA, 0 TA, 0 XPDR), 1 cycles, 4 records\n";
-    let legal = b"recording: legal, 1 entries\n";
-    assert!(rt;
-        answers(
-            &rt,
-            "explain",
-            b"encounter,1\n\nrun,1,+0\n",
-            Status::Refused,
-            b"refused,2,4\nline 3: GROUND is \"+0\", and has to be a whole number from -1000 to 15000 ft, without a space, a sign or a zero too many\n"
-        )?
-    );
-    assert!(rt;
-        answers(
-            &rt,
-            "explain",
-            b"encounter,1\nrun,1,0\ncraft,400A01,RA,0,0,0\nend\n",
-            Status::Done,
-            right
-        )?
-    );
-    assert!(rt; answers(&rt, "explain", ONE_CYCLE_RECORDING, Status::Done, legal)?);
-    assert!(rt;
-        answers(
-            &rt,
-            "explain",
-            b"recording,1",
-            Status::Wrong,
-            b"wrong,1,2\n"
-        )?
-    );
+    for (input, status, text) in EXPLAINED {
+        assert!(rt; answers(&rt, "explain", input, status, text)?);
+    }
     Ok(())
 }
