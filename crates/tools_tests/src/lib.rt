@@ -10,6 +10,8 @@ mod journal_tables_tests;
 #[cfg(test)]
 mod pair_watch_tests;
 #[cfg(test)]
+mod picture_tests;
+#[cfg(test)]
 mod ra_block_tests;
 #[cfg(test)]
 mod reasons_tests;

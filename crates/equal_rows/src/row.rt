@@ -1,0 +1,8 @@
+// A row of cycles.
+
+/// A row of cycles: the first and the last of them.
+#[derive(Clone, Copy, Debug, PartialEq, Eq)]
+pub struct Row {
+    pub first: u16,
+    pub last: u16,
+}

@@ -1,0 +1,15 @@
+use Rattle.std.proofs.Common.{ℕ, ◌+◌, ap, ◌∙◌}
+use Rattle.picture.specs.Layout.{point_at}
+use Rattle.picture.proofs.legend.put_legend.Goals as goal
+
+pub returns : goal.returns
+returns g c =
+    let bottom = c.plot_bottom-bottom.ensures.value in
+    let at = c.point_at.ensures ∙ ap (λ (n : ℕ). point_at 2000 (n + 1850)) bottom in
+    let one = rw bottom at c.put_item.ensures in
+    let two = rw bottom at c.put_item-2.ensures in
+    let three = rw bottom at c.put_item-3.ensures in
+    let four = rw bottom at c.put_item-4.ensures in
+    let words = rw at at c.put_words.ensures in
+    let last = rw c.fixed_line.ensures at words in
+    g.met.D.Drawing.then _ _ _ _ _ one (g.met.D.Drawing.then _ _ _ _ _ two (g.met.D.Drawing.then _ _ _ _ _ three (g.met.D.Drawing.then _ _ _ _ _ four last)))

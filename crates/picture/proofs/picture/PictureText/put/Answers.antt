@@ -1,0 +1,24 @@
+use Rattle.std.proofs.Common.{ap, ◌∙◌}
+use Rattle.acas_base.specs.Encounter.{Parts}
+use Rattle.picture.specs.Head.{title_text}
+use Rattle.picture.specs.Layout.{active_among, frame_of}
+use Rattle.picture.specs.Picture.{picture_lines}
+use Rattle.picture.proofs.picture.PictureText.put.Goals as goal
+
+pub returns : goal.returns
+unfolding picture_lines
+returns g c =
+    let enc = c.enc-encounter.ensures in
+    let lanes = c.active_among-lanes.ensures.value ∙ ap active_among (c.crafts.ensures.value ∙ ap (λ (p : Parts). p.crafts) enc) in
+    let frame = c.frame_of.ensures ∙ ap frame_of lanes in
+    let title = c.title_text-title.ensures.text ∙ ap title_text enc in
+    let cycles = c.cycles.ensures.value ∙ ap (λ (p : Parts). p.cycles) enc in
+    let begun = rw frame at c.begin_drawing.ensures.head in
+    let titled = rw title at begun in
+    let head = rw c.description.ensures.text at titled in
+    let axis = rw cycles at c.put_time_section.ensures in
+    let time = rw lanes at axis in
+    let legend = rw lanes at c.put_legend_section.ensures in
+    let last = g.met.S.LineSink.then _ _ _ _ _ legend (g.met.S.LineSink.nothing _) in
+    let marks = g.met.S.LineSink.then _ _ _ _ _ c.put_head_section.ensures (g.met.S.LineSink.then _ _ _ _ _ time (g.met.S.LineSink.then _ _ _ _ _ c.put_lanes_section.ensures last)) in
+    g.met.S.LineSink.then _ _ _ _ _ head (g.met.S.LineSink.then _ _ _ _ _ marks c.end_drawing.ensures)

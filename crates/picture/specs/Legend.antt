@@ -1,0 +1,26 @@
+-- What the boxes mean.
+use Rattle.std.specs.Prelude.{ℕ, ◌+◌, List, [], ◌∷◌, ◌++◌, codes}
+use Rattle.picture.specs.Layout.{area_at, plot_bottom, point_at}
+use Rattle.picture.specs.Paints.{box_marks, letters}
+use Rattle.picture.specs.declared.paints.Advised.{Advised}
+use Rattle.picture.specs.declared.paints.Advised.TheVariants as kinds
+use Rattle.svg_text.specs.Marks.{Mark, worded}
+use Rattle.svg_text.specs.declared.shapes.Anchor.TheVariants as anchors
+use Rattle.svg_text.specs.declared.shapes.Weight.TheVariants as weights
+
+-- A box and what it means.
+unfoldable pub item_marks : ℕ → ℕ → Advised → List ℕ → List Mark
+item_marks bottom x advised words =
+    box_marks advised (area_at x (bottom + 1150) 700 280) []
+    ++ worded (letters (point_at (x + 850) (bottom + 1380)) 260 anchors.Start weights.Regular) words [] ∷ []
+
+abbrev pub height_words : List ℕ
+height_words = codes "A tall bar: corrective advice. A low bar: preventive advice, or traffic alone."
+
+abbrev pub legend_marks : ℕ → List Mark
+legend_marks lanes =
+    item_marks (plot_bottom lanes) 2000 kinds.Traffic (codes "traffic")
+    ++ (item_marks (plot_bottom lanes) 5200 kinds.Up (codes "up")
+    ++ (item_marks (plot_bottom lanes) 8400 kinds.Down (codes "down")
+    ++ (item_marks (plot_bottom lanes) 11600 kinds.Both (codes "up and down")
+    ++ worded (letters (point_at 2000 (plot_bottom lanes + 1850)) 260 anchors.Start weights.Regular) height_words [] ∷ [])))

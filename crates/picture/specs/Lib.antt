@@ -1,0 +1,10 @@
+pub mod Layout
+pub mod Paints
+pub mod Shown
+pub mod Head
+pub mod Time
+pub mod Bars
+pub mod Legend
+pub mod Picture
+pub mod Within
+pub mod Laws

@@ -1,0 +1,149 @@
+// The lanes of the aircraft that advise.
+ghost use Rattle.std.specs.Prelude.{◌≡◌, ◌<◌, ◌≤◌, None, length};
+ghost use Rattle.std.specs.List.{flat_map};
+ghost use Rattle.acas_text.specs.Hex.{hex};
+ghost use Rattle.equal_rows.specs.Rows.{rows_at};
+ghost use Rattle.picture.specs.Bars.{bars, craft_marks, lane_head, lane_marks, lanes_marks, row_marks};
+ghost use Rattle.picture.specs.Layout.{lane_base};
+ghost use Rattle.picture.specs.Shown.{goes_on, is_shown};
+ghost use Rattle.svg_text.specs.declared.drawing.TheConstants.{LABEL_BYTES};
+
+use crate::bars::put_bar;
+use crate::layout::{lane_base, lane_of, point_at};
+use crate::paints::{grid, put_line, put_words};
+use crate::shown::{begins, last_from, shown_in};
+use acas_base::Address;
+use acas_text::Line;
+use air_journal::AirState;
+use equal_rows::Row;
+use plot_axes::TimeAxis;
+use svg_text::{Anchor, Drawing, Shape, Weight};
+
+// Puts the bar of the row that begins with a cycle, if one does.
+fn put_begun<D: Drawing>(
+    state: &AirState,
+    axis: TimeAxis,
+    own: u8,
+    lane: u32,
+    address: Address,
+    cycle: u16,
+    drawing: &mut D,
+)
+    requires axis { axis.cycles ≡ state.now.encounter.cycles }
+    requires lane { lane ≤ 16 }
+    requires first { 1 ≤ cycle }
+    requires last { cycle ≤ axis.cycles }
+    ensures { D.drew drawing.old drawing.new (flat_map (row_marks state.now.encounter state.now.journal own lane address) (rows_at (is_shown state.now.journal own) (goes_on state.now.journal own) state.now.encounter.cycles cycle)) }
+{
+    if begins(state, own, cycle) {
+        let row = Row {
+            first: cycle,
+            last: last_from(state, own, cycle),
+        };
+        put_bar(
+            axis,
+            lane,
+            address,
+            &shown_in(state, own, cycle),
+            row,
+            drawing,
+        );
+    }
+}
+
+// Puts the bars of an aircraft.
+fn put_bars<D: Drawing>(
+    state: &AirState,
+    axis: TimeAxis,
+    own: u8,
+    lane: u32,
+    address: Address,
+    drawing: &mut D,
+)
+    requires axis { axis.cycles ≡ state.now.encounter.cycles }
+    requires lane { lane ≤ 16 }
+    ensures { D.drew drawing.old drawing.new (bars state.now.encounter state.now.journal own lane address) }
+{
+    for cycle in 1..axis.cycles + 1 {
+        put_begun(state, axis, own, lane, address, cycle, drawing);
+    }
+}
+
+// The text of an address.
+fn address_text(address: Address) -> Line
+    ensures text { result ≡ hex 6 address }
+    ensures short { length result ≤ LABEL_BYTES }
+{
+    let mut line = Line::new();
+    line.address(address.value());
+    line
+}
+
+// Puts the line of a lane, and the address.
+fn put_lane_head<D: Drawing>(lane: u32, address: Address, drawing: &mut D)
+    requires { lane ≤ 16 }
+    ensures { D.drew drawing.old drawing.new (lane_head lane address) }
+{
+    let base = lane_base(lane);
+    let line = Shape::Segment {
+        from: point_at(2_000, base),
+        to: point_at(17_800, base),
+    };
+    put_line(line, grid(), drawing);
+    put_words(
+        point_at(1_880, base),
+        300,
+        Anchor::End,
+        Weight::Regular,
+        &address_text(address),
+        drawing,
+    );
+}
+
+fn put_lane<D: Drawing>(
+    state: &AirState,
+    axis: TimeAxis,
+    own: u8,
+    lane: u32,
+    address: Address,
+    drawing: &mut D,
+)
+    requires axis { axis.cycles ≡ state.now.encounter.cycles }
+    requires lane { lane ≤ 16 }
+    ensures { D.drew drawing.old drawing.new (lane_marks state.now.encounter state.now.journal own lane address) }
+{
+    put_lane_head(lane, address, drawing);
+    put_bars(state, axis, own, lane, address, drawing);
+}
+
+// Puts the lane of an aircraft, where it advises.
+#[tactic(auto, unfolding(crate::specs::Bars::craft_marks))]
+fn put_craft<D: Drawing>(state: &AirState, axis: TimeAxis, own: usize, drawing: &mut D)
+    requires axis { axis.cycles ≡ state.now.encounter.cycles }
+    requires own { own < length state.now.encounter.crafts }
+    ensures { D.drew drawing.old drawing.new (craft_marks state.now.encounter state.now.journal own) }
+{
+    state.legal_law();
+    let crafts = state.enc().crafts();
+    let craft = &crafts[own];
+    if craft.kind.is_active() {
+        put_lane(
+            state,
+            axis,
+            own as u8,
+            lane_of(crafts, own),
+            craft.address,
+            drawing,
+        );
+    }
+}
+
+/// Puts all lanes.
+pub(crate) fn put_lanes<D: Drawing>(state: &AirState, axis: TimeAxis, drawing: &mut D)
+    requires axis { axis.cycles ≡ state.now.encounter.cycles }
+    ensures { D.drew drawing.old drawing.new (lanes_marks state.now.encounter state.now.journal) }
+{
+    for own in 0..state.enc().crafts().len() {
+        put_craft(state, axis, own, drawing);
+    }
+}

@@ -1,0 +1,96 @@
+// Where things stand on the page.
+ghost use Rattle.std.specs.Prelude.{◌≡◌, ◌<◌, ◌≤◌, ◌^◌, length};
+ghost use Rattle.picture.specs.Layout.{active_among, area_at, frame_of, lane_base, lane_of, plot_area, plot_bottom, point_at};
+
+use acas_base::CraftSpec;
+use svg_text::{Area, Frame, Point};
+
+/// How wide the page is.
+const PAGE_WIDTH: u32 = 20_000;
+
+/// Where the lanes begin.
+pub(crate) const PLOT_TOP: u32 = 1_500;
+
+// How far it is from one lane to the next one.
+const LANE: u32 = 700;
+
+pub(crate) fn point_at(x: u32, y: u32) -> Point
+    requires x { x < 2 ^ 16 }
+    requires y { y < 2 ^ 16 }
+    ensures { result ≡ point_at x y }
+{
+    Point {
+        x: x as i32,
+        y: y as i32,
+    }
+}
+
+pub(crate) fn area_at(x: u32, y: u32, width: u32, height: u32) -> Area
+    requires x { x < 2 ^ 16 }
+    requires y { y < 2 ^ 16 }
+    ensures { result ≡ area_at x y width height }
+{
+    Area {
+        corner: point_at(x, y),
+        width,
+        height,
+    }
+}
+
+/// How many aircraft of a list advise.
+pub(crate) fn active_among(crafts: &[CraftSpec]) -> u32
+    requires { length crafts.now ≤ 16 }
+    ensures value { result ≡ active_among crafts.now }
+    ensures few { result ≤ 16 }
+{
+    crafts.iter().filter(|craft| craft.kind.is_active()).count() as u32
+}
+
+/// The lane of an aircraft: how many aircraft before it advise.
+pub(crate) fn lane_of(crafts: &[CraftSpec], own: usize) -> u32
+    requires few { length crafts.now ≤ 16 }
+    requires own { own < length crafts.now }
+    ensures value { result ≡ lane_of crafts.now own }
+    ensures few { result ≤ 16 }
+{
+    active_among(&crafts[..own])
+}
+
+/// Where the bars of a lane end.
+pub(crate) fn lane_base(lane: u32) -> u32
+    requires { lane ≤ 16 }
+    ensures value { result ≡ lane_base lane }
+    ensures least { 2100 ≤ result }
+    ensures most { result ≤ 13300 }
+{
+    2_100 + LANE * lane
+}
+
+/// Where the lanes end.
+pub(crate) fn plot_bottom(lanes: u32) -> u32
+    requires { lanes ≤ 16 }
+    ensures value { result ≡ plot_bottom lanes }
+    ensures most { result ≤ 12800 }
+{
+    1_600 + LANE * lanes
+}
+
+/// The box in which the lanes stand.
+pub(crate) fn plot_area(lanes: u32) -> Area
+    requires { lanes ≤ 16 }
+    ensures { result ≡ plot_area lanes }
+{
+    area_at(2_000, PLOT_TOP, 15_800, 100 + LANE * lanes)
+}
+
+/// The page.
+pub(crate) fn frame_of(lanes: u32) -> Frame
+    requires { lanes ≤ 16 }
+    ensures { result ≡ frame_of lanes }
+{
+    Frame {
+        width: PAGE_WIDTH,
+        height: 3_800 + LANE * lanes,
+        window: plot_area(lanes),
+    }
+}

@@ -1,0 +1,56 @@
+// What the boxes mean.
+ghost use Rattle.std.specs.Prelude.{◌≡◌, ◌<◌, ◌≤◌, ◌^◌, length};
+ghost use Rattle.picture.specs.Layout.{plot_bottom};
+ghost use Rattle.picture.specs.Legend.{height_words, item_marks, legend_marks};
+ghost use Rattle.svg_text.specs.declared.drawing.TheConstants.{LABEL_BYTES};
+
+use crate::layout::{area_at, plot_bottom, point_at};
+use crate::paints::{Advised, put_box, put_words};
+use acas_lines::fixed_line;
+use acas_text::Line;
+use svg_text::{Anchor, Drawing, Weight};
+
+// Puts a box and what it means.
+fn put_item<D: Drawing>(bottom: u32, x: u32, advised: Advised, words: &str, drawing: &mut D)
+    requires bottom { bottom ≤ 12800 }
+    requires x { x ≤ 20000 }
+    requires words { length words.now ≤ LABEL_BYTES }
+    ensures { D.drew drawing.old drawing.new (item_marks bottom x advised words.now) }
+{
+    put_box(
+        advised,
+        area_at(x, bottom + 1_150, 700, 280),
+        &Line::new(),
+        drawing,
+    );
+    put_words(
+        point_at(x + 850, bottom + 1_380),
+        260,
+        Anchor::Start,
+        Weight::Regular,
+        &fixed_line(words),
+        drawing,
+    );
+}
+
+/// Puts the legend.
+pub(crate) fn put_legend<D: Drawing>(lanes: u32, drawing: &mut D)
+    requires { lanes ≤ 16 }
+    ensures { D.drew drawing.old drawing.new (legend_marks lanes) }
+{
+    let bottom = plot_bottom(lanes);
+    put_item(bottom, 2_000, Advised::Traffic, "traffic", drawing);
+    put_item(bottom, 5_200, Advised::Up, "up", drawing);
+    put_item(bottom, 8_400, Advised::Down, "down", drawing);
+    put_item(bottom, 11_600, Advised::Both, "up and down", drawing);
+    put_words(
+        point_at(2_000, bottom + 1_850),
+        260,
+        Anchor::Start,
+        Weight::Regular,
+        &fixed_line(
+            "A tall bar: corrective advice. A low bar: preventive advice, or traffic alone.",
+        ),
+        drawing,
+    );
+}

@@ -1,0 +1,21 @@
+//! A drawing of a recording as SVG: which advisories each aircraft showed, and when.
+//!
+//! It has a head, an axis of time, a lane for each aircraft that advises with a bar for each of its rows of cycles, and
+//! a legend. The bars are exactly the longest rows of cycles with one word and one corrective mark (`bars_law`). The
+//! text is well formed, and everything lies within its page (`sound_law`).
+#![tactic(auto)]
+
+mod bar;
+mod bars;
+mod head;
+mod lanes;
+mod laws;
+mod layout;
+mod legend;
+mod paints;
+mod picture;
+mod shown;
+mod time;
+
+pub use laws::{bars_law, sound_law};
+pub use picture::{Picture, write};

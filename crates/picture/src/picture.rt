@@ -1,0 +1,103 @@
+// The picture.
+ghost use Rattle.std.specs.Prelude.{◌≡◌, ◌∷◌, [], ◌≤◌, None, length};
+ghost use Rattle.acas_io.specs.Stream.{Puts};
+ghost use Rattle.picture.specs.Bars.{lanes_marks};
+ghost use Rattle.picture.specs.Head.{head_marks, title_text};
+ghost use Rattle.picture.specs.Legend.{legend_marks};
+ghost use Rattle.picture.specs.Picture.{picture_text, section};
+ghost use Rattle.picture.specs.Time.{time_marks};
+ghost use Rattle.svg_text.specs.Documents.{section_lines};
+ghost use Rattle.svg_text.specs.declared.drawing.TheConstants.{LABEL_BYTES};
+
+use crate::head::{description, put_head, title_text};
+use crate::lanes::put_lanes;
+use crate::layout::{active_among, frame_of};
+use crate::legend::put_legend;
+use crate::time::put_time;
+use acas_io::{Failed, Sink};
+use acas_lines::{LineSink, Text, write_text};
+use acas_text::Line;
+use air_journal::AirState;
+use plot_axes::TimeAxis;
+use svg_text::{Clip, begin_drawing, begin_section, end_drawing, end_section};
+
+// ---- sections
+
+fn put_head_section<S: LineSink>(state: &AirState, title: &Line, sink: &mut S)
+    requires title { title.now ≡ title_text state.now.encounter }
+    requires short { length title.now ≤ LABEL_BYTES }
+    ensures { S.took sink.old sink.new (section_lines (section (head_marks state.now.encounter state.now.journal))) }
+{
+    begin_section(sink, Clip::Whole);
+    put_head(state, title, sink);
+    end_section(sink);
+}
+
+fn put_time_section<S: LineSink>(axis: TimeAxis, lanes: u32, sink: &mut S)
+    requires axis { axis.start ≡ None }
+    requires lanes { lanes ≤ 16 }
+    ensures { S.took sink.old sink.new (section_lines (section (time_marks axis.cycles lanes))) }
+{
+    begin_section(sink, Clip::Whole);
+    put_time(axis, lanes, sink);
+    end_section(sink);
+}
+
+fn put_lanes_section<S: LineSink>(state: &AirState, axis: TimeAxis, sink: &mut S)
+    requires axis { axis.cycles ≡ state.now.encounter.cycles }
+    ensures { S.took sink.old sink.new (section_lines (section (lanes_marks state.now.encounter state.now.journal))) }
+{
+    begin_section(sink, Clip::Whole);
+    put_lanes(state, axis, sink);
+    end_section(sink);
+}
+
+fn put_legend_section<S: LineSink>(lanes: u32, sink: &mut S)
+    requires { lanes ≤ 16 }
+    ensures { S.took sink.old sink.new (section_lines (section (legend_marks lanes))) }
+{
+    begin_section(sink, Clip::Whole);
+    put_legend(lanes, sink);
+    end_section(sink);
+}
+
+// ---- all of it
+
+/// The picture of a state, as SVG: a head, an axis of time, a lane for each aircraft that advises, and a legend. In a
+/// lane stands a bar for each longest row of cycles with one word of the report, which isn't CLEAR, and one corrective
+/// mark.
+#[derive(Drop)]
+pub struct Picture<'a>(pub &'a AirState);
+
+impl Text for Picture<'_> {
+    ghost use Rattle.picture.specs.Picture.{picture_lines};
+
+    ghost lines = { λ p. picture_lines p.0.now.encounter p.0.now.journal };
+
+    fn put<S: LineSink>(&self, sink: &mut S) {
+        let state = self.0;
+        state.legal_law();
+        let encounter = state.enc();
+        let lanes = active_among(encounter.crafts());
+        let axis = TimeAxis {
+            cycles: encounter.cycles(),
+            start: None,
+        };
+        let title = title_text(encounter);
+        begin_drawing(sink, &frame_of(lanes), &title, &description());
+        put_head_section(state, &title, sink);
+        put_time_section(axis, lanes, sink);
+        put_lanes_section(state, axis, sink);
+        put_legend_section(lanes, sink);
+        end_drawing(sink);
+    }
+}
+
+/// Writes the [`Picture`] of a state. It takes no memory.
+///
+/// `Failed` comes only where the sink's count of faults rose; what was written then is a front of the text.
+pub fn write<K: Sink>(state: &AirState, sink: &mut K) -> Result<(), Failed>
+    ensures { Puts (K.written sink.old) (K.written sink.new) (K.faults sink.old) (K.faults sink.new) (picture_text state.now.encounter state.now.journal) result }
+{
+    write_text(&Picture(state), sink)
+}
