@@ -343,7 +343,9 @@ impl Tables {
         }
     }
 
-    /// Takes the next record, as its fields stand in the text. The errors are those of [`crate::read`].
+    /// Takes the next record, as its fields stand in the text. The errors are those of [`crate::read`], in which it is
+    /// inlined.
+    #[inline(always)]
     pub fn take(&mut self, alloc: Global, row: &ByteRecord) -> Result<(), ReadError>
         requires room { self.old.count < 2 ^ 32 - 1 }
         requires held { IsHeld self.old }
