@@ -17,3 +17,5 @@ mod rec_audit_tests;
 mod rec_text_tests;
 #[cfg(test)]
 mod track_text_tests;
+#[cfg(test)]
+mod verdict_sentences_tests;
