@@ -7,7 +7,9 @@ use Rattle.acas_top.specs.Words.{greatest, most}
 use Rattle.acas_top.specs.declared.words.Limit.{Limit}
 use Rattle.acas_top.specs.declared.words.Limit.TheVariants as limits
 use Rattle.acas_top.specs.declared.words.TheConstants.{ENCOUNTER_BYTES, RECORDING_BYTES}
-use Rattle.fault_text.specs.Lines.{begins_recording}
+use Rattle.acas_top.specs.Answers.{read_as}
+use Rattle.acas_top.specs.declared.explaining.Subject.TheVariants as subjects
+use Rattle.fault_text.specs.Lines.{begins_recording, begins_tracks}
 
 pub most-within : (limit : Limit) (bytes : List ℕ) → most limit bytes ≤ greatest limit
 most-within limits.Encounter bytes = omega arith
@@ -27,3 +29,26 @@ pub took-long : (limit : Limit) (old new : Option (List ℕ)) → Took (λ n. gr
 took-long limit None new took = tt
 took-long limit (Some xs) None took = absurd took.1
 took-long limit (Some xs) (Some ys) took = omega (arith, most-within limit xs, took.2, ap length took.1, length-append took.0 ys)
+
+-- How much may be read, by what it is read as.
+recording-by : (b t : Bool) → (if b then subjects.Recording else if t then subjects.Tracks else subjects.Encounter) ≡ subjects.Recording → (if b then RECORDING_BYTES else ENCOUNTER_BYTES) ≡ RECORDING_BYTES
+recording-by true t is = refl
+recording-by false true is = absurd (cc is)
+recording-by false false is = absurd (cc is)
+
+tracks-by : (b t : Bool) → (if b then subjects.Recording else if t then subjects.Tracks else subjects.Encounter) ≡ subjects.Tracks → (if b then RECORDING_BYTES else ENCOUNTER_BYTES) ≡ ENCOUNTER_BYTES
+tracks-by true t is = absurd (cc is)
+tracks-by false t is = refl
+
+encounter-by : (b t : Bool) → (if b then subjects.Recording else if t then subjects.Tracks else subjects.Encounter) ≡ subjects.Encounter → (if b then RECORDING_BYTES else ENCOUNTER_BYTES) ≡ ENCOUNTER_BYTES
+encounter-by true t is = absurd (cc is)
+encounter-by false t is = refl
+
+pub recording-most : (bytes : List ℕ) → read_as bytes ≡ subjects.Recording → most limits.Either bytes ≡ RECORDING_BYTES
+recording-most bytes is = recording-by (begins_recording bytes) (begins_tracks bytes) is
+
+pub tracks-most : (bytes : List ℕ) → read_as bytes ≡ subjects.Tracks → most limits.Either bytes ≡ ENCOUNTER_BYTES
+tracks-most bytes is = tracks-by (begins_recording bytes) (begins_tracks bytes) is
+
+pub encounter-most : (bytes : List ℕ) → read_as bytes ≡ subjects.Encounter → most limits.Either bytes ≡ ENCOUNTER_BYTES
+encounter-most bytes is = encounter-by (begins_recording bytes) (begins_tracks bytes) is

@@ -69,7 +69,7 @@ returns c = λ earlier begun kept.
     let are : map (λ (v : Vec Point Global). v.items) (take n c.deref.result.now) ≡ tracks_of earlier = ap (λ l. map (λ (v : Vec Point Global). v.items) (take n l)) c.deref.ensures.value ∙ tracks-are earlier c.args.self.now n kept many few in
     refuses earlier c.args.self.now (IsFirstFault earlier (Shared said.End)) (Track c.in-Err.fault c.address_of-address.result) c.refused-in-Err.result kept.count
     (end-fault earlier c.in-Some.encounter (map (λ (v : Vec Point Global). v.items) (take n c.deref.result.now)) c.in-Err.fault c.address_of-address.result begun so are (rw c.in-Err.is at c.in_ok-made.ensures.fault)
-    (ap (λ l. address_at l (craft_at c.in-Err.fault)) (sym c.crafts-address.ensures.value) ∙ c.address_of-address.ensures)) c.refused-in-Err.ensures
+    (ap (λ l. address_at l (craft_at c.in-Err.fault)) (sym c.crafts.ensures.value) ∙ c.address_of-address.ensures)) c.refused-in-Err.ensures
 
 pub address_of-address-requires : goal.address_of-address-requires
 address_of-address-requires c =
@@ -80,4 +80,4 @@ address_of-address-requires c =
     let many : n ≡ length (crafts_of (headed (shared_of earlier))) = ap (λ l. length l) (c.crafts-count.ensures.value ∙ ap (λ (p : Parts). p.crafts) so.1) in
     let few = length-take-le n c.deref.result.now (omega (arith, many, few-crafts earlier c.args.self.now kept, ap (λ l. length l) c.deref.ensures.value)) in
     let within = fault-within c.in-Some.encounter.cycles (map (λ (v : Vec Point Global). v.items) (take n c.deref.result.now)) c.in-Err.fault (rw c.in-Err.is at c.in_ok-made.ensures.fault) in
-    omega (arith, within, length-map (take n c.deref.result.now) (λ (v : Vec Point Global). v.items), few, ap (λ l. length l) c.crafts-count.ensures.value, ap (λ l. length l) c.crafts-address.ensures.value)
+    omega (arith, within, length-map (take n c.deref.result.now) (λ (v : Vec Point Global). v.items), few, ap (λ l. length l) c.crafts-count.ensures.value, ap (λ l. length l) c.crafts.ensures.value)
