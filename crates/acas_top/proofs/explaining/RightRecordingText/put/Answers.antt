@@ -1,0 +1,4 @@
+use Rattle.acas_top.proofs.explaining.RightRecordingText.put.Goals as goal
+
+pub returns : goal.returns
+returns g c = rw c.as_slice.ensures.value at rw (c.legal_line.ensures, c.count.ensures.value, c.state.ensures, c.of_recording.ensures) at (g.met.S.LineSink.then _ _ _ _ _ c.line.ensures c.put.ensures)
