@@ -1,8 +1,8 @@
 -- Which aircraft leaves the box first, and where.
-use Rattle.std.specs.Prelude.{◌≡◌, ℕ, ◌<◌, ◌≤◌, not, if◌then◌else◌, Bool, ℤ, pos, neg_ℤ, Option, None, Some, length}
+use Rattle.std.specs.Prelude.{◌≡◌, ℕ, ◌<◌, ◌≤◌, not, if◌then◌else◌, Bool, false, ℤ, pos, neg_ℤ, Option, None, Some, length}
 use Rattle.acas_base.specs.Encounter.{Parts}
 use Rattle.flight.specs.Flight.{position}
-use Rattle.flight.specs.Inside.{IsInBox, is_between}
+use Rattle.flight.specs.Inside.{IsInBox, is_between, is_in_box}
 use Rattle.flight.specs.declared.place.Place.{Place}
 use Rattle.fault_text.specs.declared.leaving.Axis.{Axis}
 use Rattle.fault_text.specs.declared.leaving.Axis.TheVariants as axis
@@ -30,6 +30,7 @@ out_on p =
 pub record LeavesIn (e : Parts) (craft cycle : ℕ) (axis : Axis) : Type 0 where
   pub begun : 1 ≤ cycle
   pub in_run : cycle ≤ e.cycles
+  pub outside : is_in_box (position e craft cycle) ≡ false
   pub out : out_on (position e craft cycle) ≡ Some axis
   pub before : (k : ℕ) → 1 ≤ k → k < cycle → IsInBox (position e craft k)
 

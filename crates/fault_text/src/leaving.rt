@@ -1,8 +1,8 @@
 // Which aircraft leaves the box first.
-ghost use Rattle.std.specs.Prelude.{◌≡◌, ◌≤◌, ◌<◌, ◌^◌, length, MatchOption, unsigned_abs};
+ghost use Rattle.std.specs.Prelude.{◌≡◌, ◌≤◌, ◌<◌, ◌^◌, false, length, IfSome, MatchOption, unsigned_abs};
 ghost use Rattle.flight.specs.Bounds.{IsReachable};
 ghost use Rattle.flight.specs.Flight.{position};
-ghost use Rattle.flight.specs.Inside.{IsInside, is_between};
+ghost use Rattle.flight.specs.Inside.{IsInside, is_between, is_in_box};
 ghost use Rattle.fault_text.specs.Leaving.{LeavesFirst, LeavesIn, Stays, is_held, on_axis, out_on};
 
 use acas_base::Encounter;
@@ -45,7 +45,8 @@ fn is_held(axis: Axis, value: i64) -> bool
 
 // The first axis on which a place isn't in the box.
 fn out_on(place: Place) -> Option<Axis>
-    ensures { result ≡ out_on place }
+    ensures value { result ≡ out_on place }
+    ensures outside { IfSome result (λ axis. is_in_box place ≡ false) }
 {
     if !is_held(Axis::X, place.x) {
         return Some(Axis::X);
