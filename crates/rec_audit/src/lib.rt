@@ -3,6 +3,7 @@
 
 mod allowed;
 mod asking;
+mod closing;
 mod compare;
 mod endings;
 mod entries;
@@ -15,8 +16,10 @@ mod keys;
 mod laws;
 mod lines;
 mod opening;
+mod picking;
 mod replay;
 mod sentences;
+mod spelled;
 mod values;
 mod verdict;
 
