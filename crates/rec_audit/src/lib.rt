@@ -25,5 +25,5 @@ mod verdict;
 
 pub use explaining::{Explained, explain};
 pub use judging::{judge, load, load_part};
-pub use laws::verdict_law;
+pub use laws::{allowed_law, verdict_law};
 pub use verdict::{Loaded, Reason, Verdict};
