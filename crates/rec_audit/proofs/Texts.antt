@@ -1,6 +1,5 @@
 -- What is told of a line by its text.
-use Rattle.std.proofs.Common.{◌≡◌, ◌≢◌, ℕ, ◌+◌, ◌-◌, ◌≤◌, zero, suc, Bool, true, false, List, [], ◌∷◌, ◌++◌, length, take, drop, Option, Some, None, slice_get, sym, refl, ap, ◌∙◌, subst, arith, inl, inr}
-use Rattle.std.specs.Borrow.{Bor}
+use Rattle.std.proofs.Common.{◌≡◌, ◌≢◌, ℕ, ◌+◌, ◌-◌, ◌≤◌, zero, suc, Bool, true, false, List, [], ◌∷◌, ◌++◌, length, take, Option, Some, None, slice_get, sym, refl, ap, ◌∙◌, subst, arith, inl, inr}
 use Rattle.std.specs.Prelude.{MatchBool, ◌==◌, option_map}
 use Rattle.std.proofs.lemmas.List.{append-nil}
 use Rattle.acas_base.specs.Encounter.{Parts}
@@ -23,7 +22,7 @@ use Rattle.rec_audit.specs.Replays.{IsWrongLine, Replays, changed, forbidden, mi
 use Rattle.rec_audit.specs.declared.verdict.Loaded.{Loaded}
 use Rattle.rec_audit.specs.declared.verdict.Loaded.TheVariants as loaded
 use Rattle.rec_audit.specs.declared.verdict.Reason.{Reason}
-use Rattle.rec_audit.specs.declared.verdict.Reason.TheVariants.{Encounter, Spelling, NotAllowed, OtherContent, Incomplete, Report}
+use Rattle.rec_audit.specs.declared.verdict.Reason.TheVariants.{Report}
 use Rattle.rec_text.specs.Recording.{closing_lines, head_line}
 use Rattle.verdict_text.specs.Sentences.{sentence}
 use Rattle.verdict_text.specs.declared.fault.Found.{Found}

@@ -1,7 +1,6 @@
 use Rattle.std.proofs.Common.{◌≡◌, ◌∙◌, ◌-◌, ap, sym, drop, length, take, arith}
 use Rattle.acas_lines.specs.Lines.{joined}
 use Rattle.acas_lines.specs.Split.{lines_of}
-use Rattle.air_journal.specs.States.{State}
 use Rattle.rec_audit.proofs.Telling.{IsPlaced, before-bytes, placed, rest-within, same-state, stands-moved, state-before, told-after, wrong-moved}
 use Rattle.rec_audit.proofs.Texts.{some-line}
 use Rattle.rec_audit.specs.declared.verdict.Loaded.TheVariants as loaded

@@ -1,4 +1,4 @@
-use Rattle.std.proofs.Common.{◌∙◌, ap, sym, List, ℕ}
+use Rattle.std.proofs.Common.{◌∙◌, ap, sym}
 use Rattle.std.specs.Prelude.{slice_get}
 use Rattle.acas_lines.specs.Split.{lines_of}
 use Rattle.rec_audit.proofs.Texts.{return-told, some-line, without-return}
