@@ -18,3 +18,4 @@ pub mod OneVerdict
 pub mod Activity
 pub mod AllowedCommit
 pub mod Telling
+pub mod Texts

@@ -1,5 +1,5 @@
 -- Where a wrong line stands, and what is told of it.
-use Rattle.std.proofs.Common.{◌≡◌, ◌≢◌, ℕ, ◌+◌, ◌-◌, ◌≤◌, ◌<◌, Bool, true, false, List, [], ◌∷◌, ◌++◌, map, length, take, drop, Option, Some, None, sym, refl, ap, ◌∙◌, subst, append_assoc, length-append, arith}
+use Rattle.std.proofs.Common.{◌≡◌, ◌≢◌, ℕ, ◌+◌, ◌-◌, ◌≤◌, true, false, List, [], ◌∷◌, ◌++◌, length, take, drop, Option, Some, None, sym, refl, ap, ◌∙◌, subst, append_assoc, length-append, arith}
 use Rattle.std.specs.Borrow.{Bor}
 use Rattle.std.specs.Prelude.{MatchOption, reverse}
 use Rattle.std.proofs.Math.Seq.{drop-append_seam, take-append_seam}
@@ -63,13 +63,13 @@ pub record IsPlaced (bytes : List ℕ) (line : ℕ) (r : Reason) : Type 0 where
   pub stands : StandsAfter bytes line state left
   pub wrong : IsWrongHere (air_of state.encounter) state.journal left r
 
-abbrev first_lines : Parts → ℕ → List Entry → List (List ℕ)
+abbrev pub first_lines : Parts → ℕ → List Entry → List (List ℕ)
 first_lines e N J = head_line ∷ (canonical_lines e ++ journal_line N ∷ entry_lines (length e.crafts) J)
 
 first-long : (e : Parts) (N : ℕ) (J : List Entry) → length (first_lines e N J) ≡ length (canonical_lines e) + 2 + length J
 first-long e N J = omega (arith, length-append (canonical_lines e) (journal_line N ∷ entry_lines (length e.crafts) J), length-map (reverse J) (entry_line (length e.crafts)), length-reverse J)
 
-first-split : (e : Parts) (N : ℕ) (J : List Entry) (lines rest left : List (List ℕ)) → Opens e N lines rest → Replays (air_of e) rest J left → lines ≡ first_lines e N J ++ left
+pub first-split : (e : Parts) (N : ℕ) (J : List Entry) (lines rest left : List (List ℕ)) → Opens e N lines rest → Replays (air_of e) rest J left → lines ≡ first_lines e N J ++ left
 first-split e N J lines rest left o r =
     o.begins ∙ ap (λ t. head_line ∷ (canonical_lines e ++ journal_line N ∷ t)) r.begins
     ∙ ap (λ t. head_line ∷ t) (sym (append_assoc (canonical_lines e) (journal_line N ∷ entry_lines (length e.crafts) J) left))

@@ -1,7 +1,8 @@
 -- What is told of a recording.
-use Rattle.std.specs.Prelude.{◌≡◌, ℕ, ◌-◌, Bool, true, false, List, ◌∷◌, length, take, drop}
+use Rattle.std.specs.Prelude.{◌≡◌, ◌≢◌, ◌⊎◌, ℕ, ◌+◌, ◌-◌, ◌==◌, ◌||◌, Bool, true, false, MatchBool, List, [], ◌∷◌, ◌++◌, Option, Some, None, take, drop, slice_get}
 use Rattle.std.specs.Borrow.{Bor}
 use Rattle.acas_base.specs.declared.entry.Entry.{Entry}
+use Rattle.acas_lines.specs.Differing.{DifferAt}
 use Rattle.acas_lines.specs.Lines.{joined}
 use Rattle.acas_lines.specs.Split.{lines_of}
 use Rattle.air_journal.specs.Airs.{air_of}
@@ -22,9 +23,12 @@ use Rattle.rec_audit.specs.declared.verdict.Reason.{Reason}
 use Rattle.rec_audit.specs.declared.verdict.Reason.TheVariants as reason
 use Rattle.rec_audit.specs.declared.verdict.Verdict.TheVariants as verdict
 use Rattle.rec_text.specs.Entries.{entry_line}
+use Rattle.rec_text.specs.Recording.{closing_lines, head_line}
 use Rattle.verdict_text.specs.Causes.{BarsCommit, BarsSend, BarsTake, Lacks}
 use Rattle.verdict_text.specs.Sentences.{sentence}
 use Rattle.verdict_text.specs.declared.fault.Fault.{Fault}
+use Rattle.verdict_text.specs.declared.fault.Found.{Found}
+use Rattle.verdict_text.specs.declared.fault.Found.TheVariants as found
 use Rattle.verdict_text.specs.declared.fault.Why.{Why}
 use Rattle.verdict_text.specs.declared.fault.Why.TheVariants as why
 use Rattle.verdict_text.specs.declared.wanted.TheConstants.{WANTED_BYTES}
@@ -77,14 +81,83 @@ pub record TellsAfter (bytes : List ℕ) (line : ℕ) (r : Reason) (w : Why) : T
   pub before : IsBeginningOf (joined (take (line - 1) (lines_of bytes))) state
   pub tells : TellsHere (air_of state.encounter) state.journal (drop (line - 1) (lines_of bytes)) r w
 
+-- ---- a line that isn't spelled well, and one of the report or the close
+
+-- The line of this number; none where there are fewer.
+abbrev pub line_at : List ℕ → ℕ → Option (List ℕ)
+line_at bytes line = slice_get (drop (line - 1) (lines_of bytes)) 0
+
+-- Whether a carriage return stands in it.
+abbrev pub has_return : List ℕ → Bool
+has_return [] = false
+has_return (c ∷ cs) = c == 13 || has_return cs
+
+abbrev pub has_return_in : Option (List ℕ) → Bool
+has_return_in None = false
+has_return_in (Some text) = has_return text
+
+-- A carriage return is told before anything else.
+abbrev pub TellsReturn : Option (List ℕ) → (Why → Type 0) → Why → Type 0
+TellsReturn here tells w = MatchBool (has_return_in here) (w ≡ why.CarriageReturn) (tells w)
+
+-- A line with its line feed, or without one.
+abbrev pub IsWhole : List ℕ → Type 0
+IsWhole text = (front : List ℕ) × (text ≡ front ++ 10 ∷ [])
+
+-- What stands in a line.
+abbrev pub IsFound : Option (List ℕ) → Found → Type 0
+IsFound here found.Missing = here ≡ None
+IsFound here (found.Whole body) = here ≡ Some (body.now ++ 10 ∷ [])
+IsFound here (found.Unfinished text) = (here ≡ Some text.now) × (IsWhole text.now → ⊥)
+
+-- This line is told to have to stand there.
+abbrev pub TellsShown : Option (List ℕ) → List ℕ → Why → Type 0
+TellsShown here wanted (why.OtherLine shown f) = (shown.now ≡ wanted) × IsFound here f
+TellsShown here wanted other = ⊥
+
+-- This line has to stand there. It is told as far as it is shown.
+abbrev pub TellsOther : Option (List ℕ) → List ℕ → Why → Type 0
+TellsOther here wanted w = TellsShown here (take WANTED_BYTES wanted) w
+
+-- A line behind the second one is no line that can stand there, or it isn't finished.
+abbrev pub TellsLater : List ℕ → Why → Type 0
+TellsLater text why.Misspelled = IsWhole text
+TellsLater text (why.Unfinished f) = (f.now ≡ text) × (IsWhole text → ⊥)
+TellsLater text other = ⊥
+
+abbrev pub TellsSpelled : ℕ → Option (List ℕ) → Why → Type 0
+TellsSpelled line None w = w ≡ why.Missing
+TellsSpelled line (Some text) w = MatchBool (line == 2) (w ≡ why.OtherText) (TellsLater text w)
+
+-- What is told of the spelling of a line.
+abbrev pub TellsSpelling : ℕ → Option (List ℕ) → Why → Type 0
+TellsSpelling line here w = ((line ≡ 1) × TellsOther here head_line w) ⊎ ((line ≢ 1) × TellsSpelled line here w)
+
+-- The line of the report and the close that has to stand there, or that none has to.
+abbrev pub TellsClosing : Option (List ℕ) → Option (List ℕ) → Why → Type 0
+TellsClosing here None w = w ≡ why.TooMany
+TellsClosing here (Some wanted) w = TellsOther here wanted w
+
+-- The lines before the end of the entries are the beginning of a recording. The lines from there on differ from the
+-- report and the close of its journal, first in a line for which this is told.
+pub record TellsReport (bytes : List ℕ) (line : ℕ) (w : Why) : Type 0 where
+  pub state : State
+  pub end : ℕ
+  pub before : IsBeginningOf (joined (take (end - 1) (lines_of bytes))) state
+  pub complete : IsComplete (air_of state.encounter) state.journal
+  pub same : ℕ
+  pub line_is : line ≡ end + same
+  pub differ : DifferAt same (drop (end - 1) (lines_of bytes)) (closing_lines state.encounter state.journal)
+  pub tells : TellsClosing (line_at bytes line) (slice_get (closing_lines state.encounter state.journal) same) w
+
 -- Why a line is wrong, by its reason.
 abbrev pub Tells : List ℕ → ℕ → Reason → Why → Type 0
 Tells bytes line (reason.Encounter code) w = w ≡ why.Refused (code_number code)
-Tells bytes line reason.Spelling w = w ≡ why.Misspelled
+Tells bytes line reason.Spelling w = TellsReturn (line_at bytes line) (TellsSpelling line (line_at bytes line)) w
 Tells bytes line reason.NotAllowed w = TellsAfter bytes line reason.NotAllowed w
 Tells bytes line reason.OtherContent w = TellsAfter bytes line reason.OtherContent w
 Tells bytes line reason.Incomplete w = TellsAfter bytes line reason.Incomplete w
-Tells bytes line reason.Report w = w ≡ why.OtherReport
+Tells bytes line reason.Report w = TellsReturn (line_at bytes line) (TellsReport bytes line) w
 
 -- ---- sentences
 
@@ -100,6 +173,9 @@ pub record IsToldBy (line : ℕ) (tells : Why → Type 0) (told : List ℕ) : Ty
 -- The sentence that tells another line.
 abbrev pub IsContentSentence : ℕ → List ℕ → List ℕ → Type 0
 IsContentSentence line wanted told = (shown : Bor (List ℕ)) × (shown.now ≡ wanted) × (told ≡ sentence (fault_of line (why.OtherContent shown)))
+
+abbrev pub IsOtherSentence : ℕ → List ℕ → Found → List ℕ → Type 0
+IsOtherSentence line wanted found told = (shown : Bor (List ℕ)) × (shown.now ≡ wanted) × (told ≡ sentence (fault_of line (why.OtherLine shown found)))
 
 -- The sentence that tells why a line is wrong.
 abbrev pub TellsSomething : List ℕ → ℕ → Reason → List ℕ → Type 0

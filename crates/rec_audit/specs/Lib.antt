@@ -11,3 +11,4 @@ pub mod Engine
 pub mod Compared
 pub mod Allowing
 pub mod Explaining
+pub mod Picking

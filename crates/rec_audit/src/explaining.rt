@@ -1,14 +1,16 @@
 // Recordings explained.
-ghost use Rattle.std.specs.Prelude.{◌≡◌, ◌-◌, ◌<◌, ◌^◌, IfOk, drop, length, true};
+ghost use Rattle.std.specs.Prelude.{◌≡◌, ◌-◌, ◌<◌, ◌^◌, IfOk, length, true};
 ghost use Rattle.acas_lines.specs.Split.{lines_of};
 ghost use Rattle.rec_audit.specs.Explaining.{IsExplained, TellsSomething, is_after_entries};
 ghost use Rattle.rec_audit.specs.Judging.{IsWrong};
+ghost use Rattle.rec_audit.specs.declared.verdict.Reason.{Reason};
 
+use crate::closing::tell_report;
 use crate::here::tell_here;
 use crate::judging::{load, load_part};
 use crate::laws::verdict_law;
-use crate::lines::TextLines;
 use crate::sentences::sentence_of;
+use crate::spelled::{has_return_in, lines_from, tell_spelling};
 use crate::verdict::{Loaded, Reason};
 use acas_text::Line;
 use air_journal::AirState;
@@ -25,15 +27,6 @@ pub enum Explained {
     Wrong(u32, Reason, Line),
 }
 
-// Takes so many lines, where there are so many.
-fn skip(lines: &mut TextLines<'_>, count: u32)
-    ensures { lines.new.left ≡ drop count lines.old.left }
-{
-    for _ in 0..count {
-        let _ = lines.next();
-    }
-}
-
 // Tells what is wrong with a line after the entries before it, which are read once more.
 fn tell_after(alloc: Global, bytes: &[u8], line: u32, reason: Reason) -> Result<Line, AllocError>
     requires small { length bytes.now < 2 ^ 32 - 1 }
@@ -42,13 +35,39 @@ fn tell_after(alloc: Global, bytes: &[u8], line: u32, reason: Reason) -> Result<
     ensures { IfOk result (TellsSomething bytes.now line reason) }
 {
     verdict_law();
-    let mut lines = TextLines::of(bytes);
-    skip(&mut lines, line - 1);
+    let lines = lines_from(bytes, line);
     let before = &bytes[..bytes.len() - lines.rest().len()];
     match load_part(alloc, before)? {
         Loaded::Legal(mut state) => Ok(tell_here(&mut state, &lines, line, reason)),
         Loaded::Wrong(_, _) => unreachable!(),
     }
+}
+
+// Tells what is wrong with the spelling of a line.
+fn tell_misspelled(bytes: &[u8], line: u32) -> Line
+    requires small { length bytes.now < 2 ^ 32 - 1 }
+    requires wrong { IsWrong (lines_of bytes.now) line Reason.Spelling }
+    ensures { TellsSomething bytes.now line Reason.Spelling result }
+{
+    let lines = lines_from(bytes, line);
+    if has_return_in(&lines) {
+        return sentence_of(line, Why::CarriageReturn);
+    }
+    tell_spelling(&lines, line)
+}
+
+// Tells what is wrong with a line of the report or the close.
+fn tell_end(alloc: Global, bytes: &[u8], line: u32) -> Result<Line, AllocError>
+    requires small { length bytes.now < 2 ^ 32 - 1 }
+    requires wrong { IsWrong (lines_of bytes.now) line Reason.Report }
+    ensures { IfOk result (TellsSomething bytes.now line Reason.Report) }
+{
+    let lines = lines_from(bytes, line);
+    if has_return_in(&lines) {
+        return Ok(sentence_of(line, Why::CarriageReturn));
+    }
+    let told = tell_report(alloc, bytes, line)?;
+    Ok(told)
 }
 
 // Tells why a line is wrong.
@@ -64,11 +83,11 @@ fn tell(alloc: Global, bytes: &[u8], line: u32, reason: Reason) -> Result<Line, 
                 code: code.number(),
             },
         )),
-        Reason::Spelling => Ok(sentence_of(line, Why::Misspelled)),
+        Reason::Spelling => Ok(tell_misspelled(bytes, line)),
         Reason::NotAllowed => tell_after(alloc, bytes, line, reason),
         Reason::OtherContent => tell_after(alloc, bytes, line, reason),
         Reason::Incomplete => tell_after(alloc, bytes, line, reason),
-        Reason::Report => Ok(sentence_of(line, Why::OtherReport)),
+        Reason::Report => tell_end(alloc, bytes, line),
     }
 }
 

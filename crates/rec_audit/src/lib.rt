@@ -3,6 +3,7 @@
 
 mod allowed;
 mod asking;
+mod closing;
 mod compare;
 mod endings;
 mod entries;
@@ -15,12 +16,14 @@ mod keys;
 mod laws;
 mod lines;
 mod opening;
+mod picking;
 mod replay;
 mod sentences;
+mod spelled;
 mod values;
 mod verdict;
 
 pub use explaining::{Explained, explain};
 pub use judging::{judge, load, load_part};
-pub use laws::verdict_law;
+pub use laws::{allowed_law, verdict_law};
 pub use verdict::{Loaded, Reason, Verdict};

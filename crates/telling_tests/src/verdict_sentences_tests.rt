@@ -41,13 +41,20 @@ const HELD_BACK: &[u8] =
 const ONE_CYCLE: &[u8] =
     b"recording,1\nencounter,1\nrun,1,0\ngains,683,256,512,128\ncraft,400A01,TA,0,0,10000\ncraft,400B02,XPDR,0,300000,10000\nend\njournal,2\n";
 
+// The same, with one entry.
+const ONE_ENTRY: &[u8] =
+    b"recording,1\nencounter,1\nrun,1,0\ngains,683,256,512,128\ncraft,400A01,TA,0,0,10000\ncraft,400B02,XPDR,0,300000,10000\nend\njournal,1\n";
+
+const WITHOUT_GAINS: &[u8] =
+    b"recording,1\nencounter,1\nrun,1,0\ncraft,400A01,TA,0,0,10000\ncraft,400B02,XPDR,0,300000,10000\nend\njournal,1\n";
+
 const REFUSED: &[u8] =
     b"recording,1\nencounter,1\nrun,601,0\ncraft,400A01,RA,0,0,35000\nend\njournal,14\n";
 
 // The parts of a recording, and the line that tells its fault.
 type Row = ([&'static [u8]; 5], &'static [u8]);
 
-const ROWS: [Row; 25] = [
+const ROWS: [Row; 37] = [
     (
         [ONE_CYCLE, b"c,1,1,-,-\n", b"", b"", b""],
         b"line 9: aircraft 1 is of kind XPDR, and makes no entries\n",
@@ -136,23 +143,83 @@ const ROWS: [Row; 25] = [
     ),
     (
         [OPENING, FIRST, b"c,1,2,U7.1c,-\n", b"", b""],
-        b"line 14: this line is missing or not spelled as one that can stand here, or the encounter isn't in its canonical text\n",
+        b"line 14: this line isn't spelled as one that can stand here\n",
     ),
     (
         [OPENING, FIRST, SECOND, b"", b""],
-        b"line 15: this line is missing or not spelled as one that can stand here, or the encounter isn't in its canonical text\n",
+        b"line 15: this line is missing: the recording is cut off before it\n",
     ),
     (
         [b"recording,2\n", b"", b"", b"", b""],
-        b"line 1: this line is missing or not spelled as one that can stand here, or the encounter isn't in its canonical text\n",
+        b"line 1: this line has to be \"recording,1\", and is \"recording,2\"\n",
     ),
     (
         [OPENING, FIRST, SECOND, SENDS, TAKES],
-        b"line 23: this line is missing or not spelled as one that can stand here, or the encounter isn't in its canonical text\n",
+        b"line 23: this line is missing: the recording is cut off before it\n",
     ),
     (
         [ONE_CYCLE, b"c,0,1,-,-\n", b"report,0\nclose\n", b"", b""],
-        b"line 10: this line is missing or not spelled as one that can stand here, or the encounter isn't in its canonical text\n",
+        b"line 10: this line isn't spelled as one that can stand here\n",
+    ),
+    (
+        [b"", b"", b"", b"", b""],
+        b"line 1: this line has to be \"recording,1\", and is missing\n",
+    ),
+    (
+        [b"recording,1", b"", b"", b"", b""],
+        b"line 1: this line has to be \"recording,1\", and is \"recording,1\" without a line feed\n",
+    ),
+    (
+        [b"recording,1\r\n", b"", b"", b"", b""],
+        b"line 1: a carriage return stands in this line, and the lines of a recording end with a line feed alone\n",
+    ),
+    (
+        [b"recording,1\nencounter,1\n", b"", b"", b"", b""],
+        b"line 3: this line is missing: the recording is cut off before it\n",
+    ),
+    (
+        [
+            WITHOUT_GAINS,
+            b"c,0,1,-,-\n",
+            b"report,0\nclose\n",
+            b"",
+            b"",
+        ],
+        b"line 2: the encounter that begins here isn't in its canonical text\n",
+    ),
+    (
+        [OPENING, FIRST, b"c,1,2,U5.1c,-", b"", b""],
+        b"line 14: \"c,1,2,U5.1c,-\" has no line feed: the recording is cut off here\n",
+    ),
+    (
+        [OPENING, FIRST, b"c,1,2,U5.1c,-\r\n", b"", b""],
+        b"line 14: a carriage return stands in this line, and the lines of a recording end with a line feed alone\n",
+    ),
+    (
+        [ONE_ENTRY, b"c,0,1,-,-\n", b"report,1\n", b"close\n", b""],
+        b"line 10: this line has to be \"report,0\", and is \"report,1\"\n",
+    ),
+    (
+        [ONE_ENTRY, b"c,0,1,-,-\n", b"", b"", b""],
+        b"line 10: this line has to be \"report,0\", and is missing\n",
+    ),
+    (
+        [ONE_ENTRY, b"c,0,1,-,-\n", b"report,0\n", b"close", b""],
+        b"line 11: this line has to be \"close\", and is \"close\" without a line feed\n",
+    ),
+    (
+        [ONE_ENTRY, b"c,0,1,-,-\n", b"report,0\n", b"close\n", b"\n"],
+        b"line 12: this line is one too many: the recording ends with \"close\"\n",
+    ),
+    (
+        [
+            ONE_ENTRY,
+            b"c,0,1,-,-\n",
+            b"report,0\r\n",
+            b"close\r\n",
+            b"",
+        ],
+        b"line 10: a carriage return stands in this line, and the lines of a recording end with a line feed alone\n",
     ),
 ];
 

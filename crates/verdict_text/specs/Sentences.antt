@@ -128,11 +128,12 @@ form_of (field.OwnCell own) crafts = codes "-"
 
 abbrev pub why_text : Why → List ℕ
 why_text (why.Refused code) = codes "the encounter that begins here is refused with code " ++ decimal code
-why_text why.Misspelled = codes "this line is missing or not spelled as one that can stand here, or the encounter isn't in its canonical text"
+why_text why.Misspelled = codes "this line isn't spelled as one that can stand here"
+why_text why.Missing = codes "this line is missing: the recording is cut off before it"
+why_text why.OtherText = codes "the encounter that begins here isn't in its canonical text"
 why_text why.Mark = codes "a byte order mark stands in front of this line, and a recording has none"
 why_text why.CarriageReturn = codes "a carriage return stands in this line, and the lines of a recording end with a line feed alone"
 why_text (why.OtherLine wanted found) = codes "this line has to be " ++ quoted wanted.now ++ codes ", and " ++ found_text found
-why_text why.OtherReport = codes "here the report and the close of these entries have another line, or none"
 why_text why.TooMany = codes "this line is one too many: the recording ends with \"close\""
 why_text why.NoEnd = codes "no line is \"end\": the recording is cut off in its encounter, or is none"
 why_text (why.NotCanonical wanted) = codes "the encounter isn't in its canonical text; there this line would be " ++ quoted wanted.now

@@ -31,8 +31,12 @@ pub enum Why<'a> {
     Refused {
         code: u8,
     },
-    /// The line is missing, or isn't spelled as one that can stand there; or the encounter isn't in its canonical text.
+    /// The line isn't spelled as one that can stand there.
     Misspelled,
+    /// There is no such line.
+    Missing,
+    /// The encounter isn't in its canonical text.
+    OtherText,
     /// A byte order mark stands in front of the line.
     Mark,
     /// A carriage return stands in the line.
@@ -42,8 +46,6 @@ pub enum Why<'a> {
         wanted: &'a Wanted,
         found: Found<'a>,
     },
-    /// The report and the close of the entries have another line here, or none.
-    OtherReport,
     /// The line is one too many.
     TooMany,
     /// No line is `end`.

@@ -183,9 +183,9 @@ fn add_why(line: &mut Line, why: &Why<'_>)
 {
     match *why {
         Why::Refused { code } => add_refused(line, code),
-        Why::Misspelled => line.text(
-            "this line is missing or not spelled as one that can stand here, or the encounter isn't in its canonical text",
-        ),
+        Why::Misspelled => line.text("this line isn't spelled as one that can stand here"),
+        Why::Missing => line.text("this line is missing: the recording is cut off before it"),
+        Why::OtherText => line.text("the encounter that begins here isn't in its canonical text"),
         Why::Mark => line.text(
             "a byte order mark stands in front of this line, and a recording has none",
         ),
@@ -193,9 +193,6 @@ fn add_why(line: &mut Line, why: &Why<'_>)
             "a carriage return stands in this line, and the lines of a recording end with a line feed alone",
         ),
         Why::OtherLine { wanted, found } => add_other_line(line, wanted, &found),
-        Why::OtherReport => line.text(
-            "here the report and the close of these entries have another line, or none",
-        ),
         Why::TooMany => line.text("this line is one too many: the recording ends with \"close\""),
         Why::NoEnd => line.text(
             "no line is \"end\": the recording is cut off in its encounter, or is none",

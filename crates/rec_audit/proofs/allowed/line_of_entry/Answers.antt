@@ -1,4 +1,4 @@
-use Rattle.std.proofs.Common.{◌≡◌, ◌∙◌, List, ℕ, ap, length, subst, sym}
+use Rattle.std.proofs.Common.{◌≡◌, ◌∙◌, ap, length, subst, sym}
 use Rattle.std.specs.Prelude.{option_map}
 use Rattle.acas_base.specs.Encounter.{Parts}
 use Rattle.air_journal.proofs.WellFormed.{entries-fit}

@@ -1,4 +1,4 @@
-use Rattle.std.proofs.Common.{ap, refl}
+use Rattle.std.proofs.Common.{ap}
 use Rattle.verdict_text.specs.declared.fault.Why.TheVariants as why
 use Rattle.rec_audit.proofs.explaining.tell.Goals as goal
 
@@ -6,7 +6,4 @@ pub returns-in-Encounter : goal.returns-in-Encounter
 returns-in-Encounter c = rw (c.in-Encounter.is) (record { why = why.Refused c.number.result; fitting = ap why.Refused c.number.ensures; told_is = c.sentence_of.ensures })
 
 pub returns-in-Spelling : goal.returns-in-Spelling
-returns-in-Spelling c = rw (c.in-Spelling.is) (record { why = why.Misspelled; fitting = refl; told_is = c.sentence_of-in-Spelling.ensures })
-
-pub returns-in-Report : goal.returns-in-Report
-returns-in-Report c = rw (c.in-Report.is) (record { why = why.OtherReport; fitting = refl; told_is = c.sentence_of-in-Report.ensures })
+returns-in-Spelling c = rw (c.in-Spelling.is) c.tell_misspelled.ensures

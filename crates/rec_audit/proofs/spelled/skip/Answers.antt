@@ -1,7 +1,7 @@
 use Rattle.std.proofs.Common.{◌∙◌, ap, drop}
 use Rattle.std.proofs.lemmas.List.{drop-drop}
 use Rattle.rec_audit.proofs.Telling.{next-drop}
-use Rattle.rec_audit.proofs.explaining.skip.Goals as goal
+use Rattle.rec_audit.proofs.spelled.skip.Goals as goal
 
 pub loop-preserved : goal.loop-preserved
 loop-preserved c =

@@ -1,5 +1,5 @@
 use Rattle.std.proofs.Common.{◌≡◌, drop}
-use Rattle.rec_audit.proofs.explaining.skip.Given as goal
+use Rattle.rec_audit.proofs.spelled.skip.Given as goal
 
 abbrev pub invariant-loop : goal.invariant-loop
 invariant-loop l = l.lines.left ≡ drop l.counter l.fn.lines.left
