@@ -5,9 +5,11 @@
 //! text is well formed, and everything lies within its page (`sound_law`).
 #![tactic(auto)]
 
+mod altitude;
 mod bar;
 mod bars;
 mod head;
+mod heights;
 mod lanes;
 mod laws;
 mod layout;
@@ -15,7 +17,8 @@ mod legend;
 mod paints;
 mod picture;
 mod shown;
+mod span;
 mod time;
 
-pub use laws::{bars_law, sound_law};
+pub use laws::{bars_law, courses_law, sound_law};
 pub use picture::{Picture, write};
