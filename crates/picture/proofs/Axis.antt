@@ -53,7 +53,7 @@ holds-all e own cycle within first last =
     let b = crafts-hold e (length e.crafts) own cycle within first last in
     let one = b.low in
     let two = b.high in
-    let low = (floored span.low).low in
+    let low = (floored (span.low -ℤ pos 1)).low in
     let high = (floored span.high).high in
     record { low = omega (arith, ints, one, low); high = omega (arith, ints, two, high) }
 

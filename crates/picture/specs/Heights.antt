@@ -1,5 +1,5 @@
 -- The altitudes of an encounter, and the axis that holds them.
-use Rattle.std.specs.Prelude.{ℕ, zero, suc, ◌<◌, ◌≤◌, ℤ, pos, ◌+ℤ◌, ◌*ℤ◌, ◌≤ℤ◌, ◌<ℤ◌, length}
+use Rattle.std.specs.Prelude.{ℕ, zero, suc, ◌<◌, ◌≤◌, ℤ, pos, ◌+ℤ◌, ◌-ℤ◌, ◌*ℤ◌, ◌≤ℤ◌, ◌<ℤ◌, length}
 use Rattle.std.specs.Int.{int_div_euclid, int_max, int_min}
 use Rattle.acas_base.specs.Encounter.{Parts}
 use Rattle.flight.specs.Flight.{position}
@@ -31,10 +31,9 @@ all_heights e = over_crafts e (length e.crafts)
 unfoldable pub steps_of : ℤ → ℤ
 steps_of height = int_div_euclid height (pos 30000)
 
--- The axis begins at the last step that isn't above the least altitude, and ends at the first step above the greatest
--- one.
+-- The axis begins at the last step below the least altitude, and ends at the first step above the greatest one.
 abbrev pub axis_over : Span → Span
-axis_over span = record { low = steps_of span.low; high = steps_of span.high +ℤ pos 1 }
+axis_over span = record { low = steps_of (span.low -ℤ pos 1); high = steps_of span.high +ℤ pos 1 }
 
 unfoldable pub axis_of : Parts → Span
 axis_of e = axis_over (all_heights e)

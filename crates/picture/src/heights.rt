@@ -91,7 +91,7 @@ fn all_heights(encounter: &Encounter) -> Span
 // An altitude in whole steps of 500 ft.
 #[tactic(auto, unfolding(crate::specs::Heights::steps_of))]
 fn steps_of(height: i64) -> i64
-    requires { unsigned_abs height ≤ 9590000 }
+    requires { unsigned_abs height ≤ 9590001 }
     ensures value { result ≡ steps_of height }
     ensures near { unsigned_abs result ≤ 400 }
 {
@@ -107,7 +107,7 @@ pub(crate) fn axis_of(encounter: &Encounter) -> Span
 {
     let span = all_heights(encounter);
     Span {
-        low: steps_of(span.low),
+        low: steps_of(span.low - 1),
         high: steps_of(span.high) + 1,
     }
 }
