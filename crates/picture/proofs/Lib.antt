@@ -1,3 +1,5 @@
 pub mod Counting
 pub mod Barring
+pub mod Axis
+pub mod Mapping
 pub mod Placing

@@ -2,7 +2,7 @@
 use Rattle.std.proofs.Common.{ℕ, zero, suc, ◌+◌, ◌-◌, ◌*◌, ◌^◌, ◌<◌, ◌≤◌, Bool, List, [], ◌∷◌, ◌++◌, Option, Some, None, codes, length, sym, ap, subst, arith, inl, inr}
 use Rattle.std.proofs.lemmas.Bool.{cases_Bool, cond-false, cond-true}
 use Rattle.std.proofs.lemmas.Int.{ints}
-use Rattle.std.specs.Prelude.{filter, slice_get, take}
+use Rattle.std.specs.Prelude.{◌%◌, ◌==◌, ℤ, filter, map, slice_get, take}
 use Rattle.std.specs.Fmt.{decimal}
 use Rattle.std.specs.Option.{option_map_or}
 use Rattle.std.specs.List.{AllByRecursion, flat_map, range_with_len}
@@ -12,12 +12,15 @@ use Rattle.acas_base.specs.declared.entry.Entry.{Entry}
 use Rattle.acas_text.specs.Hex.{hex}
 use Rattle.advisory_report.specs.Composite.{word_of}
 use Rattle.advisory_report.specs.declared.composite.Composite.{Composite}
+use Rattle.air_journal.specs.Airs.{address_of}
 use Rattle.air_rules.specs.Air.{Air}
 use Rattle.air_rules.specs.Rules.{IsLegal}
 use Rattle.equal_rows.proofs.Rowing.{are-rows}
 use Rattle.equal_rows.specs.Rows.{IsLongest}
 use Rattle.equal_rows.specs.declared.row.Row.{Row}
 use Rattle.picture.specs.Bars.{advised, bar_area, bar_marks, bar_height, bar_of, bar_title, bars, craft_marks, has_room, lane_head, lane_marks, marks_of_craft, row_marks, titled_bar, word_marks, word_pair, word_size, word_x, word_y}
+use Rattle.picture.specs.Altitude.{altitude_marks, altitude_y, axis_marks, course_marks, course_point, course_y, courses, height_text, name_x}
+use Rattle.picture.specs.Heights.{axis_of, height_in}
 use Rattle.picture.specs.Head.{description, head_marks, sent_in, sent_text, title_text}
 use Rattle.picture.specs.Layout.{area_at, frame_of, lane_base, lane_of, page_height, plot_bottom, plot_height, point_at}
 use Rattle.picture.specs.Legend.{height_words, item_marks, legend_marks}
@@ -28,6 +31,7 @@ use Rattle.picture.specs.Shown.{goes_on, is_shown, shown_in, shown_rows}
 use Rattle.picture.specs.Time.{box_and_name, tick_at, tick_marks, time_marks}
 use Rattle.picture.specs.Within.{IsMarkWithin, IsWithin}
 use Rattle.picture.specs.declared.bar.Bar.{Bar}
+use Rattle.picture.specs.declared.span.Span.{Span}
 use Rattle.picture.specs.declared.paints.Advised.{Advised}
 use Rattle.picture.specs.declared.paints.Advised.TheVariants.{Traffic, Up, Down, Both}
 use Rattle.picture.proofs.Barring.{is-run}
@@ -40,6 +44,7 @@ use Rattle.svg_text.specs.Marks.{Mark, figure, worded}
 use Rattle.svg_text.specs.declared.shapes.Anchor.{Anchor}
 use Rattle.svg_text.specs.declared.shapes.Anchor.TheVariants as anchors
 use Rattle.svg_text.specs.declared.shapes.Paint.{Paint}
+use Rattle.svg_text.specs.declared.shapes.Point.{Point}
 use Rattle.svg_text.specs.declared.shapes.Shape.TheVariants as shapes
 use Rattle.svg_text.specs.declared.shapes.Weight.{Weight}
 use Rattle.svg_text.specs.declared.shapes.Weight.TheVariants as weights
@@ -144,7 +149,7 @@ good-time : (lanes cycles : ℕ) → lanes ≤ 16 → AllByRecursion (Good lanes
 good-time lanes cycles few =
     all-append (Good lanes) (flat_map (tick_marks cycles lanes) (range_with_len 1 cycles)) (box_and_name lanes)
     (all-range (Good lanes) (tick_marks cycles lanes) 1 cycles (λ k first last. good-tick lanes cycles k few first last)) (
-      good-box lanes 2000 1500 15800 (plot_height lanes) (line_paint ink 15) [] (omega arith) few (omega arith) (omega arith),
+      good-box lanes 2000 5100 15800 (plot_height lanes) (line_paint ink 15) [] (omega arith) few (omega arith) (omega arith),
       (good-words lanes 9900 (plot_bottom lanes + 780) 260 anchors.Middle weights.Regular (codes "cycle") [] (omega arith) few (omega arith) (omega arith), tt),
     )
 
@@ -165,6 +170,57 @@ good-legend lanes few =
   where
     item : ℕ → Advised → List ℕ → List Mark
     item x kind words = item_marks (plot_bottom lanes) x kind words
+
+-- ---- altitudes
+
+low-enough : (axis : Span) (height : ℤ) → altitude_y axis height ≤ 4700
+unfolding altitude_y
+low-enough axis height = omega arith
+
+y-most : (e : Parts) (own cycle : ℕ) → course_y e own cycle ≤ 4700
+unfolding course_y
+y-most e own cycle = low-enough (axis_of e) (height_in e own cycle)
+
+good-point : (e : Parts) (lanes own cycle : ℕ) → lanes ≤ 16 → 1 ≤ cycle → cycle < 1 + e.cycles → IsWithin (frame_of lanes) 0 (course_point e own cycle) × IsPoint (course_point e own cycle)
+unfolding course_point
+good-point e lanes own cycle few first last =
+    let x = begins-within e.cycles cycle (omega arith) (omega arith) in
+    let y = y-most e own cycle in
+    (at-point lanes (begin_of e.cycles cycle) (course_y e own cycle) (omega (arith, x)) (omega (arith, y)), is-point lanes (begin_of e.cycles cycle) (course_y e own cycle) few (omega (arith, x)) (omega (arith, y)))
+
+all-points : (P : Point → Type 0) (f : ℕ → Point) (first n : ℕ) → ((k : ℕ) → first ≤ k → k < first + n → P (f k)) → AllByRecursion P (map f (range_with_len first n))
+all-points P f first zero h = tt
+all-points P f first (suc n) h = (h first (omega arith) (omega arith), all-points P f (first + 1) n (λ k low high. h k (omega arith) (omega arith)))
+
+x-most : (own : ℕ) → name_x own ≤ 18950
+unfolding name_x
+x-most own = elim (cases_Bool (own % 2 == 0)) [
+  | inl met ↦ subst (λ (n : ℕ). n ≤ 18950) (sym (cond-true (own % 2 == 0) 17900 18950 met)) (omega arith)
+  | inr unmet ↦ subst (λ (n : ℕ). n ≤ 18950) (sym (cond-false (own % 2 == 0) 17900 18950 unmet)) (omega arith)
+]
+
+good-course : (e : Parts) (lanes own : ℕ) → lanes ≤ 16 → AllByRecursion (Good lanes) (course_marks e own)
+unfolding course_marks
+good-course e lanes own few =
+    let x = x-most own in
+    let y = y-most e own e.cycles in
+    let within = all-points (IsWithin (frame_of lanes) 0) (course_point e own) 1 e.cycles (λ k first last. (good-point e lanes own k few first last).0) in
+    let fitting = all-points IsPoint (course_point e own) 1 e.cycles (λ k first last. (good-point e lanes own k few first last).1) in
+    let name = good-words lanes (name_x own) (course_y e own e.cycles + 80) 240 anchors.Start weights.Regular (hex 6 (address_of e own)) [] (omega arith) few (omega (arith, x)) (omega (arith, y)) in
+    ((within, (fitting, omega arith)), (name, tt))
+
+good-axis : (lanes : ℕ) (axis : Span) → lanes ≤ 16 → AllByRecursion (Good lanes) (axis_marks axis)
+unfolding axis_marks
+good-axis lanes axis few =
+    let box = good-box lanes 2000 1500 15800 3200 (line_paint ink 15) [] (omega arith) few (omega arith) (omega arith) in
+    let high = good-words lanes 1880 1720 260 anchors.End weights.Regular (height_text axis.high) [] (omega arith) few (omega arith) (omega arith) in
+    let low = good-words lanes 1880 4700 260 anchors.End weights.Regular (height_text axis.low) [] (omega arith) few (omega arith) (omega arith) in
+    (box, (high, (low, tt)))
+
+good-altitude : (e : Parts) (lanes : ℕ) → lanes ≤ 16 → AllByRecursion (Good lanes) (altitude_marks e)
+good-altitude e lanes few =
+    all-append (Good lanes) (axis_marks (axis_of e)) (courses e) (good-axis lanes (axis_of e) few)
+    (all-range (Good lanes) (course_marks e) 0 (length e.crafts) (λ own first last. good-course e lanes own few))
 
 -- ---- bars
 
@@ -189,8 +245,8 @@ between cycles row first order last =
 
 pub record Stands (lanes : ℕ) (bar : Bar) : Type 0 where
   pub right : bar.left + bar.width ≤ 17800
-  pub top : 2100 ≤ bar.base
-  pub bottom : bar.base ≤ 2100 + 700 * lanes
+  pub top : 5700 ≤ bar.base
+  pub bottom : bar.base ≤ 5700 + 700 * lanes
   pub height : bar.height ≤ 400
 
 good-word : (lanes : ℕ) (bar : Bar) (word title : List ℕ) → lanes ≤ 16 → Stands lanes bar → AllByRecursion (Good lanes) (word_marks bar word title)
@@ -293,16 +349,9 @@ good-craft air e J l few own = by (slice_get e.crafts own)
 -- ---- all of it
 
 pub are-good : (air : Air) (e : Parts) (J : List Entry) → IsLegal air J → lanes_of e ≤ 16 → AllByRecursion (λ (s : Section). AllByRecursion (Good (lanes_of e)) s.marks) (sections e J)
-are-good air e J l few = (
-  good-head e J (lanes_of e) few,
-  (
-    good-time (lanes_of e) e.cycles few,
-    (
-      all-range (Good (lanes_of e)) (craft_marks e J) 0 (length e.crafts) (λ own first last. good-craft air e J l few own),
-      (good-legend (lanes_of e) few, tt),
-    ),
-  ),
-)
+are-good air e J l few =
+    let lanes = all-range (Good (lanes_of e)) (craft_marks e J) 0 (length e.crafts) (λ own first last. good-craft air e J l few own) in
+    (good-head e J (lanes_of e) few, (good-time (lanes_of e) e.cycles few, (good-altitude e (lanes_of e) few, (lanes, (good-legend (lanes_of e) few, tt)))))
 
 each-section : (P Q : Mark → Type 0) (sections : List Section) → AllByRecursion (λ (s : Section). AllByRecursion (λ m. P m × Q m) s.marks) sections →
     AllByRecursion (λ (s : Section). AllByRecursion P s.marks) sections × AllByRecursion (λ (s : Section). AllByRecursion Q s.marks) sections
@@ -315,7 +364,7 @@ fits-frame : (lanes : ℕ) → lanes ≤ 16 → FitsFrame (frame_of lanes)
 fits-frame lanes few = record {
   width = omega arith;
   height = omega arith;
-  window = record { corner = is-point lanes 2000 1500 few (omega arith) (omega arith); width = omega arith; height = omega arith };
+  window = record { corner = is-point lanes 2000 5100 few (omega arith) (omega arith); width = omega arith; height = omega arith };
 }
 
 pub is-sound : (air : Air) (e : Parts) (J : List Entry) → length e.crafts ≤ 16 → IsLegal air J → IsSound e J

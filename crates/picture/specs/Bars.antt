@@ -70,8 +70,8 @@ bar_of cycles lane row composite = record {
 pub record IsPlaced (bar : Bar) : Type 0 where
   pub left : 2000 ≤ bar.left
   pub right : bar.left + bar.width ≤ 17800
-  pub top : 2100 ≤ bar.base
-  pub bottom : bar.base ≤ 13300
+  pub top : 5700 ≤ bar.base
+  pub bottom : bar.base ≤ 16900
   pub height : bar.height ≤ tall
 
 abbrev pub bar_area : Bar → Area

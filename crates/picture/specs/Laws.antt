@@ -1,5 +1,5 @@
 -- What the picture says of a recording, and what holds of its text.
-use Rattle.std.specs.Prelude.{◌≡◌, ℕ, ◌+◌, ◌-◌, ◌<◌, ◌≤◌, false, List}
+use Rattle.std.specs.Prelude.{◌≡◌, ℕ, ◌+◌, ◌-◌, ◌<◌, ◌≤◌, false, List, ℤ, ◌≤ℤ◌}
 use Rattle.std.specs.List.{AllByRecursion}
 use Rattle.acas_base.specs.Encounter.{Parts}
 use Rattle.acas_base.specs.declared.entry.Entry.{Entry}
@@ -7,6 +7,8 @@ use Rattle.advisory_report.specs.Composite.{word_of}
 use Rattle.advisory_report.specs.Phrases.{is_clear}
 use Rattle.equal_rows.specs.Rows.{AreInOrder, IsCovered}
 use Rattle.equal_rows.specs.declared.row.Row.{Row}
+use Rattle.picture.specs.Altitude.{altitude_y}
+use Rattle.picture.specs.Heights.{HoldsAll, IsOn, axis_of}
 use Rattle.picture.specs.Picture.{page, picture_text, sections}
 use Rattle.picture.specs.Shown.{is_alike, shown_in}
 use Rattle.picture.specs.Within.{IsSectionWithin}
@@ -29,6 +31,11 @@ pub record AreBars (journal : List Entry) (cycles own : ℕ) (rows : List Row) :
   pub each : AllByRecursion (IsBar journal cycles own) rows
   pub in_order : AreInOrder 0 rows
   pub all : (cycle : ℕ) → 1 ≤ cycle → cycle ≤ cycles → is_clear (shown_in journal own cycle) ≡ false → IsCovered rows cycle
+
+-- The axis of altitudes holds each aircraft in each cycle, and a greater altitude stands no lower than a less one.
+pub record AreCourses (e : Parts) : Type 0 where
+  pub holds : HoldsAll e
+  pub in_order : (low high : ℤ) → IsOn (axis_of e) low → IsOn (axis_of e) high → low ≤ℤ high → altitude_y (axis_of e) high ≤ altitude_y (axis_of e) low
 
 -- All marks lie within the page, and the text is well formed.
 pub record IsSound (e : Parts) (journal : List Entry) : Type 0 where

@@ -22,31 +22,40 @@ active_among crafts = length (filter (λ (craft : CraftSpec). is_active_kind cra
 abbrev pub lane_of : List CraftSpec → ℕ → ℕ
 lane_of crafts own = active_among (take own crafts)
 
--- Where the tallest bars of a lane begin.
-abbrev pub lane_top : ℕ → ℕ
-lane_top lane = 1700 + 700 * lane
-
 -- All bars of a lane end here.
 abbrev pub lane_base : ℕ → ℕ
-lane_base lane = 2100 + 700 * lane
+lane_base lane = 5700 + 700 * lane
 
 -- ---- the page
 
 abbrev pub page_width : ℕ
 page_width = 20000
 
+-- Where the box of the altitudes begins, how high it is, and where it ends.
+abbrev pub course_top : ℕ
+course_top = 1500
+
+abbrev pub course_height : ℕ
+course_height = 3200
+
+abbrev pub course_bottom : ℕ
+course_bottom = 4700
+
+abbrev pub course_area : Area
+course_area = area_at 2000 course_top 15800 course_height
+
 -- Where the lanes begin, and where they end.
 abbrev pub plot_top : ℕ
-plot_top = 1500
+plot_top = 5100
 
 abbrev pub plot_bottom : ℕ → ℕ
-plot_bottom lanes = 1600 + 700 * lanes
+plot_bottom lanes = 5200 + 700 * lanes
 
 abbrev pub plot_height : ℕ → ℕ
 plot_height lanes = 100 + 700 * lanes
 
 abbrev pub page_height : ℕ → ℕ
-page_height lanes = 3800 + 700 * lanes
+page_height lanes = 7400 + 700 * lanes
 
 -- The box in which the lanes stand.
 abbrev pub plot_area : ℕ → Area

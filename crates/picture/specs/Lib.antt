@@ -2,6 +2,8 @@ pub mod Layout
 pub mod Paints
 pub mod Shown
 pub mod Head
+pub mod Heights
+pub mod Altitude
 pub mod Time
 pub mod Bars
 pub mod Legend

@@ -3,6 +3,7 @@ use Rattle.std.specs.Prelude.{ℕ, List, [], ◌∷◌}
 use Rattle.acas_base.specs.Encounter.{Parts}
 use Rattle.acas_base.specs.declared.entry.Entry.{Entry}
 use Rattle.acas_lines.specs.Lines.{joined}
+use Rattle.picture.specs.Altitude.{altitude_marks}
 use Rattle.picture.specs.Bars.{lanes_marks}
 use Rattle.picture.specs.Head.{description, head_marks, title_text}
 use Rattle.picture.specs.Layout.{active_among, frame_of}
@@ -20,10 +21,10 @@ lanes_of e = active_among e.crafts
 abbrev pub section : List Mark → Section
 section marks = record { clip = clips.Whole; marks = marks }
 
--- The head, the axis of time, the lanes over it, and the legend.
+-- The head, the axis of time, over it the altitudes and the lanes, and the legend.
 abbrev pub sections : Parts → List Entry → List Section
 sections e journal =
-    section (head_marks e journal) ∷ section (time_marks e.cycles (lanes_of e)) ∷ section (lanes_marks e journal) ∷ section (legend_marks (lanes_of e)) ∷ []
+    section (head_marks e journal) ∷ section (time_marks e.cycles (lanes_of e)) ∷ section (altitude_marks e) ∷ section (lanes_marks e journal) ∷ section (legend_marks (lanes_of e)) ∷ []
 
 abbrev pub page : Parts → Frame
 page e = frame_of (lanes_of e)

@@ -2,7 +2,7 @@
 use Rattle.std.specs.Prelude.{ℕ, ◌+◌, if◌then◌else◌, List, [], ◌∷◌, ◌++◌, codes, None}
 use Rattle.std.specs.Fmt.{decimal}
 use Rattle.std.specs.List.{flat_map, range_with_len}
-use Rattle.picture.specs.Layout.{plot_area, plot_bottom, plot_top, point_at}
+use Rattle.picture.specs.Layout.{plot_area, plot_bottom, course_top, point_at}
 use Rattle.picture.specs.Paints.{grid, ink, letters, line_paint}
 use Rattle.plot_axes.specs.Time.{begin_of, is_tick}
 use Rattle.svg_text.specs.Marks.{Mark, figure, worded}
@@ -13,7 +13,7 @@ use Rattle.svg_text.specs.declared.shapes.Weight.TheVariants as weights
 -- A line and a number, at the beginning of a cycle.
 abbrev pub tick_at : ℕ → ℕ → ℕ → List Mark
 tick_at lanes x cycle =
-    figure (shapes.Segment (point_at x plot_top) (point_at x (plot_bottom lanes + 100))) (line_paint grid 15) []
+    figure (shapes.Segment (point_at x course_top) (point_at x (plot_bottom lanes + 100))) (line_paint grid 15) []
     ∷ worded (letters (point_at x (plot_bottom lanes + 400)) 260 anchors.Middle weights.Regular) (decimal cycle) [] ∷ []
 
 unfoldable pub tick_marks : ℕ → ℕ → ℕ → List Mark

@@ -119,7 +119,7 @@ fn word_x(bar: Bar) -> u32
 fn word_y(bar: Bar) -> u32
     requires { IsPlaced bar }
     ensures value { result ≡ word_y bar }
-    ensures most { result ≤ 13380 }
+    ensures most { result ≤ 16980 }
 {
     bar.base - bar.height / 2 + 80
 }

@@ -69,8 +69,8 @@ fn put_bars<D: Drawing>(
     }
 }
 
-// The text of an address.
-fn address_text(address: Address) -> Line
+/// The text of an address.
+pub(crate) fn address_text(address: Address) -> Line
     ensures text { result ≡ hex 6 address }
     ensures short { length result ≤ LABEL_BYTES }
 {

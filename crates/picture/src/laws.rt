@@ -4,13 +4,18 @@ ghost use Rattle.acas_base.specs.Encounter.{IsEncounter, Parts};
 ghost use Rattle.acas_base.specs.declared.entry.Entry.{Entry};
 ghost use Rattle.air_journal.specs.Airs.{air_of};
 ghost use Rattle.air_rules.specs.Rules.{IsLegal};
-ghost use Rattle.picture.specs.Laws.{AreBars, IsSound};
+ghost use Rattle.picture.specs.Laws.{AreBars, AreCourses, IsSound};
 ghost use Rattle.picture.specs.Shown.{shown_rows};
 
 /// A law: the bars of an aircraft are exactly the longest rows of its cycles with one word of the report, which isn't
 /// CLEAR, and one corrective mark. They come in order, and no such cycle is left out.
 pub fn bars_law()
     ensures { (e : Parts) (journal : List Entry) → IsLegal (air_of e) journal → (own : ℕ) → AreBars journal e.cycles own (shown_rows journal e.cycles own) }
+{}
+
+/// A law: the axis of altitudes holds each aircraft in each cycle, and a greater altitude stands no lower than a less one.
+pub fn courses_law()
+    ensures { (e : Parts) → AreCourses e }
 {}
 
 /// A law: everything in the picture lies within its page, and its text is well formed.

@@ -1,6 +1,6 @@
 // Where things stand on the page.
 ghost use Rattle.std.specs.Prelude.{◌≡◌, ◌<◌, ◌≤◌, ◌^◌, length};
-ghost use Rattle.picture.specs.Layout.{active_among, area_at, frame_of, lane_base, lane_of, plot_area, plot_bottom, point_at};
+ghost use Rattle.picture.specs.Layout.{active_among, area_at, course_area, frame_of, lane_base, lane_of, plot_area, plot_bottom, point_at};
 
 use acas_base::CraftSpec;
 use svg_text::{Area, Frame, Point};
@@ -8,8 +8,17 @@ use svg_text::{Area, Frame, Point};
 /// How wide the page is.
 const PAGE_WIDTH: u32 = 20_000;
 
-/// Where the lanes begin.
-pub(crate) const PLOT_TOP: u32 = 1_500;
+// Where the lanes begin.
+const PLOT_TOP: u32 = 5_100;
+
+/// Where the box of the altitudes begins.
+pub(crate) const COURSE_TOP: u32 = 1_500;
+
+/// How high it is.
+pub(crate) const COURSE_HEIGHT: u32 = 3_200;
+
+/// Where it ends.
+pub(crate) const COURSE_BOTTOM: u32 = 4_700;
 
 // How far it is from one lane to the next one.
 const LANE: u32 = 700;
@@ -60,19 +69,19 @@ pub(crate) fn lane_of(crafts: &[CraftSpec], own: usize) -> u32
 pub(crate) fn lane_base(lane: u32) -> u32
     requires { lane ≤ 16 }
     ensures value { result ≡ lane_base lane }
-    ensures least { 2100 ≤ result }
-    ensures most { result ≤ 13300 }
+    ensures least { 5700 ≤ result }
+    ensures most { result ≤ 16900 }
 {
-    2_100 + LANE * lane
+    5_700 + LANE * lane
 }
 
 /// Where the lanes end.
 pub(crate) fn plot_bottom(lanes: u32) -> u32
     requires { lanes ≤ 16 }
     ensures value { result ≡ plot_bottom lanes }
-    ensures most { result ≤ 12800 }
+    ensures most { result ≤ 16400 }
 {
-    1_600 + LANE * lanes
+    5_200 + LANE * lanes
 }
 
 /// The box in which the lanes stand.
@@ -83,6 +92,13 @@ pub(crate) fn plot_area(lanes: u32) -> Area
     area_at(2_000, PLOT_TOP, 15_800, 100 + LANE * lanes)
 }
 
+/// The box of the altitudes.
+pub(crate) fn course_area() -> Area
+    ensures { result ≡ course_area }
+{
+    area_at(2_000, COURSE_TOP, 15_800, COURSE_HEIGHT)
+}
+
 /// The page.
 pub(crate) fn frame_of(lanes: u32) -> Frame
     requires { lanes ≤ 16 }
@@ -90,7 +106,7 @@ pub(crate) fn frame_of(lanes: u32) -> Frame
 {
     Frame {
         width: PAGE_WIDTH,
-        height: 3_800 + LANE * lanes,
+        height: 7_400 + LANE * lanes,
         window: plot_area(lanes),
     }
 }

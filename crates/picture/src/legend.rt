@@ -12,7 +12,7 @@ use svg_text::{Anchor, Drawing, Weight};
 
 // Puts a box and what it means.
 fn put_item<D: Drawing>(bottom: u32, x: u32, advised: Advised, words: &str, drawing: &mut D)
-    requires bottom { bottom ≤ 12800 }
+    requires bottom { bottom ≤ 16400 }
     requires x { x ≤ 20000 }
     requires words { length words.now ≤ LABEL_BYTES }
     ensures { D.drew drawing.old drawing.new (item_marks bottom x advised words.now) }

@@ -1,6 +1,7 @@
 // The picture.
 ghost use Rattle.std.specs.Prelude.{◌≡◌, ◌∷◌, [], ◌≤◌, None, length};
 ghost use Rattle.acas_io.specs.Stream.{Puts};
+ghost use Rattle.picture.specs.Altitude.{altitude_marks};
 ghost use Rattle.picture.specs.Bars.{lanes_marks};
 ghost use Rattle.picture.specs.Head.{head_marks, title_text};
 ghost use Rattle.picture.specs.Legend.{legend_marks};
@@ -9,11 +10,13 @@ ghost use Rattle.picture.specs.Time.{time_marks};
 ghost use Rattle.svg_text.specs.Documents.{section_lines};
 ghost use Rattle.svg_text.specs.declared.drawing.TheConstants.{LABEL_BYTES};
 
+use crate::altitude::put_altitude;
 use crate::head::{description, put_head, title_text};
 use crate::lanes::put_lanes;
 use crate::layout::{active_among, frame_of};
 use crate::legend::put_legend;
 use crate::time::put_time;
+use acas_base::Encounter;
 use acas_io::{Failed, Sink};
 use acas_lines::{LineSink, Text, write_text};
 use acas_text::Line;
@@ -43,6 +46,15 @@ fn put_time_section<S: LineSink>(axis: TimeAxis, lanes: u32, sink: &mut S)
     end_section(sink);
 }
 
+fn put_altitude_section<S: LineSink>(encounter: &Encounter, axis: TimeAxis, sink: &mut S)
+    requires { axis.cycles ≡ encounter.now.cycles }
+    ensures { S.took sink.old sink.new (section_lines (section (altitude_marks encounter.now))) }
+{
+    begin_section(sink, Clip::Whole);
+    put_altitude(encounter, axis, sink);
+    end_section(sink);
+}
+
 fn put_lanes_section<S: LineSink>(state: &AirState, axis: TimeAxis, sink: &mut S)
     requires axis { axis.cycles ≡ state.now.encounter.cycles }
     ensures { S.took sink.old sink.new (section_lines (section (lanes_marks state.now.encounter state.now.journal))) }
@@ -63,8 +75,8 @@ fn put_legend_section<S: LineSink>(lanes: u32, sink: &mut S)
 
 // ---- all of it
 
-/// The picture of a state, as SVG: a head, an axis of time, a lane for each aircraft that advises, and a legend. In a
-/// lane stands a bar for each longest row of cycles with one word of the report, which isn't CLEAR, and one corrective
+/// The picture of a state, as SVG: a head, an axis of time, the altitude of each aircraft, a lane for each aircraft that
+/// advises, and a legend. In a lane stands a bar for each longest row of cycles with one word of the report, which isn't CLEAR, and one corrective
 /// mark.
 #[derive(Drop)]
 pub struct Picture<'a>(pub &'a AirState);
@@ -87,6 +99,7 @@ impl Text for Picture<'_> {
         begin_drawing(sink, &frame_of(lanes), &title, &description());
         put_head_section(state, &title, sink);
         put_time_section(axis, lanes, sink);
+        put_altitude_section(encounter, axis, sink);
         put_lanes_section(state, axis, sink);
         put_legend_section(lanes, sink);
         end_drawing(sink);

@@ -5,7 +5,7 @@ ghost use Rattle.std.specs.List.{flat_map, range_with_len};
 ghost use Rattle.picture.specs.Layout.{plot_bottom};
 ghost use Rattle.picture.specs.Time.{box_and_name, tick_at, tick_marks, time_marks};
 
-use crate::layout::{PLOT_TOP, plot_area, plot_bottom, point_at};
+use crate::layout::{COURSE_TOP, plot_area, plot_bottom, point_at};
 use crate::paints::{grid, ink, put_line, put_words};
 use acas_lines::fixed_line;
 use acas_text::Line;
@@ -30,7 +30,7 @@ fn put_tick_at<D: Drawing>(lanes: u32, x: u32, cycle: u16, drawing: &mut D)
 {
     let bottom = plot_bottom(lanes);
     let line = Shape::Segment {
-        from: point_at(x, PLOT_TOP),
+        from: point_at(x, COURSE_TOP),
         to: point_at(x, bottom + 100),
     };
     put_line(line, grid(), drawing);

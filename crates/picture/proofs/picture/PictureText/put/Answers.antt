@@ -18,7 +18,8 @@ returns g c =
     let head = rw c.description.ensures.text at titled in
     let axis = rw cycles at c.put_time_section.ensures in
     let time = rw lanes at axis in
+    let altitude = rw enc at c.put_altitude_section.ensures in
     let legend = rw lanes at c.put_legend_section.ensures in
     let last = g.met.S.LineSink.then _ _ _ _ _ legend (g.met.S.LineSink.nothing _) in
-    let marks = g.met.S.LineSink.then _ _ _ _ _ c.put_head_section.ensures (g.met.S.LineSink.then _ _ _ _ _ time (g.met.S.LineSink.then _ _ _ _ _ c.put_lanes_section.ensures last)) in
+    let marks = g.met.S.LineSink.then _ _ _ _ _ c.put_head_section.ensures (g.met.S.LineSink.then _ _ _ _ _ time (g.met.S.LineSink.then _ _ _ _ _ altitude (g.met.S.LineSink.then _ _ _ _ _ c.put_lanes_section.ensures last))) in
     g.met.S.LineSink.then _ _ _ _ _ head (g.met.S.LineSink.then _ _ _ _ _ marks c.end_drawing.ensures)

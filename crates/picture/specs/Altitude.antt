@@ -1,0 +1,74 @@
+-- The altitude of each aircraft against time.
+use Rattle.std.specs.Prelude.{ℕ, ◌+◌, ◌-◌, ◌%◌, ◌==◌, if◌then◌else◌, ℤ, pos, ◌*ℤ◌, List, [], ◌∷◌, ◌++◌, codes, length, map, Some}
+use Rattle.std.specs.Fmt.{signed_decimal}
+use Rattle.std.specs.List.{flat_map, range_with_len}
+use Rattle.acas_base.specs.Encounter.{Parts}
+use Rattle.acas_text.specs.Hex.{hex}
+use Rattle.air_journal.specs.Airs.{address_of}
+use Rattle.picture.specs.Heights.{axis_of, height_in, height_of}
+use Rattle.picture.specs.Layout.{course_area, course_bottom, course_height, point_at}
+use Rattle.picture.specs.Paints.{ink, letters, line_paint}
+use Rattle.picture.specs.declared.span.Span.{Span}
+use Rattle.plot_axes.specs.Scale.{along}
+use Rattle.plot_axes.specs.Time.{begin_of}
+use Rattle.svg_text.specs.Marks.{Mark, figure, traced, worded}
+use Rattle.svg_text.specs.declared.shapes.Anchor.TheVariants as anchors
+use Rattle.svg_text.specs.declared.shapes.Dash.{Dash}
+use Rattle.svg_text.specs.declared.shapes.Dash.TheVariants as dashes
+use Rattle.svg_text.specs.declared.shapes.Fill.TheVariants as fills
+use Rattle.svg_text.specs.declared.shapes.Outline.TheVariants as outlines
+use Rattle.svg_text.specs.declared.shapes.Paint.{Paint}
+use Rattle.svg_text.specs.declared.shapes.Point.{Point}
+use Rattle.svg_text.specs.declared.shapes.Shape.TheVariants as shapes
+use Rattle.svg_text.specs.declared.shapes.Weight.TheVariants as weights
+
+-- How far down an altitude stands.
+unfoldable pub altitude_y : Span → ℤ → ℕ
+altitude_y axis height = course_bottom - along course_height (height_of axis.low) (height_of axis.high) height
+
+-- Where an aircraft stands in a cycle.
+unfoldable pub course_y : Parts → ℕ → ℕ → ℕ
+course_y e own cycle = altitude_y (axis_of e) (height_in e own cycle)
+
+unfoldable pub course_point : Parts → ℕ → ℕ → Point
+course_point e own cycle = point_at (begin_of e.cycles cycle) (course_y e own cycle)
+
+-- Four kinds of lines, in turn.
+unfoldable pub dash_of : ℕ → Dash
+dash_of own = if own % 4 == 0 then dashes.Solid else (if own % 4 == 1 then dashes.Long else (if own % 4 == 2 then dashes.Sparse else dashes.LongAndDot))
+
+abbrev pub course_paint : ℕ → Paint
+course_paint own = record { fill = fills.Nothing; stroke = Some (record { color = ink; width = 30; dash = dash_of own }) }
+
+-- The points of an aircraft, in order of cycle.
+abbrev pub course_points : Parts → ℕ → List Point
+course_points e own = map (course_point e own) (range_with_len 1 e.cycles)
+
+-- The names of aircraft stand in two columns, in turn.
+unfoldable pub name_x : ℕ → ℕ
+name_x own = if own % 2 == 0 then 17900 else 18950
+
+-- A line through its points, and its address beside the last one.
+abbrev pub named_course : Parts → ℕ → ℕ → List Mark
+named_course e own address =
+    traced outlines.Open (course_points e own) (course_paint own) (hex 6 address)
+    ∷ worded (letters (point_at (name_x own) (course_y e own e.cycles + 80)) 240 anchors.Start weights.Regular) (hex 6 address) [] ∷ []
+
+unfoldable pub course_marks : Parts → ℕ → List Mark
+course_marks e own = named_course e own (address_of e own)
+
+abbrev pub courses : Parts → List Mark
+courses e = flat_map (course_marks e) (range_with_len 0 (length e.crafts))
+
+-- An end of the axis, in ft.
+unfoldable pub height_text : ℤ → List ℕ
+height_text step = signed_decimal (step *ℤ pos 500) ++ codes " ft"
+
+unfoldable pub axis_marks : Span → List Mark
+axis_marks axis =
+    figure (shapes.Rect course_area) (line_paint ink 15) []
+    ∷ worded (letters (point_at 1880 1720) 260 anchors.End weights.Regular) (height_text axis.high) []
+    ∷ worded (letters (point_at 1880 4700) 260 anchors.End weights.Regular) (height_text axis.low) [] ∷ []
+
+abbrev pub altitude_marks : Parts → List Mark
+altitude_marks e = axis_marks (axis_of e) ++ courses e

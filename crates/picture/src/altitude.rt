@@ -1,0 +1,269 @@
+// The altitude of each aircraft against time.
+ghost use Rattle.std.specs.Prelude.{◌≡◌, ◌∷◌, [], ◌<◌, ◌≤◌, length, map, unsigned_abs};
+ghost use Rattle.std.specs.List.{range_with_len};
+ghost use Rattle.acas_base.specs.Ranges.{IsCycle};
+ghost use Rattle.acas_text.specs.Hex.{hex};
+ghost use Rattle.air_journal.specs.Airs.{address_of};
+ghost use Rattle.picture.specs.Altitude.{altitude_marks, altitude_y, axis_marks, course_marks, course_paint, course_point, course_points, course_y, courses, dash_of, height_text, name_x, named_course};
+ghost use Rattle.picture.specs.Heights.{IsOn, axis_of};
+ghost use Rattle.svg_text.specs.Marks.{traced};
+ghost use Rattle.svg_text.specs.declared.drawing.TheConstants.{LABEL_BYTES};
+ghost use Rattle.svg_text.specs.declared.shapes.Outline.TheVariants as outlines;
+
+use crate::heights::{axis_law, axis_of, height_in, height_of};
+use crate::lanes::address_text;
+use crate::layout::{COURSE_BOTTOM, COURSE_HEIGHT, course_area, point_at};
+use crate::paints::{ink, put_line, put_words};
+use crate::span::Span;
+use acas_base::{Address, Encounter};
+use acas_text::Line;
+use plot_axes::{Scale, TimeAxis};
+use svg_text::{Anchor, Dash, Drawing, Fill, Outline, Paint, Point, Shape, Stroke, Weight};
+
+// How far down an altitude stands.
+#[tactic(auto, unfolding(crate::specs::Altitude::altitude_y))]
+fn altitude_y(axis: Span, height: i64) -> u32
+    requires low { unsigned_abs axis.low ≤ 401 }
+    requires high { unsigned_abs axis.high ≤ 401 }
+    requires on { IsOn axis height }
+    ensures value { result ≡ altitude_y axis height }
+    ensures most { result ≤ 4700 }
+{
+    let scale = Scale {
+        low: height_of(axis.low),
+        high: height_of(axis.high),
+        length: COURSE_HEIGHT,
+    };
+    COURSE_BOTTOM - scale.along(height)
+}
+
+// How far down an aircraft stands in a cycle.
+#[tactic(auto, unfolding(crate::specs::Altitude::course_y))]
+fn course_y(encounter: &Encounter, axis: Span, own: u8, cycle: u16) -> u32
+    requires axis { axis ≡ axis_of encounter.now }
+    requires low { unsigned_abs axis.low ≤ 401 }
+    requires high { unsigned_abs axis.high ≤ 401 }
+    requires own { own < length encounter.now.crafts }
+    requires first { 1 ≤ cycle }
+    requires last { cycle ≤ encounter.now.cycles }
+    ensures value { result ≡ course_y encounter.now own cycle }
+    ensures most { result ≤ 4700 }
+{
+    encounter.valid_law();
+    axis_law(encounter);
+    altitude_y(axis, height_in(encounter, own, cycle))
+}
+
+// Where it stands.
+#[tactic(auto, unfolding(crate::specs::Altitude::course_point))]
+fn course_point(encounter: &Encounter, axis: Span, time: TimeAxis, own: u8, cycle: u16) -> Point
+    requires axis { axis ≡ axis_of encounter.now }
+    requires low { unsigned_abs axis.low ≤ 401 }
+    requires high { unsigned_abs axis.high ≤ 401 }
+    requires time { time.cycles ≡ encounter.now.cycles }
+    requires own { own < length encounter.now.crafts }
+    requires first { 1 ≤ cycle }
+    requires last { cycle ≤ encounter.now.cycles }
+    ensures { result ≡ course_point encounter.now own cycle }
+{
+    point_at(time.begin(cycle), course_y(encounter, axis, own, cycle))
+}
+
+// Passes through the points of an aircraft.
+fn put_points<D: Drawing>(
+    encounter: &Encounter,
+    axis: Span,
+    time: TimeAxis,
+    own: u8,
+    drawing: &mut D,
+)
+    requires axis { axis ≡ axis_of encounter.now }
+    requires low { unsigned_abs axis.low ≤ 401 }
+    requires high { unsigned_abs axis.high ≤ 401 }
+    requires time { time.cycles ≡ encounter.now.cycles }
+    requires own { own < length encounter.now.crafts }
+    ensures { D.passed drawing.old drawing.new (course_points encounter.now own) }
+{
+    for cycle in 1..time.cycles + 1 {
+        drawing.point(course_point(encounter, axis, time, own, cycle));
+    }
+}
+
+#[tactic(auto, unfolding(crate::specs::Altitude::dash_of))]
+fn dash_of(own: u8) -> Dash
+    ensures { result ≡ dash_of own }
+{
+    if own % 4 == 0 {
+        Dash::Solid
+    } else if own % 4 == 1 {
+        Dash::Long
+    } else if own % 4 == 2 {
+        Dash::Sparse
+    } else {
+        Dash::LongAndDot
+    }
+}
+
+fn course_paint(own: u8) -> Paint
+    ensures { result ≡ course_paint own }
+{
+    Paint {
+        fill: Fill::Nothing,
+        stroke: Some(Stroke {
+            color: ink(),
+            width: 30,
+            dash: dash_of(own),
+        }),
+    }
+}
+
+#[tactic(auto, unfolding(crate::specs::Altitude::name_x))]
+fn name_x(own: u8) -> u32
+    ensures value { result ≡ name_x own }
+    ensures most { result ≤ 18950 }
+{
+    if own % 2 == 0 { 17_900 } else { 18_950 }
+}
+
+// Puts the line of an aircraft.
+fn put_line_of<D: Drawing>(
+    encounter: &Encounter,
+    axis: Span,
+    time: TimeAxis,
+    own: u8,
+    address: &Line,
+    drawing: &mut D,
+)
+    requires axis { axis ≡ axis_of encounter.now }
+    requires low { unsigned_abs axis.low ≤ 401 }
+    requires high { unsigned_abs axis.high ≤ 401 }
+    requires time { time.cycles ≡ encounter.now.cycles }
+    requires own { own < length encounter.now.crafts }
+    requires address { length address.now ≤ LABEL_BYTES }
+    ensures { D.drew drawing.old drawing.new (traced outlines.Open (course_points encounter.now own) (course_paint own) address.now ∷ []) }
+{
+    drawing.begin_points(Outline::Open);
+    put_points(encounter, axis, time, own, drawing);
+    drawing.end_points(Outline::Open, course_paint(own), address);
+}
+
+// The address of an aircraft.
+fn address_of(encounter: &Encounter, own: u8) -> Address
+    requires { own < length encounter.now.crafts }
+    ensures { result ≡ address_of encounter.now own }
+{
+    encounter.crafts()[usize::from(own)].address
+}
+
+// Puts the line of an aircraft, and its address.
+fn put_named<D: Drawing>(
+    encounter: &Encounter,
+    axis: Span,
+    time: TimeAxis,
+    own: u8,
+    address: Address,
+    drawing: &mut D,
+)
+    requires axis { axis ≡ axis_of encounter.now }
+    requires low { unsigned_abs axis.low ≤ 401 }
+    requires high { unsigned_abs axis.high ≤ 401 }
+    requires time { time.cycles ≡ encounter.now.cycles }
+    requires own { own < length encounter.now.crafts }
+    ensures { D.drew drawing.old drawing.new (named_course encounter.now own address) }
+{
+    encounter.valid_law();
+    let text = address_text(address);
+    put_line_of(encounter, axis, time, own, &text, drawing);
+    put_words(
+        point_at(
+            name_x(own),
+            course_y(encounter, axis, own, time.cycles) + 80,
+        ),
+        240,
+        Anchor::Start,
+        Weight::Regular,
+        &text,
+        drawing,
+    );
+}
+
+#[tactic(auto, unfolding(crate::specs::Altitude::course_marks))]
+fn put_course<D: Drawing>(
+    encounter: &Encounter,
+    axis: Span,
+    time: TimeAxis,
+    own: u8,
+    drawing: &mut D,
+)
+    requires axis { axis ≡ axis_of encounter.now }
+    requires low { unsigned_abs axis.low ≤ 401 }
+    requires high { unsigned_abs axis.high ≤ 401 }
+    requires time { time.cycles ≡ encounter.now.cycles }
+    requires own { own < length encounter.now.crafts }
+    ensures { D.drew drawing.old drawing.new (course_marks encounter.now own) }
+{
+    let address = address_of(encounter, own);
+    put_named(encounter, axis, time, own, address, drawing);
+}
+
+// Puts those of all aircraft.
+fn put_courses<D: Drawing>(encounter: &Encounter, axis: Span, time: TimeAxis, drawing: &mut D)
+    requires axis { axis ≡ axis_of encounter.now }
+    requires low { unsigned_abs axis.low ≤ 401 }
+    requires high { unsigned_abs axis.high ≤ 401 }
+    requires time { time.cycles ≡ encounter.now.cycles }
+    ensures { D.drew drawing.old drawing.new (courses encounter.now) }
+{
+    encounter.valid_law();
+    for own in 0..encounter.crafts().len() {
+        put_course(encounter, axis, time, own as u8, drawing);
+    }
+}
+
+// An end of the axis, in ft.
+#[tactic(auto, unfolding(crate::specs::Altitude::height_text))]
+fn height_text(step: i64) -> Line
+    requires { unsigned_abs step ≤ 401 }
+    ensures text { result ≡ height_text step }
+    ensures short { length result ≤ LABEL_BYTES }
+{
+    let mut line = Line::new();
+    line.i32((step * 500) as i32);
+    line.text(" ft");
+    line
+}
+
+// Puts the box and the ends of the axis.
+fn put_axis<D: Drawing>(axis: Span, drawing: &mut D)
+    requires low { unsigned_abs axis.low ≤ 401 }
+    requires high { unsigned_abs axis.high ≤ 401 }
+    ensures { D.drew drawing.old drawing.new (axis_marks axis) }
+{
+    put_line(Shape::Rect(course_area()), ink(), drawing);
+    put_words(
+        point_at(1_880, 1_720),
+        260,
+        Anchor::End,
+        Weight::Regular,
+        &height_text(axis.high),
+        drawing,
+    );
+    put_words(
+        point_at(1_880, 4_700),
+        260,
+        Anchor::End,
+        Weight::Regular,
+        &height_text(axis.low),
+        drawing,
+    );
+}
+
+/// Puts the altitudes.
+pub(crate) fn put_altitude<D: Drawing>(encounter: &Encounter, time: TimeAxis, drawing: &mut D)
+    requires { time.cycles ≡ encounter.now.cycles }
+    ensures { D.drew drawing.old drawing.new (altitude_marks encounter.now) }
+{
+    let axis = axis_of(encounter);
+    put_axis(axis, drawing);
+    put_courses(encounter, axis, time, drawing);
+}
