@@ -6,7 +6,9 @@ ghost use Rattle.acas_top.specs.Given.{IsReadable, answer_status, answer_text};
 ghost use Rattle.acas_top.specs.Words.{IsInRange, plain_limit};
 ghost use Rattle.acas_top.specs.Sweeping.{Sweeps};
 ghost use Rattle.comparison.specs.Splitting.{IsSplit};
+ghost use Rattle.enc_file.specs.Records.{records_of};
 ghost use Rattle.rec_audit.specs.Judging.{IsRecordingOf};
+ghost use Rattle.track_text.specs.Conditions.{IsRefused};
 
 use crate::explaining::{RightEncounter, RightRecording, Subject, read_as, right_tracks_line};
 use crate::pages::put_page;
@@ -271,6 +273,19 @@ fn answer_recording(alloc: Global, bytes: Vec<u8>) -> Result<Answer, AllocError>
     }
 }
 
+// The answer to `explain` on a text of tracks that is refused.
+fn answer_refused_tracks(bytes: &[u8], refusal: track_text::Refusal) -> Answer
+    requires subject { read_as bytes.now ≡ Subject.Tracks }
+    requires few { length bytes.now ≤ ENCOUNTER_BYTES }
+    requires refused { IsRefused (records_of bytes.now) refusal }
+    ensures { AnswersPlain Plain.Explain bytes.now (answer_status result) (answer_text result) }
+{
+    let at = refusal.at;
+    let number = refusal.number();
+    let told = track_text::explained(bytes, refusal);
+    Answer::ExplainedRefusal(at, number, told)
+}
+
 // The answer to `explain` on bytes that begin as a text of tracks.
 fn answer_about_tracks(alloc: Global, bytes: &[u8]) -> Result<Answer, AllocError>
     requires subject { read_as bytes.now ≡ Subject.Tracks }
@@ -279,10 +294,7 @@ fn answer_about_tracks(alloc: Global, bytes: &[u8]) -> Result<Answer, AllocError
 {
     match track_text::read(alloc, bytes) {
         Ok(encounter) => Ok(Answer::Faultless(right_tracks_line(&encounter, bytes))),
-        Err(track_text::ReadError::Refused(refusal)) => {
-            let told = track_text::explained(bytes, refusal);
-            Ok(Answer::ExplainedRefusal(refusal.at, refusal.fault.number(), told))
-        }
+        Err(track_text::ReadError::Refused(refusal)) => Ok(answer_refused_tracks(bytes, refusal)),
         Err(track_text::ReadError::OutOfMemory) => Err(AllocError),
     }
 }

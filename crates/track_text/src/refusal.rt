@@ -38,6 +38,15 @@ pub struct Refusal {
     pub fault: Fault,
 }
 
+impl Refusal {
+    /// The number of the code.
+    pub fn number(&self) -> u8
+        ensures { result ≡ fault_number self.now.fault }
+    {
+        self.fault.number()
+    }
+}
+
 /// Why no encounter was read.
 #[derive(Clone, Copy, Debug, PartialEq, Eq, Error)]
 pub enum ReadError {
