@@ -2,11 +2,12 @@
 // is given, and why it is refused.
 use acas_base::Encounter;
 use acas_io::{MemSink, Sink};
+use acas_text::Line;
 use enc_file::write;
 use std::alloc::{AllocError, Global};
 use std::test::Fail;
 use track_file::TrackFault;
-use track_text::{Fault, ReadError, Refusal, read};
+use track_text::{Fault, ReadError, Refusal, explained, read};
 
 // A text of tracks, and the canonical text of the encounter.
 type Told = (&'static [u8], &'static [u8]);
@@ -191,7 +192,6 @@ fn faulty_texts_of_tracks_are_refused(rt: HostRuntime) -> Result<(), Fail> {
 }
 
 fn refused_at(at: u32, fault: TrackFault, address: u32) -> Option<Refusal> {
-    let address = Address::new(address)?;
     Some(Refusal {
         at,
         fault: Fault::Track(fault, address),
@@ -200,10 +200,85 @@ fn refused_at(at: u32, fault: TrackFault, address: u32) -> Option<Refusal> {
 
 #[test]
 fn faults_of_tracks_name_the_aircraft(rt: HostRuntime) -> Result<(), Fail> {
-    let fast = refused_at(10, TrackFault::Rate { craft: 1, cycle: 2 });
+    let fast = refused_at(10, TrackFault::Rate { craft: 1, cycle: 2 }, 0x400B02);
     assert_eq!(rt; refusal(rt.alloc(), FAST)?, fast);
     assert_eq!(rt; first_other(rt.alloc(), &[(FAST, 10, 14)])?, None);
-    let short = refused_at(11, TrackFault::Cover { craft: 2 });
+    let short = refused_at(11, TrackFault::Cover { craft: 2 }, 0x400C03);
     assert_eq!(rt; refusal(rt.alloc(), FAST_AND_SHORT)?, short);
+    Ok(())
+}
+
+// A text of tracks that is refused, and the sentence that tells why.
+const EXPLAINED: [Told; 11] = [
+    (
+        b"tracks,2\n",
+        b"line 1: the first record has to be \"tracks,1\", and is \"tracks,2\"\n",
+    ),
+    (
+        b"tracks,1\nleg,400A01,1,0,0,0\n",
+        b"line 2: \"leg\" is no kind of record of tracks (run, gains, craft, climb, at, miss, plan, fate, end)\n",
+    ),
+    (
+        b"tracks,1\r\n\r\nat,400A01,0,0,0\r\n",
+        b"line 3: \"at,400A01,0,0,0\" has more or fewer fields than a record of its kind\n",
+    ),
+    (
+        b"tracks,1\nrun,0,0\n",
+        b"line 2: \"run,0,0\" has a number that is no whole number of its range, a KIND or a MASK that is none, or a TO below its FROM\n",
+    ),
+    (
+        b"tracks,1\ncraft,400a01,RA\n",
+        b"line 2: \"craft,400a01,RA\" has an address that isn't six digits 0-9A-F, or is 000000 or FFFFFF\n",
+    ),
+    (
+        b"tracks,1\nrun,3,0\nrun,3,0\n",
+        b"line 3: \"run,3,0\" gives again what a record before it gives, or doesn't come after the last one of its aircraft or pair\n",
+    ),
+    (
+        b"tracks,1\nat,400A01,0,0,0,0\n",
+        b"line 2: \"at,400A01,0,0,0,0\" has an address that no craft record before it has, or the same address twice\n",
+    ),
+    (
+        b"tracks,1\nend\n",
+        b"line 2: \"end\" is one aircraft too many, or comes where there is no run record, or no aircraft of kind RA or TA\n",
+    ),
+    (
+        b"tracks,1\nrun,3,0\n",
+        b"line 3: the last record has to be \"end\", and there is none; was the text cut off?\n",
+    ),
+    (
+        FAST,
+        b"line 10: the track of 400B02 is too fast for a leg from cycle 2 to the next one: at most 2000 ft/s in x and in y, and 10000 ft/min\n",
+    ),
+    (
+        FAST_AND_SHORT,
+        b"line 11: the track of 400C03 has no point at 0 ms or before it, or none at the time of the last cycle or after it\n",
+    ),
+];
+
+// The sentence of a text; none where it is accepted.
+fn sentence(alloc: Global, text: &[u8]) -> Result<Option<Line>, AllocError> {
+    if text.len() > 1_000 {
+        return Ok(None);
+    }
+    match read(alloc, text) {
+        Ok(_) => Ok(None),
+        Err(ReadError::OutOfMemory) => Err(AllocError),
+        Err(ReadError::Refused(refusal)) => Ok(Some(explained(text, refusal))),
+    }
+}
+
+fn is_told(alloc: Global, text: &[u8], expected: &[u8]) -> Result<bool, AllocError> {
+    match sentence(alloc, text)? {
+        Some(line) => Ok(line.bytes() == expected),
+        None => Ok(false),
+    }
+}
+
+#[test]
+fn refused_tracks_are_explained(rt: HostRuntime) -> Result<(), Fail> {
+    for (text, expected) in EXPLAINED {
+        assert!(rt; is_told(rt.alloc(), text, expected)?);
+    }
     Ok(())
 }

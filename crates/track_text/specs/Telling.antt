@@ -1,5 +1,5 @@
 -- What is told of a text of tracks that is refused: the line of the file, and what is wrong with the record there.
-use Rattle.std.specs.Prelude.{◌≡◌, ℕ, List, [], ◌++◌, codes}
+use Rattle.std.specs.Prelude.{◌≡◌, ℕ, nat_lt, if◌then◌else◌, List, [], ◌++◌, codes}
 use Rattle.std.specs.Fmt.{decimal}
 use Rattle.acas_text.specs.Hex.{hex}
 use Rattle.enc_file.specs.Values.{field}
@@ -32,11 +32,15 @@ text_fault code.Kind line = shown (field (fields_in line) 0) ++ codes " is no ki
 text_fault code.NoEnd line = codes "the last record has to be \"end\", and there is none; was the text cut off?"
 text_fault other line = shown line ++ code_words other
 
+-- The six digits of an address. A number that has more digits is written in decimal.
+abbrev pub address_text : ℕ → List ℕ
+address_text address = if nat_lt address 16777216 then hex 6 address else decimal address
+
 -- Why an aircraft can't fly along its track.
 abbrev pub track_fault : TrackFault → ℕ → List ℕ
-track_fault (Cover craft) address = codes "the track of " ++ hex 6 address ++ codes " has no point at 0 ms or before it, or none at the time of the last cycle or after it"
+track_fault (Cover craft) address = codes "the track of " ++ address_text address ++ codes " has no point at 0 ms or before it, or none at the time of the last cycle or after it"
 track_fault (Rate craft cycle) address =
-    codes "the track of " ++ hex 6 address ++ codes " is too fast for a leg from cycle " ++ decimal cycle ++ codes " to the next one: at most 2000 ft/s in x and in y, and 10000 ft/min"
+    codes "the track of " ++ address_text address ++ codes " is too fast for a leg from cycle " ++ decimal cycle ++ codes " to the next one: at most 2000 ft/s in x and in y, and 10000 ft/min"
 
 abbrev pub fault_words : Fault → List ℕ → List ℕ
 fault_words (Text why) line = text_fault why line

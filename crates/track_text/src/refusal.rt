@@ -3,7 +3,6 @@ ghost use Rattle.std.specs.Prelude.{◌≡◌};
 ghost use Rattle.track_text.specs.Codes.{fault_number};
 ghost use Rattle.track_text.specs.declared.refusal.ReadError.TheVariants.{OutOfMemory, Refused};
 
-use acas_base::Address;
 use enc_file::Code;
 use std::alloc::{AllocError, AllocFailed};
 use thiserror::Error;
@@ -14,8 +13,9 @@ use track_file::TrackFault;
 pub enum Fault {
     /// A fault that the text of an encounter can have, too. It isn't `Box`.
     Text(Code),
-    /// At the end: the aircraft can't fly along their tracks. The address is that of the aircraft at fault.
-    Track(TrackFault, Address),
+    /// At the end: the aircraft can't fly along their tracks. Beside the fault stands the number of the address of the
+    /// aircraft at fault.
+    Track(TrackFault, u32),
 }
 
 impl Fault {

@@ -52,12 +52,12 @@ fn no_tracks(alloc: Global) -> Result<Vec<Vec<Point>>, AllocError>
     Ok(tracks)
 }
 
-// The address of the aircraft at fault.
-fn address_of(crafts: &[CraftSpec], fault: TrackFault) -> Address
+// The number of the address of the aircraft at fault.
+fn address_of(crafts: &[CraftSpec], fault: TrackFault) -> u32
     requires { craft_at fault < length crafts.now }
     ensures { address_at crafts.now (craft_at fault) ≡ Some result }
 {
-    crafts[usize::from(fault.craft())].address
+    crafts[usize::from(fault.craft())].address.value()
 }
 
 impl TrackTables {

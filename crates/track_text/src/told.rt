@@ -2,10 +2,9 @@
 ghost use Rattle.std.specs.Prelude.{◌≡◌, ◌+◌, ◌-◌, ◌<◌, ◌≤◌, ◌^◌, ◌++◌, length};
 ghost use Rattle.enc_file.specs.Records.{records_of};
 ghost use Rattle.track_text.specs.Conditions.{IsRefused};
-ghost use Rattle.track_text.specs.Telling.{IsExplained, code_words, fault_words, text_fault, track_fault};
+ghost use Rattle.track_text.specs.Telling.{IsExplained, address_text, code_words, fault_words, text_fault, track_fault};
 
 use crate::refusal::{Fault, Refusal};
-use acas_base::Address;
 use acas_text::{LINE_BYTES, Line};
 use enc_file::Code;
 use fault_text::{add_shown, field, place_of};
@@ -61,14 +60,27 @@ fn add_text_fault(line: &mut Line, code: Code, found: &[u8])
     }
 }
 
+// Adds the six digits of an address.
+fn add_address(line: &mut Line, address: u32)
+    requires { length line.old + 10 ≤ LINE_BYTES }
+    ensures added { line.new ≡ line.old ++ address_text address }
+    ensures short { length line.new ≤ length line.old + 10 }
+{
+    if address < 16_777_216 {
+        line.hex(u64::from(address), 6);
+    } else {
+        line.u32(address);
+    }
+}
+
 // Adds why an aircraft can't fly along its track.
-fn add_track_fault(line: &mut Line, fault: TrackFault, address: Address)
+fn add_track_fault(line: &mut Line, fault: TrackFault, address: u32)
     requires { length line.old + 300 ≤ LINE_BYTES }
     ensures added { line.new ≡ line.old ++ track_fault fault address }
     ensures short { length line.new ≤ length line.old + 300 }
 {
     line.text("the track of ");
-    line.address(address.value());
+    add_address(line, address);
     match fault {
         TrackFault::Cover { .. } => {
             line.text(

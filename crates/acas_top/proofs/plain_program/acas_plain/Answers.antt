@@ -6,13 +6,13 @@ use Rattle.acas_top.specs.declared.status.Status.{Status}
 use Rattle.acas_top.specs.declared.words.Command.TheVariants.{Plain}
 use Rattle.acas_top.proofs.plain_program.acas_plain.Goals as goal
 
-pub returns-clause-ended : goal.returns-clause-ended
-returns-clause-ended g c =
+pub returns-in-Err-clause-ended : goal.returns-in-Err-clause-ended
+returns-in-Err-clause-ended g c =
     let said = c.in-Some.ensures.some in
     unread-ends (Plain c.in-Some.plain) c.in-Err.status said (λ none. none c.in-Some.plain c.in-Some.ensures.valid said) c.in-Err.ensures.untouched c.in-Err.ensures.unread
 
-pub returns-in-Ok-clause-ended : goal.returns-in-Ok-clause-ended
-returns-in-Ok-clause-ended g c =
+pub returns-in-Err-answer_to-clause-ended : goal.returns-in-Err-answer_to-clause-ended
+returns-in-Err-answer_to-clause-ended g c =
     let said = c.in-Some.ensures.some in
     wanting-ends (Plain c.in-Some.plain) said (λ none. none c.in-Some.plain c.in-Some.ensures.valid said) c.in-Ok.ensures.untouched c.in-Ok.ensures.no_fault
 
