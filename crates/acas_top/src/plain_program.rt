@@ -21,18 +21,19 @@ use track_text::once_law;
 ///
 /// - `serial` reads an encounter and writes the recording of its serial run. Where the input is no encounter, it writes
 ///   the line `refused,RECORD,CODE`.
-/// - `tracks` reads recorded tracks and writes the encounter whose aircraft fly along them. Where there is none, it writes
-///   the line `refused,RECORD,CODE`.
+/// - `tracks` reads recorded tracks and writes the encounter whose aircraft fly along them. Where there is none, it
+///   writes the line `refused,RECORD,CODE`.
 /// - `audit` reads a recording and writes `legal,ENTRIES`. Where the recording is wrong, it writes `wrong,LINE,REASON`.
 /// - `resume` reads a beginning of a recording, and writes the whole recording. Where the input is none, it writes the
 ///   line of its verdict.
-/// - `reports`, `response`, `watch`, `why`, `places`, `messages`, `summary` and `picture` read a recording, and write a text
-///   about it, or a drawing. Where the recording is wrong, they write the line of its verdict.
+/// - `reports`, `response`, `watch`, `why`, `places`, `messages`, `summary` and `picture` read a recording, and write a
+///   text about it, or a drawing. Where the recording is wrong, they write the line of its verdict.
 /// - `compare` reads two recordings, one after the other, and writes what differs between them. Where one of them is
 ///   wrong, it writes the line of the verdict.
 /// - `explain` reads a recording, a text of tracks or an encounter: bytes that begin with `recording,` or `tracks,` are
-///   the first or the second, also behind one byte order mark. Where nothing is wrong, it says so, and tells what has no
-///   effect. Else it writes the line that `audit`, `tracks` or `serial` writes, and a sentence that tells what is wrong.
+///   the first or the second, also behind one byte order mark. Where nothing is wrong, it says so, and tells what has
+///   no effect. Else it writes the line that `audit`, `tracks` or `serial` writes, and a sentence that tells what is
+///   wrong.
 /// - `gen NUMBER CRAFTS CYCLES` reads nothing, and writes the encounter that is made from the number.
 /// - `sweep NUMBER COUNT CRAFTS CYCLES` reads nothing. It plays the encounters that are made from COUNT numbers, in as
 ///   many threads as there are processors, and writes the counts of each.

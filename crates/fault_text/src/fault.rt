@@ -99,8 +99,8 @@ pub enum Why<'a> {
     NoRun,
     /// At the end: no aircraft is of kind RA or TA.
     NoneActive,
-    /// At the end: an aircraft isn't in the box in some cycle of the run. Of several it is the first one of the text, and
-    /// of its cycles the first one. `craft` is the field with its address.
+    /// At the end: an aircraft isn't in the box in some cycle of the run. Of several it is the first one of the text,
+    /// and of its cycles the first one. `craft` is the field with its address.
     Outside {
         craft: &'a [u8],
         cycle: u16,
@@ -256,8 +256,8 @@ fn why_of<'a>(text: &'a [u8], refusal: Refusal, line: &'a [u8]) -> Why<'a>
 
 /// What is wrong with a refused text.
 ///
-/// It looks at one record again, and at most three times at those before it. The error says that memory was wanting: where
-/// an aircraft leaves the box, the encounter is made again.
+/// It looks at one record again, and at most three times at those before it. The error says that memory was wanting:
+/// where an aircraft leaves the box, the encounter is made again.
 pub fn explain(alloc: Global, text: &[u8], refusal: Refusal) -> Result<Fault<'_>, AllocError>
     requires few { length text.now < 2 ^ 32 - 1 }
     requires refused { reading_of text.now ≡ Err refusal }

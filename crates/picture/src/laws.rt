@@ -13,7 +13,8 @@ pub fn bars_law()
     ensures { (e : Parts) (journal : List Entry) → IsLegal (air_of e) journal → (own : ℕ) → AreBars journal e.cycles own (shown_rows journal e.cycles own) }
 {}
 
-/// A law: the axis of altitudes holds each aircraft in each cycle, and a greater altitude stands no lower than a less one.
+/// A law: the axis of altitudes holds each aircraft in each cycle, and a greater altitude stands no lower than a less
+/// one.
 pub fn courses_law()
     ensures { (e : Parts) → AreCourses e }
 {}

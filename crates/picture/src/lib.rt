@@ -1,9 +1,9 @@
 //! A drawing of a recording as SVG: how high each aircraft flew, which advisories each one showed, and when.
 //!
 //! It has a head, an axis of time, a line for the altitude of each aircraft, a lane for each aircraft that advises with
-//! a bar for each of its rows of cycles, and a legend. The bars are exactly the longest rows of cycles with one word and
-//! one corrective mark (`bars_law`). The axis of altitudes holds them all (`courses_law`). The text is well formed, and
-//! everything lies within its page (`sound_law`).
+//! a bar for each of its rows of cycles, and a legend. The bars are exactly the longest rows of cycles with one word
+//! and one corrective mark (`bars_law`). The axis of altitudes holds them all (`courses_law`). The text is well formed,
+//! and everything lies within its page (`sound_law`).
 #![tactic(auto)]
 
 mod altitude;

@@ -75,9 +75,9 @@ fn put_legend_section<S: LineSink>(lanes: u32, sink: &mut S)
 
 // ---- all of it
 
-/// The picture of a state, as SVG: a head, an axis of time, the altitude of each aircraft, a lane for each aircraft that
-/// advises, and a legend. In a lane stands a bar for each longest row of cycles with one word of the report, which isn't CLEAR, and one corrective
-/// mark.
+/// The picture of a state, as SVG: a head, an axis of time, the altitude of each aircraft, a lane for each aircraft
+/// that advises, and a legend. In a lane stands a bar for each longest row of cycles with one word of the report, which
+/// isn't CLEAR, and one corrective mark.
 #[derive(Drop)]
 pub struct Picture<'a>(pub &'a AirState);
 

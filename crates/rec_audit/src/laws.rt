@@ -17,8 +17,8 @@ pub fn verdict_law()
     enc_file::canonical_text_law();
 }
 
-/// A law: about one thing at most one entry is allowed after a journal. So one line at most is allowed where the content
-/// of an entry is wrong.
+/// A law: about one thing at most one entry is allowed after a journal. So one line at most is allowed where the
+/// content of an entry is wrong.
 pub fn allowed_law()
     ensures { (air : Air) (journal : List Entry) (one two : Entry) → key one ≡ key two → IsAllowed air journal one → IsAllowed air journal two → one ≡ two }
 {}

@@ -242,8 +242,8 @@ const WHOLE: [(&[u8], &[u8]); 32] = [
     ),
 ];
 
-// A text whose `end` is refused since an aircraft leaves the box, and the line that tells which one does first, when and
-// where.
+// A text whose `end` is refused since an aircraft leaves the box, and the line that tells which one does first, when
+// and where.
 const OUTSIDE: [(&[u8], &[u8]); 12] = [
     (
         b"encounter,1\nrun,3,0\ncraft,400A01,RA,999000,0,35000\nleg,400A01,1,1000,0,0\nend\n",

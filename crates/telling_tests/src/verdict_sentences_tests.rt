@@ -1,5 +1,5 @@
-// Expected values: by hand from "What is told of a wrong recording" in docs/FORMATS.md, before the program ran. Where no
-// other encounter is named, the recording is that of examples/three-cycles.enc, as docs/FORMATS.md shows it.
+// Expected values: by hand from "What is told of a wrong recording" in docs/FORMATS.md, before the program ran. Where
+// no other encounter is named, the recording is that of examples/three-cycles.enc, as docs/FORMATS.md shows it.
 ghost use Rattle.std.specs.Prelude.{◌≤◌, IfOk, IfSome, length};
 
 use rec_audit::{Explained, explain};

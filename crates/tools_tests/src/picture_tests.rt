@@ -1,5 +1,5 @@
-// Expected values: from another program, which was written from "The picture" in docs/FORMATS.md alone. What is shown in
-// each cycle is by hand, from the recordings that the pages in examples/ explain.
+// Expected values: from another program, which was written from "The picture" in docs/FORMATS.md alone. What is shown
+// in each cycle is by hand, from the recordings that the pages in examples/ explain.
 ghost use Rattle.std.specs.Prelude.{IfOk};
 ghost use Rattle.flight.specs.Inside.{IsInside};
 

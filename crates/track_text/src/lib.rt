@@ -1,4 +1,5 @@
-//! The text of recorded tracks: read from bytes to the encounter whose aircraft fly along them, or to why there is none.
+//! The text of recorded tracks: read from bytes to the encounter whose aircraft fly along them, or to why there is
+//! none.
 #![tactic(auto)]
 
 mod laws;
