@@ -156,8 +156,8 @@ impl Limit {
 }
 
 impl Plain {
-    // How much the command reads at most, or none where it reads nothing. Each word has an arm of its own, since a proof
-    // by the cases of arms that several words share takes minutes.
+    // How much the command reads at most, or none where it reads nothing. Each word has an arm of its own: a proof by
+    // the cases of arms that several words share takes minutes.
     fn limit(self) -> Option<Limit>
         ensures { result ≡ limit_of (Command.Plain self) }
     {
