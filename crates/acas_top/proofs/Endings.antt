@@ -9,20 +9,20 @@ use Rattle.acas_io.specs.Faults.{Rose, one_more}
 use Rattle.acas_io.specs.Stream.{Grew, Puts}
 use Rattle.acas_top.specs.Ends.{Answered, Ended, IsAnswer, IsTooLong, IsUnread, Passed, WasPut, WasRead, status_after}
 use Rattle.acas_top.specs.Statuses.{status_number}
-use Rattle.acas_top.specs.Words.{AreNoCommand, AreNoPlain, AreNoRun, IsCommand, Say, limit_of, most}
+use Rattle.acas_top.specs.Words.{AreNoCommand, AreNoFlight, AreNoPlain, AreNoQuiet, AreNoRun, IsCommand, Say, limit_of, most}
 use Rattle.acas_top.specs.Given.{answer_status, answer_text}
 use Rattle.acas_top.specs.declared.answers.Answer.{Answer}
-use Rattle.acas_top.specs.declared.answers.Answer.TheVariants.{Compared, Decoded, ExplainedRefusal, ExplainedWrong, Faultless, Judged, Made, Recorded, Refused, RightEncounter, RightRecording, Shown, Summed, Swept, Told}
+use Rattle.acas_top.specs.declared.answers.Answer.TheVariants.{Compared, Decoded, ExplainedRefusal, ExplainedWrong, Faultless, Judged, Made, Recorded, Refused, RightEncounter, RightRecording, Shown, Summed, Swept, Told, Unmet, Varied}
 use Rattle.acas_top.specs.declared.status.Status.{Status}
 use Rattle.acas_top.specs.declared.status.Status.TheVariants as statuses
 use Rattle.rec_audit.specs.declared.verdict.Verdict.TheVariants.{Legal, Wrong}
 use Rattle.acas_top.specs.declared.status.Status.TheVariants.{Done, OutOfMemory, ReadFault, TooLong, Usage, WriteFault}
 use Rattle.acas_top.specs.declared.words.Limit.{Limit}
 use Rattle.acas_top.specs.declared.words.Limit.TheVariants as limits
-use Rattle.acas_top.specs.declared.words.Command.{Command}
-use Rattle.acas_top.specs.declared.words.Command.TheVariants as commands
+use Rattle.acas_top.specs.Commands.{Command}
+use Rattle.acas_top.specs.Commands as commands
 use Rattle.acas_top.specs.declared.words.Page.TheVariants.{Help, Version}
-use Rattle.acas_top.specs.declared.words.Plain.TheVariants.{Audit, Compare, Decode, Explain, Gen, Resume, Serial, Show, Sweep, Tell, Tracks}
+use Rattle.acas_top.specs.declared.words.Plain.TheVariants.{Audit, Compare, Decode, Explain, Gen, Resume, Serial, Show, Sweep, Tell, Tracks, Vary}
 use Rattle.acas_top.specs.declared.words.Threaded.{Threaded}
 use Rattle.acas_top.specs.declared.words.Threaded.TheVariants.{Play, Sum}
 use Rattle.acas_top.specs.declared.words.Tool.TheVariants.{Messages, Picture, Places, Reports, Response, Summary, Watch, Why}
@@ -54,77 +54,82 @@ limit-by words =
     else if begins-with (codes "tracks") words then Some limits.Encounter
     else if begins-with (codes "play") words then Some limits.Encounter
     else if begins-with (codes "sum") words then Some limits.Encounter
+    else if begins-with (codes "fly") words then Some limits.Encounter
+    else if begins-with (codes "vary") words then Some limits.Encounter
     else if begins-with (codes "explain") words then Some limits.Either
     else Some limits.Recording
 
 limit-said : (words : List (List ℕ)) (command : Command) → Say words command → limit_of command ≡ limit-by words
-limit-said words (commands.Plain Serial) said = sym (ap limit-by said)
-limit-said words (commands.Plain Audit) said = sym (ap limit-by said)
-limit-said words (commands.Plain (Gen number crafts cycles)) said = sym (ap limit-by said)
-limit-said words (commands.Plain (Tell Messages)) said = sym (ap limit-by said)
-limit-said words (commands.Plain (Tell Picture)) said = sym (ap limit-by said)
-limit-said words (commands.Plain (Tell Places)) said = sym (ap limit-by said)
-limit-said words (commands.Plain (Tell Reports)) said = sym (ap limit-by said)
-limit-said words (commands.Plain (Tell Response)) said = sym (ap limit-by said)
-limit-said words (commands.Plain (Tell Summary)) said = sym (ap limit-by said)
-limit-said words (commands.Plain (Tell Watch)) said = sym (ap limit-by said)
-limit-said words (commands.Plain (Tell Why)) said = sym (ap limit-by said)
-limit-said words (commands.Plain (Sweep number count crafts cycles)) said = sym (ap limit-by said)
-limit-said words (commands.Plain Resume) said = sym (ap limit-by said)
-limit-said words (commands.Plain Tracks) said = sym (ap limit-by said)
-limit-said words (commands.Plain Compare) said = sym (ap limit-by said)
-limit-said words (commands.Plain (Decode word)) said = sym (ap limit-by said)
-limit-said words (commands.Plain Explain) said = sym (ap limit-by said)
-limit-said words (commands.Plain (Show Help)) (inl said) = sym (ap limit-by said)
-limit-said words (commands.Plain (Show Help)) (inr (inl said)) = sym (ap limit-by said)
-limit-said words (commands.Plain (Show Help)) (inr (inr said)) = sym (ap limit-by said)
-limit-said words (commands.Plain (Show Version)) said = sym (ap limit-by said)
-limit-said words (commands.Run Play) said = sym (ap limit-by said)
-limit-said words (commands.Run Sum) said = sym (ap limit-by said)
+limit-said words (commands.OfPlain Serial) said = sym (ap limit-by said)
+limit-said words (commands.OfPlain Audit) said = sym (ap limit-by said)
+limit-said words (commands.OfPlain (Gen number crafts cycles)) said = sym (ap limit-by said)
+limit-said words (commands.OfPlain (Tell Messages)) said = sym (ap limit-by said)
+limit-said words (commands.OfPlain (Tell Picture)) said = sym (ap limit-by said)
+limit-said words (commands.OfPlain (Tell Places)) said = sym (ap limit-by said)
+limit-said words (commands.OfPlain (Tell Reports)) said = sym (ap limit-by said)
+limit-said words (commands.OfPlain (Tell Response)) said = sym (ap limit-by said)
+limit-said words (commands.OfPlain (Tell Summary)) said = sym (ap limit-by said)
+limit-said words (commands.OfPlain (Tell Watch)) said = sym (ap limit-by said)
+limit-said words (commands.OfPlain (Tell Why)) said = sym (ap limit-by said)
+limit-said words (commands.OfPlain (Sweep number count crafts cycles)) said = sym (ap limit-by said)
+limit-said words (commands.OfPlain Resume) said = sym (ap limit-by said)
+limit-said words (commands.OfPlain Tracks) said = sym (ap limit-by said)
+limit-said words (commands.OfPlain (Vary variation)) said = sym (ap limit-by said)
+limit-said words (commands.OfPlain Compare) said = sym (ap limit-by said)
+limit-said words (commands.OfPlain (Decode word)) said = sym (ap limit-by said)
+limit-said words (commands.OfPlain Explain) said = sym (ap limit-by said)
+limit-said words (commands.OfPlain (Show Help)) (inl said) = sym (ap limit-by said)
+limit-said words (commands.OfPlain (Show Help)) (inr (inl said)) = sym (ap limit-by said)
+limit-said words (commands.OfPlain (Show Help)) (inr (inr said)) = sym (ap limit-by said)
+limit-said words (commands.OfPlain (Show Version)) said = sym (ap limit-by said)
+limit-said words (commands.OfFlight names) said = sym (ap limit-by said.is)
+limit-said words (commands.OfRun Play) said = sym (ap limit-by said)
+limit-said words (commands.OfRun Sum) said = sym (ap limit-by said)
 
 -- Commands that the same words say have one limit.
 pub one-limit : (words : List (List ℕ)) (one other : Command) → Say words one → Say words other → limit_of one ≡ limit_of other
 one-limit words one other said also = limit-said words one said ∙ sym (limit-said words other also)
 
 -- The words of the serial run say no other command.
-only-serial : (words : List (List ℕ)) (bytes text : List ℕ) (command : Command) → Say words command → Say words (commands.Plain Serial) → Answers command bytes Done text → Plays bytes text
-only-serial words bytes text (commands.Plain Serial) said also plays = plays
-only-serial words bytes text (commands.Plain (Tell Messages)) said also plays = absurd (clash (codes "serial") words _ _ said also refl refl)
-only-serial words bytes text (commands.Plain (Tell Picture)) said also plays = absurd (clash (codes "serial") words _ _ said also refl refl)
-only-serial words bytes text (commands.Plain (Tell Places)) said also plays = absurd (clash (codes "serial") words _ _ said also refl refl)
-only-serial words bytes text (commands.Plain (Tell Reports)) said also plays = absurd (clash (codes "serial") words _ _ said also refl refl)
-only-serial words bytes text (commands.Plain (Tell Response)) said also plays = absurd (clash (codes "serial") words _ _ said also refl refl)
-only-serial words bytes text (commands.Plain (Tell Summary)) said also plays = absurd (clash (codes "serial") words _ _ said also refl refl)
-only-serial words bytes text (commands.Plain (Tell Watch)) said also plays = absurd (clash (codes "serial") words _ _ said also refl refl)
-only-serial words bytes text (commands.Plain (Tell Why)) said also plays = absurd (clash (codes "serial") words _ _ said also refl refl)
-only-serial words bytes text (commands.Plain (Show Help)) (inl said) also plays = absurd (clash (codes "serial") words _ _ said also refl refl)
-only-serial words bytes text (commands.Plain (Show Help)) (inr (inl said)) also plays = absurd (clash (codes "serial") words _ _ said also refl refl)
-only-serial words bytes text (commands.Plain (Show Help)) (inr (inr said)) also plays = absurd (clash (codes "serial") words _ _ said also refl refl)
-only-serial words bytes text (commands.Plain (Show Version)) said also plays = absurd (clash (codes "serial") words _ _ said also refl refl)
-only-serial words bytes text (commands.Plain plain) said also plays = absurd (clash (codes "serial") words _ _ said also refl refl)
-only-serial words bytes text (commands.Run Play) said also plays = absurd (clash (codes "serial") words _ _ said also refl refl)
-only-serial words bytes text (commands.Run Sum) said also plays = absurd (clash (codes "serial") words _ _ said also refl refl)
+only-serial : (words : List (List ℕ)) (bytes text : List ℕ) (command : Command) → Say words command → Say words (commands.OfPlain Serial) → Answers command bytes Done text → Plays bytes text
+only-serial words bytes text (commands.OfPlain Serial) said also plays = plays
+only-serial words bytes text (commands.OfPlain (Tell Messages)) said also plays = absurd (clash (codes "serial") words _ _ said also refl refl)
+only-serial words bytes text (commands.OfPlain (Tell Picture)) said also plays = absurd (clash (codes "serial") words _ _ said also refl refl)
+only-serial words bytes text (commands.OfPlain (Tell Places)) said also plays = absurd (clash (codes "serial") words _ _ said also refl refl)
+only-serial words bytes text (commands.OfPlain (Tell Reports)) said also plays = absurd (clash (codes "serial") words _ _ said also refl refl)
+only-serial words bytes text (commands.OfPlain (Tell Response)) said also plays = absurd (clash (codes "serial") words _ _ said also refl refl)
+only-serial words bytes text (commands.OfPlain (Tell Summary)) said also plays = absurd (clash (codes "serial") words _ _ said also refl refl)
+only-serial words bytes text (commands.OfPlain (Tell Watch)) said also plays = absurd (clash (codes "serial") words _ _ said also refl refl)
+only-serial words bytes text (commands.OfPlain (Tell Why)) said also plays = absurd (clash (codes "serial") words _ _ said also refl refl)
+only-serial words bytes text (commands.OfPlain (Show Help)) (inl said) also plays = absurd (clash (codes "serial") words _ _ said also refl refl)
+only-serial words bytes text (commands.OfPlain (Show Help)) (inr (inl said)) also plays = absurd (clash (codes "serial") words _ _ said also refl refl)
+only-serial words bytes text (commands.OfPlain (Show Help)) (inr (inr said)) also plays = absurd (clash (codes "serial") words _ _ said also refl refl)
+only-serial words bytes text (commands.OfPlain (Show Version)) said also plays = absurd (clash (codes "serial") words _ _ said also refl refl)
+only-serial words bytes text (commands.OfPlain plain) said also plays = absurd (clash (codes "serial") words _ _ said also refl refl)
+only-serial words bytes text (commands.OfFlight names) said also plays = absurd (clash (codes "serial") words _ _ said.is also refl refl)
+only-serial words bytes text (commands.OfRun Play) said also plays = absurd (clash (codes "serial") words _ _ said also refl refl)
+only-serial words bytes text (commands.OfRun Sum) said also plays = absurd (clash (codes "serial") words _ _ said also refl refl)
 
 -- The words of `play` say no other run in threads.
-only-play : (words : List (List ℕ)) (bytes text : List ℕ) (run : Threaded) → Say words (commands.Run run) → Say words (commands.Run Play) → Answers (commands.Run run) bytes Done text → PlaysSome bytes text
+only-play : (words : List (List ℕ)) (bytes text : List ℕ) (run : Threaded) → Say words (commands.OfRun run) → Say words (commands.OfRun Play) → Answers (commands.OfRun run) bytes Done text → PlaysSome bytes text
 only-play words bytes text Play said also plays = plays
 only-play words bytes text Sum said also plays = absurd (clash (codes "play") words _ _ said also refl refl)
 
 -- A command was done, and its words are those of the serial run.
 pub done-serial : (command : Command) (words : List (List ℕ)) (old new : Option (List ℕ)) (bytes text : List ℕ) (IsPut : List ℕ → Type 0)
-    → Say words command → Answers command bytes Done text → WasRead (limit_of command) old new bytes → IsPut text → Say words (commands.Plain Serial) → Passed (limit_of (commands.Plain Serial)) Plays old new IsPut
+    → Say words command → Answers command bytes Done text → WasRead (limit_of command) old new bytes → IsPut text → Say words (commands.OfPlain Serial) → Passed (limit_of (commands.OfPlain Serial)) Plays old new IsPut
 done-serial command words old new bytes text IsPut said answers read put also = record {
   bytes = bytes;
   text = text;
-  read = subst (λ (limit : Option Limit). WasRead limit old new bytes) (one-limit words command (commands.Plain Serial) said also) read;
+  read = subst (λ (limit : Option Limit). WasRead limit old new bytes) (one-limit words command (commands.OfPlain Serial) said also) read;
   relates = only-serial words bytes text command said also answers;
   put = put;
 }
 
 -- A run in threads was done, and its words are those of `play`.
 pub done-play : (run : Threaded) (words : List (List ℕ)) (old new : Option (List ℕ)) (bytes text : List ℕ) (IsPut : List ℕ → Type 0)
-    → Say words (commands.Run run) → Answers (commands.Run run) bytes Done text → WasRead (limit_of (commands.Run run)) old new bytes → IsPut text → Say words (commands.Run Play)
-    → Passed (limit_of (commands.Run Play)) PlaysSome old new IsPut
+    → Say words (commands.OfRun run) → Answers (commands.OfRun run) bytes Done text → WasRead (limit_of (commands.OfRun run)) old new bytes → IsPut text → Say words (commands.OfRun Play)
+    → Passed (limit_of (commands.OfRun Play)) PlaysSome old new IsPut
 done-play run words old new bytes text IsPut said answers read put also = record {
   bytes = bytes;
   text = text;
@@ -133,10 +138,33 @@ done-play run words old new bytes text IsPut said answers read put also = record
   put = put;
 }
 
--- Words that say neither a plain command nor a run in threads say none.
-pub none-at-all : (words : List (List ℕ)) → AreNoPlain words → AreNoRun words → AreNoCommand words
-none-at-all words plain threaded (commands.Plain command) is = plain command is
-none-at-all words plain threaded (commands.Run run) is = threaded run
+-- Words that say neither a command that waits for nobody nor a run in threads say none.
+pub none-at-all : (words : List (List ℕ)) → AreNoQuiet words → AreNoRun words → AreNoCommand words
+none-at-all words quiet threaded (commands.OfPlain command) is = quiet.0 command is
+none-at-all words quiet threaded (commands.OfFlight names) is = quiet.1 names
+none-at-all words quiet threaded (commands.OfRun run) is = threaded run
+
+-- What a call says of words that say none of its commands, where it is a part of a call with more commands.
+wider-ends : {S K : Type 0} {IsNone IsNoneAtAll : Type 0} {words : List (List ℕ)} {status : Status} {left : S → Option (List ℕ)} {reads : S → ℕ} {source source_new : S} {written : K → Option (List ℕ)} {writes : K → ℕ} {sink sink_new : K}
+    → (IsNone → IsNoneAtAll) → (IsNoneAtAll → IsNone) → Ended IsNone words status left reads source source_new written writes sink sink_new → Ended IsNoneAtAll words status left reads source source_new written writes sink sink_new
+wider-ends all part ended = record {
+  usage = (λ is. all (ended.usage.0 is), λ none. ended.usage.1 (part none));
+  untouched = ended.untouched;
+  answered = ended.answered;
+  read_fault = ended.read_fault;
+  write_fault = ended.write_fault;
+  too_long = ended.too_long;
+  memory = ended.memory;
+  no_read_fault = ended.no_read_fault;
+  no_write_fault = ended.no_write_fault;
+  unread = ended.unread;
+  complete = λ some. ended.complete (λ none. some (all none));
+}
+
+-- What the call of `fly` says of words that say no plain command.
+pub flight-ends : {S K : Type 0} {words : List (List ℕ)} {status : Status} {left : S → Option (List ℕ)} {reads : S → ℕ} {source source_new : S} {written : K → Option (List ℕ)} {writes : K → ℕ} {sink sink_new : K}
+    → AreNoPlain words → Ended (AreNoFlight words) words status left reads source source_new written writes sink sink_new → Ended (AreNoQuiet words) words status left reads source source_new written writes sink sink_new
+flight-ends no_plain ended = wider-ends (λ no_flight. (no_plain, no_flight)) (λ none. none.1) ended
 
 -- A count that is one more rose.
 risen : (before now : ℕ) → now ≡ one_more before → Rose before now
@@ -165,20 +193,9 @@ unsaid-ends none = record {
 
 -- What the plain call says of words that say no run in threads.
 pub plain-ends : {S K : Type 0} {words : List (List ℕ)} {status : Status} {left : S → Option (List ℕ)} {reads : S → ℕ} {source source_new : S} {written : K → Option (List ℕ)} {writes : K → ℕ} {sink sink_new : K}
-    → AreNoRun words → Ended (AreNoPlain words) words status left reads source source_new written writes sink sink_new → Ended (AreNoCommand words) words status left reads source source_new written writes sink sink_new
-plain-ends {words = words} no_run ended = record {
-  usage = (λ is. none-at-all words (ended.usage.0 is) no_run, λ none. ended.usage.1 (λ plain. none (commands.Plain plain)));
-  untouched = ended.untouched;
-  answered = ended.answered;
-  read_fault = ended.read_fault;
-  write_fault = ended.write_fault;
-  too_long = ended.too_long;
-  memory = ended.memory;
-  no_read_fault = ended.no_read_fault;
-  no_write_fault = ended.no_write_fault;
-  unread = ended.unread;
-  complete = λ some. ended.complete (λ no_plain. some (none-at-all words no_plain no_run));
-}
+    → AreNoRun words → Ended (AreNoQuiet words) words status left reads source source_new written writes sink sink_new → Ended (AreNoCommand words) words status left reads source source_new written writes sink sink_new
+plain-ends {words = words} no_run ended =
+    wider-ends (λ quiet. none-at-all words quiet no_run) (λ none. (λ plain. none (commands.OfPlain plain), λ names. none (commands.OfFlight names) tt)) ended
 
 -- Another command that the words say, and that reads nothing, leaves the source as it was, too.
 still-unread : {S : Type 0} (words : List (List ℕ)) (command : Command) {source source_new : S} → Say words command → (limit_of command ≡ None → source_new ≡ source)
@@ -288,6 +305,7 @@ is-answer (Recorded state) = tt
 is-answer (Made encounter) = tt
 is-answer (Told text) = tt
 is-answer (Swept swept) = tt
+is-answer (Varied varied) = tt
 is-answer (Summed commits counts) = tt
 is-answer (Compared one other found) = tt
 is-answer (Decoded word) = tt
@@ -299,6 +317,7 @@ is-answer (RightEncounter right) = tt
 is-answer (RightRecording right) = tt
 is-answer (ExplainedRefusal at code told) = tt
 is-answer (ExplainedWrong line reason told) = tt
+is-answer (Unmet line) = tt
 is-answer (Refused at code) = tt
 
 own-put : (own : Status) (text : List ℕ) (old new : Option (List ℕ)) (faults now : ℕ) → IsAnswer own → Grew old new text → now ≡ faults → WasPut own own text old new faults now

@@ -1,7 +1,10 @@
 pub mod Endings
 pub mod OneStatus
 pub mod FewEach
-pub mod FiveWords
+pub mod ManyWords
 pub mod OneWord
 pub mod Within
 pub mod Limits
+pub mod FlightWords
+pub mod ByChange
+pub mod Variations

@@ -1,8 +1,19 @@
 -- At most one status answers a command on the bytes that it read.
-use Rattle.std.proofs.Common.{◌≡◌, List, ℕ, length, refl, subst}
+use Rattle.std.proofs.Common.{◌≡◌, ◌∙◌, List, ℕ, Result, Ok, Err, Option, Some, None, ap, ap₂, arith, inl, inr, length, refl, subst, sym}
+use Rattle.std.proofs.lemmas.Option.{none-some}
 use Rattle.acas_top.specs.declared.explaining.Subject.{Subject}
 use Rattle.acas_top.specs.declared.explaining.Subject.TheVariants as subjects
-use Rattle.acas_top.specs.Answers.{Answers, AnswersPlain, Imports, IsFaulty, IsLegal, IsRight, IsWrong, IsWrongPair, IsWrongPart, IsWrongRecording, Plays, Refuses, RefusesTracks, Resumes, Runs, read_as}
+use Rattle.acas_top.specs.Answers.{Answers, AnswersPlain, Imports, IsFaulty, IsLegal, IsRight, IsWrong, IsWrongPair, IsWrongPart, IsWrongRecording, Plays, RefusesTracks, Resumes, Runs, read_as}
+use Rattle.acas_top.specs.Flying.{AnswersFlight, Flies, IsNotFlown, named_in, unnamed_in}
+use Rattle.acas_top.specs.Refusing.{Refuses}
+use Rattle.acas_top.specs.Varying.{IsNotVaried, Varies, changes_of, unknown_in}
+use Rattle.air_journal.specs.Airs.{air_of}
+use Rattle.acas_base.specs.declared.entry.Entry.{Entry}
+use Rattle.air_rules.specs.Air.{Air}
+use Rattle.air_rules.specs.Serial.{IsSerial}
+use Rattle.variation_words.specs.declared.variation.Variation.{Variation}
+use Rattle.enc_file.specs.Reading.{Says}
+use Rattle.followed_advice.specs.Following.{Follows, Leaves}
 use Rattle.acas_top.specs.Comparing.{Compares, IsWrongOfTwo, in_first, in_second}
 use Rattle.air_journal.specs.States.{State}
 use Rattle.comparison.specs.Splitting.{IsSplit}
@@ -14,10 +25,10 @@ use Rattle.rec_audit.specs.declared.verdict.Verdict.{Verdict}
 use Rattle.rec_audit.specs.declared.verdict.Verdict.TheVariants as verdicts
 use Rattle.acas_top.specs.declared.status.Status.{Status}
 use Rattle.acas_top.specs.declared.status.Status.TheVariants.{Done, Refused, Wrong}
-use Rattle.acas_top.specs.declared.words.Command.{Command}
-use Rattle.acas_top.specs.declared.words.Command.TheVariants as commands
+use Rattle.acas_top.specs.Commands.{Command}
+use Rattle.acas_top.specs.Commands as commands
 use Rattle.acas_top.specs.declared.words.Plain.{Plain}
-use Rattle.acas_top.specs.declared.words.Plain.TheVariants.{Audit, Compare, Decode, Explain, Gen, Resume, Serial, Show, Sweep, Tell, Tracks}
+use Rattle.acas_top.specs.declared.words.Plain.TheVariants.{Audit, Compare, Decode, Explain, Gen, Resume, Serial, Show, Sweep, Tell, Tracks, Vary}
 use Rattle.acas_top.specs.declared.words.Threaded.{Threaded}
 use Rattle.acas_top.specs.declared.words.Threaded.TheVariants.{Play, Sum}
 use Rattle.acas_base.specs.Encounter.{Parts}
@@ -146,12 +157,12 @@ not-run : (run : Threaded) (bytes text other : List ℕ) → Runs run bytes text
 not-run Play bytes text other ran refused = let one = ran.says in let two = refused.is in cc
 not-run Sum bytes text other ran refused = let one = ran.says in let two = refused.is in cc
 
-ran-only : (run : Threaded) (bytes text other : List ℕ) (also : Status) → Runs run bytes text → Answers (commands.Run run) bytes also other → Done ≡ also
+ran-only : (run : Threaded) (bytes text other : List ℕ) (also : Status) → Runs run bytes text → Answers (commands.OfRun run) bytes also other → Done ≡ also
 ran-only run bytes text other Done ran is = refl
 ran-only run bytes text other Refused ran is = absurd (not-run run bytes text other ran is)
 ran-only run bytes text other also ran is = absurd is
 
-not-run-only : (run : Threaded) (bytes text other : List ℕ) (also : Status) → Refuses bytes text → Answers (commands.Run run) bytes also other → Refused ≡ also
+not-run-only : (run : Threaded) (bytes text other : List ℕ) (also : Status) → Refuses bytes text → Answers (commands.OfRun run) bytes also other → Refused ≡ also
 not-run-only run bytes text other Done refused is = absurd (not-run run bytes other text is refused)
 not-run-only run bytes text other Refused refused is = refl
 not-run-only run bytes text other also refused is = absurd is
@@ -192,44 +203,116 @@ wrong-explained-only law bytes text other Refused wrong is = absurd (faulty-not-
 wrong-explained-only law bytes text other Wrong wrong is = refl
 wrong-explained-only law bytes text other also wrong is = absurd is
 
-one-plain : HasOneVerdict → HasOnePart → HasOneSplit → HasOneImport → (plain : Plain) (bytes text other : List ℕ) (status also : Status) → AnswersPlain plain bytes status text → AnswersPlain plain bytes also other → status ≡ also
-one-plain law part cut flown Serial bytes text other Done also is other_is = done-only bytes text other also is other_is
-one-plain law part cut flown Serial bytes text other Refused also is other_is = refused-only bytes text other also is other_is
-one-plain law part cut flown Serial bytes text other status also is other_is = absurd is
-one-plain law part cut flown Tracks bytes text other Done also is other_is = imported-only flown bytes text other also is other_is
-one-plain law part cut flown Tracks bytes text other Refused also is other_is = not-imported-only flown bytes text other also is other_is
-one-plain law part cut flown Tracks bytes text other status also is other_is = absurd is
-one-plain law part cut flown Audit bytes text other Done also is other_is = legal-only law bytes text other also is other_is
-one-plain law part cut flown Audit bytes text other Wrong also is other_is = wrong-only law bytes text other also is other_is
-one-plain law part cut flown Audit bytes text other status also is other_is = absurd is
-one-plain law part cut flown (Gen number crafts cycles) bytes text other Done Done is other_is = refl
-one-plain law part cut flown (Gen number crafts cycles) bytes text other Done also is other_is = absurd other_is
-one-plain law part cut flown (Gen number crafts cycles) bytes text other status also is other_is = absurd is
-one-plain law part cut flown (Tell tool) bytes text other Done also is other_is = told-only law tool bytes text other also is other_is
-one-plain law part cut flown (Tell tool) bytes text other Wrong also is other_is = untold-only law tool bytes text other also is other_is
-one-plain law part cut flown (Tell tool) bytes text other status also is other_is = absurd is
-one-plain law part cut flown (Sweep number count crafts cycles) bytes text other Done Done is other_is = refl
-one-plain law part cut flown (Sweep number count crafts cycles) bytes text other Done also is other_is = absurd other_is
-one-plain law part cut flown (Sweep number count crafts cycles) bytes text other status also is other_is = absurd is
-one-plain law part cut flown Resume bytes text other Done also is other_is = resumed-only part bytes text other also is other_is
-one-plain law part cut flown Resume bytes text other Wrong also is other_is = wrong-part-only part bytes text other also is other_is
-one-plain law part cut flown Resume bytes text other status also is other_is = absurd is
-one-plain law part cut flown Compare bytes text other Done also is other_is = compared-only law cut bytes text other also is other_is
-one-plain law part cut flown Compare bytes text other Wrong also is other_is = wrong-pair-only law cut bytes text other also is other_is
-one-plain law part cut flown Compare bytes text other status also is other_is = absurd is
-one-plain law part cut flown Explain bytes text other Done also is other_is = right-only law flown bytes text other also is other_is
-one-plain law part cut flown Explain bytes text other Refused also is other_is = faulty-only flown bytes text other also is other_is
-one-plain law part cut flown Explain bytes text other Wrong also is other_is = wrong-explained-only law bytes text other also is other_is
-one-plain law part cut flown Explain bytes text other status also is other_is = absurd is
-one-plain law part cut flown (Decode word) bytes text other Done Done is other_is = refl
-one-plain law part cut flown (Decode word) bytes text other Done also is other_is = absurd other_is
-one-plain law part cut flown (Decode word) bytes text other status also is other_is = absurd is
-one-plain law part cut flown (Show page) bytes text other Done Done is other_is = refl
-one-plain law part cut flown (Show page) bytes text other Done also is other_is = absurd other_is
-one-plain law part cut flown (Show page) bytes text other status also is other_is = absurd is
+-- ---- `fly`
 
-pub one-status : HasOneVerdict → HasOnePart → HasOneSplit → HasOneImport → (command : Command) (bytes text other : List ℕ) (status also : Status) → Answers command bytes status text → Answers command bytes also other → status ≡ also
-one-status law part cut flown (commands.Plain plain) bytes text other status also is other_is = one-plain law part cut flown plain bytes text other status also is other_is
-one-status law part cut flown (commands.Run run) bytes text other Done also is other_is = ran-only run bytes text other also is other_is
-one-status law part cut flown (commands.Run run) bytes text other Refused also is other_is = not-run-only run bytes text other also is other_is
-one-status law part cut flown (commands.Run run) bytes text other status also is other_is = absurd is
+-- What bytes say.
+abbrev said : {X E : Type 0} → X → Result X E → X
+said other (Ok x) = x
+said other (Err error) = other
+
+-- Bytes say one encounter.
+one-encounter : (bytes : List ℕ) (e d : Parts) → Says bytes e → Says bytes d → e ≡ d
+one-encounter bytes e d one two = ap (said e) (sym one ∙ two)
+
+-- Where the flight leaves the limits, no encounter follows.
+abbrev pub HasNoFlight : Type 0
+HasNoFlight = (read : Parts) (named : List ℕ) (own cycle : ℕ) (written : Parts) → Leaves read named own cycle → Follows read named written → ⊥
+
+not-unflown : HasNoFlight → (names : List (List ℕ)) (bytes text other : List ℕ) → Flies names bytes text → IsNotFlown names bytes other → ⊥
+not-unflown law names bytes text other flies (inl refused) = let one = flies.says in let two = refused.is in cc
+not-unflown law names bytes text other flies (inr (inl unknown)) =
+    let same = one-encounter bytes flies.encounter unknown.encounter flies.says unknown.says in
+    none-some unknown.name (sym flies.known ∙ ap (λ e. unnamed_in e names) same ∙ unknown.unknown)
+not-unflown law names bytes text other flies (inr (inr leaves)) =
+    let same = one-encounter bytes leaves.encounter flies.encounter leaves.says flies.says in
+    law flies.encounter (named_in flies.encounter names) leaves.own leaves.cycle flies.written (subst (λ (e : Parts). Leaves e (named_in e names) leaves.own leaves.cycle) same leaves.leaves) flies.follows
+
+one-flight : HasNoFlight → (names : List (List ℕ)) (bytes text other : List ℕ) (status also : Status) → AnswersFlight names bytes status text → AnswersFlight names bytes also other → status ≡ also
+one-flight law names bytes text other Done Done is other_is = refl
+one-flight law names bytes text other Done Refused is other_is = absurd (not-unflown law names bytes text other is other_is)
+one-flight law names bytes text other Done also is other_is = absurd other_is
+one-flight law names bytes text other Refused Done is other_is = absurd (not-unflown law names bytes other text other_is is)
+one-flight law names bytes text other Refused Refused is other_is = refl
+one-flight law names bytes text other Refused also is other_is = absurd other_is
+one-flight law names bytes text other status also is other_is = absurd is
+
+-- ---- `vary`
+
+-- An air has one serial journal at most.
+abbrev pub HasOneSerial : Type 0
+HasOneSerial = (air : Air) (one two : List Entry) → IsSerial air one → IsSerial air two → one ≡ two
+
+not-unvaried : HasOneSerial → (variation : Variation) (bytes text other : List ℕ) → Varies variation bytes text → IsNotVaried variation bytes other → ⊥
+not-unvaried law variation bytes text other varies (inl refused) = let one = varies.says in let two = refused.is in cc
+not-unvaried law variation bytes text other varies (inr (inl nobody)) =
+    let same = one-encounter bytes varies.encounter nobody.encounter varies.says nobody.says in
+    none-some nobody.address (sym varies.known ∙ ap (λ (e : Parts). unknown_in variation e.crafts) same ∙ nobody.unknown)
+not-unvaried law variation bytes text other varies (inr (inr more)) =
+    let same = one-encounter bytes varies.encounter more.encounter varies.says more.says in
+    let journal = law (air_of more.encounter) varies.journal more.journal (subst (λ (e : Parts). IsSerial (air_of e) varies.journal) same varies.serial) more.serial in
+    let count : length (changes_of variation varies.encounter varies.journal) ≡ length (changes_of variation more.encounter more.journal) = ap₂ (λ e j. length (changes_of variation e j)) same journal in
+    omega (arith, count, more.many.many, varies.told.few)
+
+one-variation : HasOneSerial → (variation : Variation) (bytes text other : List ℕ) (status also : Status) → AnswersPlain (Vary variation) bytes status text → AnswersPlain (Vary variation) bytes also other → status ≡ also
+one-variation law variation bytes text other Done Done is other_is = refl
+one-variation law variation bytes text other Done Refused is other_is = absurd (not-unvaried law variation bytes text other is other_is)
+one-variation law variation bytes text other Done also is other_is = absurd other_is
+one-variation law variation bytes text other Refused Done is other_is = absurd (not-unvaried law variation bytes other text other_is is)
+one-variation law variation bytes text other Refused Refused is other_is = refl
+one-variation law variation bytes text other Refused also is other_is = absurd other_is
+one-variation law variation bytes text other status also is other_is = absurd is
+
+-- ---- all commands
+
+-- What the laws of other crates say.
+pub record HaveLaws : Type 0 where
+  pub verdict : HasOneVerdict
+  pub part : HasOnePart
+  pub cut : HasOneSplit
+  pub flown : HasOneImport
+  pub flight : HasNoFlight
+  pub serial : HasOneSerial
+
+one-plain : HaveLaws → (plain : Plain) (bytes text other : List ℕ) (status also : Status) → AnswersPlain plain bytes status text → AnswersPlain plain bytes also other → status ≡ also
+one-plain laws Serial bytes text other Done also is other_is = done-only bytes text other also is other_is
+one-plain laws Serial bytes text other Refused also is other_is = refused-only bytes text other also is other_is
+one-plain laws Serial bytes text other status also is other_is = absurd is
+one-plain laws Tracks bytes text other Done also is other_is = imported-only laws.flown bytes text other also is other_is
+one-plain laws Tracks bytes text other Refused also is other_is = not-imported-only laws.flown bytes text other also is other_is
+one-plain laws Tracks bytes text other status also is other_is = absurd is
+one-plain laws Audit bytes text other Done also is other_is = legal-only laws.verdict bytes text other also is other_is
+one-plain laws Audit bytes text other Wrong also is other_is = wrong-only laws.verdict bytes text other also is other_is
+one-plain laws Audit bytes text other status also is other_is = absurd is
+one-plain laws (Gen number crafts cycles) bytes text other Done Done is other_is = refl
+one-plain laws (Gen number crafts cycles) bytes text other Done also is other_is = absurd other_is
+one-plain laws (Gen number crafts cycles) bytes text other status also is other_is = absurd is
+one-plain laws (Tell tool) bytes text other Done also is other_is = told-only laws.verdict tool bytes text other also is other_is
+one-plain laws (Tell tool) bytes text other Wrong also is other_is = untold-only laws.verdict tool bytes text other also is other_is
+one-plain laws (Tell tool) bytes text other status also is other_is = absurd is
+one-plain laws (Sweep number count crafts cycles) bytes text other Done Done is other_is = refl
+one-plain laws (Sweep number count crafts cycles) bytes text other Done also is other_is = absurd other_is
+one-plain laws (Sweep number count crafts cycles) bytes text other status also is other_is = absurd is
+one-plain laws (Vary variation) bytes text other status also is other_is = one-variation laws.serial variation bytes text other status also is other_is
+one-plain laws Resume bytes text other Done also is other_is = resumed-only laws.part bytes text other also is other_is
+one-plain laws Resume bytes text other Wrong also is other_is = wrong-part-only laws.part bytes text other also is other_is
+one-plain laws Resume bytes text other status also is other_is = absurd is
+one-plain laws Compare bytes text other Done also is other_is = compared-only laws.verdict laws.cut bytes text other also is other_is
+one-plain laws Compare bytes text other Wrong also is other_is = wrong-pair-only laws.verdict laws.cut bytes text other also is other_is
+one-plain laws Compare bytes text other status also is other_is = absurd is
+one-plain laws Explain bytes text other Done also is other_is = right-only laws.verdict laws.flown bytes text other also is other_is
+one-plain laws Explain bytes text other Refused also is other_is = faulty-only laws.flown bytes text other also is other_is
+one-plain laws Explain bytes text other Wrong also is other_is = wrong-explained-only laws.verdict bytes text other also is other_is
+one-plain laws Explain bytes text other status also is other_is = absurd is
+one-plain laws (Decode word) bytes text other Done Done is other_is = refl
+one-plain laws (Decode word) bytes text other Done also is other_is = absurd other_is
+one-plain laws (Decode word) bytes text other status also is other_is = absurd is
+one-plain laws (Show page) bytes text other Done Done is other_is = refl
+one-plain laws (Show page) bytes text other Done also is other_is = absurd other_is
+one-plain laws (Show page) bytes text other status also is other_is = absurd is
+
+pub one-status : HaveLaws → (command : Command) (bytes text other : List ℕ) (status also : Status) → Answers command bytes status text → Answers command bytes also other → status ≡ also
+one-status laws (commands.OfPlain plain) bytes text other status also is other_is = one-plain laws plain bytes text other status also is other_is
+one-status laws (commands.OfFlight names) bytes text other status also is other_is = one-flight laws.flight names bytes text other status also is other_is
+one-status laws (commands.OfRun run) bytes text other Done also is other_is = ran-only run bytes text other also is other_is
+one-status laws (commands.OfRun run) bytes text other Refused also is other_is = not-run-only run bytes text other also is other_is
+one-status laws (commands.OfRun run) bytes text other status also is other_is = absurd is

@@ -6,9 +6,10 @@ use Rattle.std.specs.Str.{bytes_eq}
 use Rattle.acas_top.specs.Words.{AreNoPlain, AreNoRun, SayPage, tool_word}
 use Rattle.acas_top.specs.declared.words.Page.{Page}
 use Rattle.acas_top.specs.declared.words.Page.TheVariants.{Help, Version}
-use Rattle.acas_top.specs.declared.words.Plain.TheVariants.{Audit, Compare, Decode, Explain, Gen, Resume, Serial, Show, Sweep, Tell, Tracks}
+use Rattle.acas_top.specs.declared.words.Plain.TheVariants.{Audit, Compare, Decode, Explain, Gen, Resume, Serial, Show, Sweep, Tell, Tracks, Vary}
 use Rattle.acas_top.specs.declared.words.Threaded.TheVariants.{Play, Sum}
 use Rattle.acas_top.specs.declared.words.Tool.{Tool}
+use Rattle.variation_words.specs.declared.variation.Variation.TheVariants.{Exchanges, Losses, Shifts}
 use Rattle.acas_top.specs.declared.words.Tool.TheVariants.{Messages, Picture, Places, Reports, Response, Summary, Watch, Why}
 
 -- A word that the test tells from another one is another one.
@@ -52,4 +53,7 @@ module _ (word : List ℕ) (serial : false ≡ bytes_eq word (codes "serial")) (
   other-than-commands (Decode digits) valid = λ is. absurd (omega (arith, ap length is))
   other-than-commands Resume valid = λ is. different word (codes "resume") refl resume (ap first is)
   other-than-commands Tracks valid = λ is. different word (codes "tracks") refl tracks (ap first is)
+  other-than-commands (Vary (Shifts quantity address values)) valid = λ is. absurd (omega (arith, ap length is))
+  other-than-commands (Vary Losses) valid = λ is. absurd (omega (arith, ap length is))
+  other-than-commands (Vary Exchanges) valid = λ is. absurd (omega (arith, ap length is))
   other-than-commands (Show page) valid = pages page

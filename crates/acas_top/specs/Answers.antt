@@ -6,20 +6,23 @@ use Rattle.acas_base.specs.declared.entry.Entry.{Entry}
 use Rattle.acas_lines.specs.Lines.{count_line, joined}
 use Rattle.acas_top.specs.Comparing.{Compares, IsWrongOfTwo}
 use Rattle.acas_top.specs.Counted.{AreSerial, counts_of}
+use Rattle.acas_top.specs.Flying.{AnswersFlight}
 use Rattle.acas_top.specs.Pages.{page_lines}
+use Rattle.acas_top.specs.Refusing.{Refuses, refused_line}
 use Rattle.acas_top.specs.Summing.{summed_lines}
 use Rattle.acas_top.specs.declared.explaining.Subject.{Subject}
 use Rattle.acas_top.specs.declared.explaining.Subject.TheVariants as subjects
 use Rattle.acas_top.specs.declared.status.Status.{Status}
 use Rattle.acas_top.specs.declared.status.Status.TheVariants.{Done, Refused, Wrong}
-use Rattle.acas_top.specs.declared.words.Command.{Command}
-use Rattle.acas_top.specs.declared.words.Command.TheVariants as commands
+use Rattle.acas_top.specs.Commands.{Command}
+use Rattle.acas_top.specs.Commands as commands
 use Rattle.acas_top.specs.declared.words.Plain.{Plain}
-use Rattle.acas_top.specs.declared.words.Plain.TheVariants.{Audit, Compare, Decode, Explain, Gen, Resume, Serial, Show, Sweep, Tell, Tracks}
+use Rattle.acas_top.specs.declared.words.Plain.TheVariants.{Audit, Compare, Decode, Explain, Gen, Resume, Serial, Show, Sweep, Tell, Tracks, Vary}
 use Rattle.acas_top.specs.declared.words.Threaded.{Threaded}
 use Rattle.acas_top.specs.declared.words.Threaded.TheVariants.{Play, Sum}
 use Rattle.acas_top.specs.Sweeping.{Sweeps}
 use Rattle.acas_top.specs.Telling.{Tells}
+use Rattle.acas_top.specs.Varying.{IsNotVaried, Varies}
 use Rattle.air_journal.specs.Airs.{air_of}
 use Rattle.air_journal.specs.States.{State}
 use Rattle.air_rules.specs.Journal.{Begins}
@@ -56,16 +59,6 @@ use Rattle.track_text.specs.Reading.{Says as SaysTracks}
 use Rattle.track_text.specs.Telling.{IsExplained as AreExplained}
 use Rattle.track_text.specs.declared.refusal.Refusal.{Refusal as TrackRefusal}
 use Rattle.word_text.specs.Lines.{word_text}
-
--- The line of a refusal: the number of the record, and the number of the code.
-abbrev pub refused_line : ℕ → ℕ → List ℕ
-refused_line at code = codes "refused," ++ decimal at ++ codes "," ++ decimal code ++ codes "\n"
-
--- The bytes say no encounter, and the text is the line of the refusal.
-pub record Refuses (bytes text : List ℕ) : Type 0 where
-  pub refusal : Refusal
-  pub is : reading_of bytes ≡ Err refusal
-  pub text_is : text ≡ refused_line refusal.at (code_number refusal.code)
 
 -- The journal, whose newest entry stands first, is legal and complete. No aircraft that gives way commits an advisory
 -- in the sense that the message in force forbids (`safe`). Where that message was sent since the threat took its
@@ -262,6 +255,9 @@ AnswersPlain (Sweep number count crafts cycles) bytes status text = ⊥
 AnswersPlain Tracks bytes Done text = Imports bytes text
 AnswersPlain Tracks bytes Refused text = RefusesTracks bytes text
 AnswersPlain Tracks bytes status text = ⊥
+AnswersPlain (Vary variation) bytes Done text = Varies variation bytes text
+AnswersPlain (Vary variation) bytes Refused text = IsNotVaried variation bytes text
+AnswersPlain (Vary variation) bytes status text = ⊥
 AnswersPlain Resume bytes Done text = Resumes bytes text
 AnswersPlain Resume bytes Wrong text = IsWrongPart bytes text
 AnswersPlain Resume bytes status text = ⊥
@@ -279,7 +275,8 @@ AnswersPlain (Show page) bytes status text = ⊥
 
 -- This status and this text answer a command on the bytes that it read.
 abbrev pub Answers : Command → List ℕ → Status → List ℕ → Type 0
-Answers (commands.Plain plain) bytes status text = AnswersPlain plain bytes status text
-Answers (commands.Run run) bytes Done text = Runs run bytes text
-Answers (commands.Run run) bytes Refused text = Refuses bytes text
-Answers (commands.Run run) bytes status text = ⊥
+Answers (commands.OfPlain plain) bytes status text = AnswersPlain plain bytes status text
+Answers (commands.OfFlight names) bytes status text = AnswersFlight names bytes status text
+Answers (commands.OfRun run) bytes Done text = Runs run bytes text
+Answers (commands.OfRun run) bytes Refused text = Refuses bytes text
+Answers (commands.OfRun run) bytes status text = ⊥

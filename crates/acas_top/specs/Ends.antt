@@ -7,7 +7,7 @@ use Rattle.acas_top.specs.Answers.{Answers}
 use Rattle.acas_top.specs.Words.{IsCommand, Say, limit_of, most}
 use Rattle.acas_top.specs.declared.status.Status.{Status}
 use Rattle.acas_top.specs.declared.status.Status.TheVariants.{Done, OutOfMemory, ReadFault, Refused, TooLong, Usage, WriteFault, Wrong}
-use Rattle.acas_top.specs.declared.words.Command.{Command}
+use Rattle.acas_top.specs.Commands.{Command}
 use Rattle.acas_top.specs.declared.words.Limit.{Limit}
 
 -- A status with which the whole text of an answer was written.

@@ -1,14 +1,16 @@
 -- The status and the text of an answer, as the code holds it.
 use Rattle.std.specs.Prelude.{ℕ, ◌≤◌, List, [], ◌∷◌, length, Option, None, Some}
 use Rattle.acas_lines.specs.Lines.{joined}
-use Rattle.acas_top.specs.Answers.{refused_line, verdict_line}
+use Rattle.acas_top.specs.Answers.{verdict_line}
 use Rattle.acas_top.specs.Explaining.{right_encounter_lines, right_recording_lines}
 use Rattle.acas_top.specs.Pages.{page_lines}
+use Rattle.acas_top.specs.Refusing.{refused_line}
 use Rattle.acas_top.specs.Summing.{summed_lines}
 use Rattle.acas_top.specs.Sweeping.{swept_lines}
 use Rattle.acas_top.specs.Telling.{tool_lines}
+use Rattle.acas_top.specs.Varying.{varied_lines}
 use Rattle.acas_top.specs.declared.answers.Answer.{Answer}
-use Rattle.acas_top.specs.declared.answers.Answer.TheVariants.{Compared, Decoded, ExplainedRefusal, ExplainedWrong, Faultless, Judged, Made, Recorded, Refused, RightEncounter, RightRecording, Shown, Summed, Swept, Told}
+use Rattle.acas_top.specs.declared.answers.Answer.TheVariants.{Compared, Decoded, ExplainedRefusal, ExplainedWrong, Faultless, Judged, Made, Recorded, Refused, RightEncounter, RightRecording, Shown, Summed, Swept, Told, Unmet, Varied}
 use Rattle.acas_top.specs.declared.status.Status.{Status}
 use Rattle.acas_top.specs.declared.status.Status.TheVariants as statuses
 use Rattle.acas_top.specs.declared.telling.Told.{Told as ToolText}
@@ -32,6 +34,7 @@ abbrev pub answer_status : Answer → Status
 answer_status (Recorded state) = statuses.Done
 answer_status (Made encounter) = statuses.Done
 answer_status (Swept swept) = statuses.Done
+answer_status (Varied varied) = statuses.Done
 answer_status (Told text) = statuses.Done
 answer_status (Summed commits counts) = statuses.Done
 answer_status (Compared one other found) = statuses.Done
@@ -43,6 +46,7 @@ answer_status (RightRecording right) = statuses.Done
 answer_status (ExplainedRefusal at code told) = statuses.Refused
 answer_status (ExplainedWrong line reason told) = statuses.Wrong
 answer_status (Judged verdict) = verdict_status verdict
+answer_status (Unmet line) = statuses.Refused
 answer_status (Refused at code) = statuses.Refused
 
 -- The lines of a tool's text.
@@ -60,6 +64,7 @@ abbrev pub answer_lines : Answer → List (List ℕ)
 answer_lines (Recorded state) = recording_lines state.encounter state.journal
 answer_lines (Made encounter) = canonical_lines encounter
 answer_lines (Swept swept) = swept_lines swept.first swept.count swept.list.items swept.total
+answer_lines (Varied varied) = varied_lines varied.crafts varied.outcome varied.changes varied.list
 answer_lines (Told text) = told_lines text
 answer_lines (Summed commits counts) = summed_lines commits counts
 answer_lines (Compared one other found) = compared_lines one other found
@@ -71,6 +76,7 @@ answer_lines (RightRecording right) = right_recording_lines right
 answer_lines (ExplainedRefusal at code told) = refused_line at code ∷ told ∷ []
 answer_lines (ExplainedWrong line reason told) = verdict_line (verdicts.Wrong line reason) ∷ told ∷ []
 answer_lines (Judged verdict) = verdict_line verdict ∷ []
+answer_lines (Unmet line) = line ∷ []
 answer_lines (Refused at code) = refused_line at code ∷ []
 
 abbrev pub answer_text : Answer → List ℕ

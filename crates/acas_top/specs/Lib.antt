@@ -1,4 +1,5 @@
 pub mod Statuses
+pub mod Commands
 pub mod Words
 pub mod Pages
 pub mod Counted
@@ -6,6 +7,9 @@ pub mod Sweeping
 pub mod Telling
 pub mod Comparing
 pub mod Summing
+pub mod Refusing
+pub mod Flying
+pub mod Varying
 pub mod Answers
 pub mod Ends
 pub mod Given

@@ -1,19 +1,21 @@
 -- The commands: which words say them, and how much they read.
-use Rattle.std.specs.Prelude.{◌≡◌, ℕ, ◌<◌, ◌≤◌, ◌^◌, ◌⊎◌, if◌then◌else◌, List, [], ◌∷◌, Option, None, Some, codes}
+use Rattle.std.specs.Prelude.{◌≡◌, ℕ, ◌<◌, ◌≤◌, ◌^◌, ◌⊎◌, if◌then◌else◌, true, List, [], ◌∷◌, Option, None, Some, codes}
 use Rattle.std.specs.Fmt.{decimal}
 use Rattle.acas_base.specs.Ranges.{IsCycle}
 use Rattle.acas_base.specs.declared.TheConstants.{CRAFTS}
 use Rattle.acas_text.specs.Hex.{hex}
+use Rattle.address_words.specs.Addresses.{are_addresses}
 use Rattle.fault_text.specs.Lines.{begins_recording}
+use Rattle.variation_words.specs.Words.{IsInRange as IsVariation, words_of}
 use Rattle.acas_top.specs.declared.words.TheConstants.{ENCOUNTER_BYTES, RECORDING_BYTES}
-use Rattle.acas_top.specs.declared.words.Command.{Command}
-use Rattle.acas_top.specs.declared.words.Command.TheVariants as commands
+use Rattle.acas_top.specs.Commands.{Command}
+use Rattle.acas_top.specs.Commands as commands
 use Rattle.acas_top.specs.declared.words.Limit.{Limit}
 use Rattle.acas_top.specs.declared.words.Limit.TheVariants as limits
 use Rattle.acas_top.specs.declared.words.Page.{Page}
 use Rattle.acas_top.specs.declared.words.Page.TheVariants.{Help, Version}
 use Rattle.acas_top.specs.declared.words.Plain.{Plain}
-use Rattle.acas_top.specs.declared.words.Plain.TheVariants.{Audit, Compare, Decode, Explain, Gen, Resume, Serial, Show, Sweep, Tell, Tracks}
+use Rattle.acas_top.specs.declared.words.Plain.TheVariants.{Audit, Compare, Decode, Explain, Gen, Resume, Serial, Show, Sweep, Tell, Tracks, Vary}
 use Rattle.acas_top.specs.declared.words.Threaded.{Threaded}
 use Rattle.acas_top.specs.declared.words.Threaded.TheVariants.{Play, Sum}
 use Rattle.acas_top.specs.declared.words.Tool.{Tool}
@@ -28,6 +30,7 @@ IsInRange (Tell tool) = Unit {0}
 IsInRange (Sweep number count crafts cycles) = (number < 2 ^ 32) × (1 ≤ count) × (count ≤ 4096) × (1 ≤ crafts) × (crafts ≤ 4) × (1 ≤ cycles) × (cycles ≤ 120)
 IsInRange Resume = Unit {0}
 IsInRange Tracks = Unit {0}
+IsInRange (Vary variation) = IsVariation variation
 IsInRange Compare = Unit {0}
 IsInRange (Decode word) = word < 2 ^ 56
 IsInRange Explain = Unit {0}
@@ -35,8 +38,9 @@ IsInRange (Show page) = Unit {0}
 
 -- The numbers of a command are in their ranges.
 abbrev pub IsCommand : Command → Type 0
-IsCommand (commands.Plain plain) = IsInRange plain
-IsCommand (commands.Run run) = Unit {0}
+IsCommand (commands.OfPlain plain) = IsInRange plain
+IsCommand (commands.OfFlight names) = Unit {0}
+IsCommand (commands.OfRun run) = Unit {0}
 
 -- The word of a tool.
 abbrev pub tool_word : Tool → List ℕ
@@ -59,6 +63,11 @@ abbrev pub SayPage : List (List ℕ) → Page → Type 0
 SayPage words Help = (words ≡ codes "--help" ∷ []) ⊎ ((words ≡ codes "-h" ∷ []) ⊎ (words ≡ codes "help" ∷ []))
 SayPage words Version = words ≡ codes "--version" ∷ []
 
+-- The words say `fly` and these addresses: one to sixteen, and none twice.
+pub record SayFlight (words names : List (List ℕ)) : Type 0 where
+  pub is : words ≡ codes "fly" ∷ names
+  pub addresses : are_addresses names ≡ true
+
 -- The words say a plain command.
 abbrev pub SayPlain : List (List ℕ) → Plain → Type 0
 SayPlain words Serial = words ≡ codes "serial" ∷ []
@@ -68,6 +77,7 @@ SayPlain words (Tell tool) = words ≡ tool_word tool ∷ []
 SayPlain words (Sweep number count crafts cycles) = words ≡ codes "sweep" ∷ decimal number ∷ decimal count ∷ decimal crafts ∷ decimal cycles ∷ []
 SayPlain words Resume = words ≡ codes "resume" ∷ []
 SayPlain words Tracks = words ≡ codes "tracks" ∷ []
+SayPlain words (Vary variation) = words ≡ codes "vary" ∷ words_of variation
 SayPlain words Compare = words ≡ codes "compare" ∷ []
 SayPlain words (Decode word) = words ≡ codes "decode" ∷ hex 14 word ∷ []
 SayPlain words Explain = words ≡ codes "explain" ∷ []
@@ -75,8 +85,9 @@ SayPlain words (Show page) = SayPage words page
 
 -- The words say a command.
 abbrev pub Say : List (List ℕ) → Command → Type 0
-Say words (commands.Plain plain) = SayPlain words plain
-Say words (commands.Run run) = words ≡ threaded_word run ∷ []
+Say words (commands.OfPlain plain) = SayPlain words plain
+Say words (commands.OfFlight names) = SayFlight words names
+Say words (commands.OfRun run) = words ≡ threaded_word run ∷ []
 
 -- The words say no command.
 abbrev pub AreNoCommand : List (List ℕ) → Type 0
@@ -86,9 +97,17 @@ AreNoCommand words = (command : Command) → IsCommand command → Say words com
 abbrev pub AreNoPlain : List (List ℕ) → Type 0
 AreNoPlain words = (plain : Plain) → IsInRange plain → SayPlain words plain → ⊥
 
+-- The words don't say `fly` and addresses.
+abbrev pub AreNoFlight : List (List ℕ) → Type 0
+AreNoFlight words = (names : List (List ℕ)) → SayFlight words names → ⊥
+
+-- The words say no command that waits for nobody.
+abbrev pub AreNoQuiet : List (List ℕ) → Type 0
+AreNoQuiet words = AreNoPlain words × AreNoFlight words
+
 -- The words say no run in threads.
 abbrev pub AreNoRun : List (List ℕ) → Type 0
-AreNoRun words = (run : Threaded) → Say words (commands.Run run) → ⊥
+AreNoRun words = (run : Threaded) → Say words (commands.OfRun run) → ⊥
 
 -- The most bytes that a limit admits, whatever they are, and the most that these bytes may be.
 abbrev pub greatest : Limit → ℕ
@@ -104,6 +123,7 @@ most limits.Either bytes = if begins_recording bytes then RECORDING_BYTES else E
 abbrev pub plain_limit : Plain → Option Limit
 plain_limit Serial = Some limits.Encounter
 plain_limit Tracks = Some limits.Encounter
+plain_limit (Vary variation) = Some limits.Encounter
 plain_limit Audit = Some limits.Recording
 plain_limit (Gen number crafts cycles) = None
 plain_limit (Tell tool) = Some limits.Recording
@@ -116,5 +136,6 @@ plain_limit (Show page) = None
 
 -- How much a command reads at most, or none where it reads nothing.
 abbrev pub limit_of : Command → Option Limit
-limit_of (commands.Plain plain) = plain_limit plain
-limit_of (commands.Run run) = Some limits.Encounter
+limit_of (commands.OfPlain plain) = plain_limit plain
+limit_of (commands.OfFlight names) = Some limits.Encounter
+limit_of (commands.OfRun run) = Some limits.Encounter

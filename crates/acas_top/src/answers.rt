@@ -17,6 +17,8 @@ use crate::runs::{filled, serial_state};
 use crate::summing::put_summed;
 use crate::sweep_runs::{Swept, sweep};
 use crate::telling::{Told, told_by};
+use crate::varied::Varied;
+use crate::varying::answer_variation;
 use crate::verdict::verdict_line;
 use crate::{ENCOUNTER_BYTES, Page, Plain, RECORDING_BYTES, Status, Tool};
 use acas_base::Encounter;
@@ -46,6 +48,8 @@ pub(crate) enum Answer {
     Told(Told),
     /// The counts of many encounters.
     Swept(Swept),
+    /// What an encounter and its variants come to.
+    Varied(Varied),
     /// How many commits a run in threads has, and the counts of the serial run.
     Summed(u32, Counts),
     /// What differs between two recordings.
@@ -67,6 +71,8 @@ pub(crate) enum Answer {
     Shown(Page),
     /// The line of the verdict on a recording.
     Judged(Verdict),
+    /// The line that says why there is nothing to write of an encounter.
+    Unmet(Line),
     /// The line of a refusal, with the number of the record and the number of the code.
     Refused(u32, u8),
 }
@@ -81,6 +87,7 @@ impl Answer {
             | Answer::Made(_)
             | Answer::Told(_)
             | Answer::Swept(_)
+            | Answer::Varied(_)
             | Answer::Summed(_, _)
             | Answer::Compared(_, _, _)
             | Answer::Decoded(_)
@@ -91,7 +98,9 @@ impl Answer {
             Answer::Judged(Verdict::Legal(_)) => Status::Done,
             Answer::Judged(Verdict::Wrong(_, _)) => Status::Wrong,
             Answer::ExplainedWrong(_, _, _) => Status::Wrong,
-            Answer::Refused(_, _) | Answer::ExplainedRefusal(_, _, _) => Status::Refused,
+            Answer::Refused(_, _) | Answer::ExplainedRefusal(_, _, _) | Answer::Unmet(_) => {
+                Status::Refused
+            }
         }
     }
 }
@@ -115,6 +124,7 @@ impl Text for Answer {
             Answer::Made(encounter) => CanonicalText(encounter).put(sink),
             Answer::Told(told) => told.put(sink),
             Answer::Swept(swept) => swept.put(sink),
+            Answer::Varied(varied) => varied.put(sink),
             Answer::Summed(commits, counts) => put_summed(*commits, counts, sink),
             Answer::Compared(one, other, found) => Comparison { one, other, found }.put(sink),
             Answer::Decoded(word) => WordText(*word).put(sink),
@@ -131,6 +141,7 @@ impl Text for Answer {
             }
             Answer::Shown(page) => put_page(*page, sink),
             Answer::Judged(verdict) => sink.line(&verdict_line(*verdict)),
+            Answer::Unmet(line) => sink.line(line),
             Answer::Refused(at, code) => sink.line(&refusal_line(*at, *code)),
         }
     }
@@ -355,6 +366,7 @@ pub(crate) fn answer_to<R: Threads + Sync>(
             cycles,
         } => answer_sweep(rt, alloc, number, count, crafts, cycles),
         Plain::Tracks => answer_tracks(alloc, bytes.as_slice()),
+        Plain::Vary(variation) => answer_variation(rt, alloc, variation, bytes.as_slice()),
         Plain::Resume => answer_resume(alloc, bytes.as_slice()),
         Plain::Compare => answer_compare(alloc, bytes.as_slice()),
         Plain::Decode { word } => Ok(Answer::Decoded(word)),

@@ -5,6 +5,7 @@
 mod answers;
 mod counts;
 mod explaining;
+mod flying;
 mod pages;
 mod plain_program;
 mod program;
@@ -17,10 +18,12 @@ mod sweep_runs;
 mod sweep_text;
 mod telling;
 mod threaded;
+mod varied;
+mod varying;
 mod verdict;
 mod words;
 
 pub use plain_program::{acas_plain, one_status_law};
 pub use program::acas;
 pub use status::Status;
-pub use words::{Command, ENCOUNTER_BYTES, Limit, Page, Plain, RECORDING_BYTES, Threaded, Tool};
+pub use words::{ENCOUNTER_BYTES, Limit, Page, Plain, RECORDING_BYTES, Threaded, Tool};

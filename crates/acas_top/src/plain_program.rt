@@ -2,20 +2,40 @@
 ghost use Rattle.std.specs.Prelude.{◌≡◌, ℕ, List, map};
 ghost use Rattle.std.specs.String.{string_bytes};
 ghost use Rattle.acas_io.specs.Stream.{Grew};
+ghost use Rattle.acas_top.specs.Commands.{Command, OfPlain};
 ghost use Rattle.acas_top.specs.Answers.{Answers, Plays};
 ghost use Rattle.acas_top.specs.Ends.{DoneAs, Ended};
-ghost use Rattle.acas_top.specs.Words.{AreNoPlain};
+ghost use Rattle.acas_top.specs.Words.{AreNoFlight, AreNoQuiet};
 
 use crate::answers::answer_to;
+use crate::flying::answer_flight;
 use crate::streams::{put_answer, read_input};
-use crate::words::parse_plain;
-use crate::{Command, Plain, Status};
+use crate::words::{Limit, parse_flight, parse_plain};
+use crate::{Plain, Status};
 use acas_io::{Sink, Source};
+use air_rules::serial_law;
 use comparison::split_law;
+use followed_advice::following_law;
 use rec_audit::verdict_law;
 use std::alloc::Global;
 use std::thread::Threads;
 use track_text::once_law;
+
+// Runs `fly`, where the words say it.
+fn fly<S: Source, K: Sink>(alloc: Global, words: &[String], source: &mut S, sink: &mut K) -> Status
+    ensures { Ended (AreNoFlight (map string_bytes words.now)) (map string_bytes words.now) result S.left S.faults source.old source.new K.written K.faults sink.old sink.new }
+{
+    let Some(names) = parse_flight(words) else {
+        return Status::Usage;
+    };
+    match read_input(alloc, Some(Limit::Encounter), source) {
+        Ok(bytes) => match answer_flight(alloc, names, bytes.as_slice()) {
+            Ok(answer) => put_answer(answer, sink),
+            Err(_) => Status::OutOfMemory,
+        },
+        Err(status) => status,
+    }
+}
 
 /// Runs the command that the words say: reads the source, writes the sink, and returns the status. It always returns.
 ///
@@ -23,6 +43,14 @@ use track_text::once_law;
 ///   the line `refused,RECORD,CODE`.
 /// - `tracks` reads recorded tracks and writes the encounter whose aircraft fly along them. Where there is none, it
 ///   writes the line `refused,RECORD,CODE`.
+/// - `fly ADDRESS ..` reads an encounter and writes the one in which these aircraft follow their own advice. Where one
+///   of them isn't there, or isn't of kind RA, it writes `unknown,ADDRESS`. Where the flight leaves the limits, it
+///   writes `leaves,ADDRESS,CYCLE`.
+/// - `vary ..` reads an encounter, and plays it and each of its variants, in as many threads as there are processors. It
+///   writes what each run comes to. The variants are those of a row of values (`vary alt ADDRESS FIRST COUNT STEP`, and
+///   so with `x`, `y` and `late`), of each loss of messages (`vary lose`), or of each exchange of two addresses (`vary
+///   swap`). Where there is no such aircraft, it writes `unknown,ADDRESS`, and where there are too many variants,
+///   `variants,COUNT`.
 /// - `audit` reads a recording and writes `legal,ENTRIES`. Where the recording is wrong, it writes `wrong,LINE,REASON`.
 /// - `resume` reads a beginning of a recording, and writes the whole recording. Where the input is none, it writes the
 ///   line of its verdict.
@@ -48,18 +76,18 @@ pub fn acas_plain<R: Threads + Sync, S: Source, K: Sink>(
     source: &mut S,
     sink: &mut K,
 ) -> Status
-    ensures ended { Ended (AreNoPlain (map string_bytes words.now)) (map string_bytes words.now) result S.left S.faults source.old source.new K.written K.faults sink.old sink.new }
+    ensures ended { Ended (AreNoQuiet (map string_bytes words.now)) (map string_bytes words.now) result S.left S.faults source.old source.new K.written K.faults sink.old sink.new }
 
     // After `serial` with status Done, the bytes that were read, to their end, say an encounter, and the bytes that
     // were written are the recording of its serial journal. The journal is legal and complete. No aircraft commits an
     // advisory in the sense that the message in force from a threat of lower address forbids. Where that message was
     // sent since the threat took its present sense, the senses are opposite.
-    ensures played { DoneAs (Command.Plain Plain.Serial) Plays (map string_bytes words.now) result (S.left source.old) (S.left source.new) (Grew (K.written sink.old) (K.written sink.new)) }
+    ensures played { DoneAs (OfPlain Plain.Serial) Plays (map string_bytes words.now) result (S.left source.old) (S.left source.new) (Grew (K.written sink.old) (K.written sink.new)) }
 {
     let Some(plain) = parse_plain(words) else {
-        return Status::Usage;
+        return fly(alloc, words, source, sink);
     };
-    match read_input(alloc, Command::Plain(plain), source) {
+    match read_input(alloc, plain.limit(), source) {
         Ok(bytes) => match answer_to(rt, alloc, plain, bytes) {
             Ok(answer) => put_answer(answer, sink),
             Err(_) => Status::OutOfMemory,
@@ -76,4 +104,6 @@ pub fn one_status_law()
     verdict_law();
     split_law();
     once_law();
+    following_law();
+    serial_law();
 }

@@ -1,6 +1,6 @@
 // The line of a refusal.
 ghost use Rattle.std.specs.Prelude.{◌≡◌};
-ghost use Rattle.acas_top.specs.Answers.{refused_line};
+ghost use Rattle.acas_top.specs.Refusing.{refused_line};
 
 use acas_text::Line;
 

@@ -2,29 +2,29 @@
 ghost use Rattle.std.specs.Prelude.{◌≡◌, IfErr, IfOk, OnOk};
 ghost use Rattle.acas_top.specs.Ends.{IsUnread, WasPut, WasRead, status_after};
 ghost use Rattle.acas_top.specs.Given.{answer_status, answer_text};
-ghost use Rattle.acas_top.specs.Words.{limit_of};
 
+use crate::Status;
 use crate::answers::Answer;
-use crate::{Command, Status};
+use crate::words::Limit;
 use acas_io::{Failed, InError, Sink, Source, read_all};
 use acas_lines::write_text;
 use std::alloc::Global;
 
-/// Reads what the command reads, to its end: nothing, or all bytes of the source up to the limit. An error is the
-/// status with which the command ends.
+/// Reads what a command with this limit reads, to its end: nothing where there is no limit, and else all bytes of the
+/// source up to the limit. An error is the status with which the command ends.
 pub(crate) fn read_input<S: Source>(
     alloc: Global,
-    command: Command,
+    limit: Option<Limit>,
     source: &mut S,
 ) -> Result<Vec<u8>, Status>
-    ensures read { IfOk result (λ bytes. WasRead (limit_of command) (S.left source.old) (S.left source.new) bytes.items) }
+    ensures read { IfOk result (λ bytes. WasRead limit (S.left source.old) (S.left source.new) bytes.items) }
     ensures no_fault { OnOk result (S.faults source.new ≡ S.faults source.old) }
-    ensures unread { IfErr result (λ status. IsUnread status (limit_of command) (S.left source.old) (S.faults source.old) (S.faults source.new)) }
+    ensures unread { IfErr result (λ status. IsUnread status limit (S.left source.old) (S.faults source.old) (S.faults source.new)) }
 
-    // Where the command reads nothing, the source isn't touched.
-    ensures untouched { limit_of command ≡ None → source.new ≡ source.old }
+    // Where there is no limit, the source isn't touched.
+    ensures untouched { limit ≡ None → source.new ≡ source.old }
 {
-    let Some(limit) = command.limit() else {
+    let Some(limit) = limit else {
         return Ok(Vec::new(alloc));
     };
     match read_all(alloc, source, limit.greatest()) {

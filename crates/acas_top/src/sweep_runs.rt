@@ -53,6 +53,8 @@ impl SerialRuns {
 impl Job for SerialRuns {
     ghost use Rattle.acas_top.specs.Sweeping.{HasCounted};
 
+    type Given = Counts;
+
     ghost means = { HasCounted };
 
     fn one(&self, number: u32) -> Result<Counts, AllocError> {

@@ -1,5 +1,6 @@
 // Runs in threads, and what answers their words.
 ghost use Rattle.std.specs.Prelude.{◌≡◌, ℕ, ◌≤◌, List, IfOk, length};
+ghost use Rattle.acas_top.specs.Commands.{OfRun};
 ghost use Rattle.acas_top.specs.Answers.{Answers, IsRun};
 ghost use Rattle.acas_top.specs.Given.{answer_status, answer_text};
 ghost use Rattle.enc_file.specs.Reading.{Says};
@@ -8,7 +9,7 @@ ghost use Rattle.flight.specs.Inside.{IsInside};
 use crate::answers::Answer;
 use crate::counts::{counts_of, serial_counts};
 use crate::runs::run_law;
-use crate::{Command, ENCOUNTER_BYTES, Threaded};
+use crate::{ENCOUNTER_BYTES, Threaded};
 use acas_base::Encounter;
 use air_journal::AirState;
 use air_turn::Air;
@@ -45,7 +46,7 @@ fn answer_sum(alloc: Global, encounter: &Encounter, played: &AirState) -> Result
     requires inside { IsInside encounter.now }
     requires encounter { played.now.encounter ≡ encounter.now }
     requires run { IsRun encounter.now played.now.journal }
-    ensures { IfOk result (λ answer. (bytes : List ℕ) → Says bytes encounter.now → Answers (Command.Run Threaded.Sum) bytes (answer_status answer) (answer_text answer)) }
+    ensures { IfOk result (λ answer. (bytes : List ℕ) → Says bytes encounter.now → Answers (OfRun Threaded.Sum) bytes (answer_status answer) (answer_text answer)) }
 {
     let serial = serial_counts(alloc, encounter)?;
     Ok(Answer::Summed(counts_of(played).commits, serial))
@@ -61,7 +62,7 @@ fn answer_of(
     requires inside { IsInside encounter.now }
     requires encounter { played.encounter ≡ encounter.now }
     requires run { IsRun encounter.now played.journal }
-    ensures { IfOk result (λ answer. (bytes : List ℕ) → Says bytes encounter.now → Answers (Command.Run run) bytes (answer_status answer) (answer_text answer)) }
+    ensures { IfOk result (λ answer. (bytes : List ℕ) → Says bytes encounter.now → Answers (OfRun run) bytes (answer_status answer) (answer_text answer)) }
 {
     match run {
         Threaded::Play => Ok(Answer::Recorded(played)),
@@ -79,7 +80,7 @@ pub(crate) fn answer_in_threads<R: Threads + Wait + Sync, P: Pause + Sync>(
     pause: &P,
 ) -> Result<Answer, AllocError>
     requires { length bytes.now ≤ ENCOUNTER_BYTES }
-    ensures { IfOk result (λ answer. Answers (Command.Run run) bytes.now (answer_status answer) (answer_text answer)) }
+    ensures { IfOk result (λ answer. Answers (OfRun run) bytes.now (answer_status answer) (answer_text answer)) }
 {
     let encounter = match enc_file::read(alloc, bytes) {
         Ok(encounter) => encounter,

@@ -1,13 +1,16 @@
 // The commands, and the words that say them.
-ghost use Rattle.std.specs.Prelude.{◌≡◌, ◌≢◌, [], ◌∷◌, IfNone, IfSome, map};
+ghost use Rattle.std.specs.Prelude.{◌≡◌, ◌≢◌, [], ◌∷◌, codes, IfNone, IfSome, map};
 ghost use Rattle.std.specs.String.{string_bytes};
-ghost use Rattle.acas_top.specs.Words.{AreNoPlain, AreNoRun, IsInRange, Say, SayPage, greatest, limit_of, most, tool_word};
+ghost use Rattle.acas_top.specs.Commands.{OfPlain, OfRun};
+ghost use Rattle.acas_top.specs.Words.{AreNoFlight, AreNoPlain, AreNoRun, IsInRange, Say, SayFlight, SayPage, greatest, most, plain_limit, tool_word};
 ghost use Rattle.acas_top.specs.declared.words.Page.{Page};
 ghost use Rattle.acas_top.specs.declared.words.Tool.{Tool};
 
 use acas_base::CRAFTS;
 use acas_text::parse_within;
+use address_words::are_addresses;
 use fault_text::begins_recording;
+use variation_words::Variation;
 
 /// The most bytes that a command reads of an encounter's text.
 pub const ENCOUNTER_BYTES: usize = 16_777_216;
@@ -92,6 +95,8 @@ pub enum Plain {
     },
     /// `resume`: reads a beginning of a recording, and writes the recording of its run, completed.
     Resume,
+    /// `vary ..`: reads an encounter, plays it with one thing changed at a time, and writes what each run comes to.
+    Vary(Variation),
     /// `tracks`: reads recorded tracks, and writes the encounter whose aircraft fly along them.
     Tracks,
     /// `compare`: reads two recordings, one after the other, and writes what differs between them.
@@ -104,27 +109,6 @@ pub enum Plain {
     Explain,
     /// The words that ask for a page: reads nothing, and writes the page.
     Show(Page),
-}
-
-/// What the program can be told to do.
-#[derive(Clone, Copy, Debug, PartialEq, Eq)]
-pub enum Command {
-    /// A command that waits for nobody.
-    Plain(Plain),
-    /// The word of a run in threads: reads an encounter.
-    Run(Threaded),
-}
-
-impl Command {
-    /// How much the command reads at most, or none where it reads nothing.
-    pub fn limit(self) -> Option<Limit>
-        ensures { result ≡ limit_of self }
-    {
-        match self {
-            Command::Plain(plain) => plain.limit(),
-            Command::Run(_) => Some(Limit::Encounter),
-        }
-    }
 }
 
 impl Limit {
@@ -156,14 +140,15 @@ impl Limit {
 }
 
 impl Plain {
-    // How much the command reads at most, or none where it reads nothing. Each word has an arm of its own: a proof by
-    // the cases of arms that several words share takes minutes.
-    fn limit(self) -> Option<Limit>
-        ensures { result ≡ limit_of (Command.Plain self) }
+    /// How much the command reads at most, or none where it reads nothing.
+    // Each word has an arm of its own: a proof by the cases of arms that several words share takes minutes.
+    pub fn limit(self) -> Option<Limit>
+        ensures { result ≡ plain_limit self }
     {
         match self {
             Plain::Serial => Some(Limit::Encounter),
             Plain::Tracks => Some(Limit::Encounter),
+            Plain::Vary(_) => Some(Limit::Encounter),
             Plain::Audit => Some(Limit::Recording),
             Plain::Tell(_) => Some(Limit::Recording),
             Plain::Resume => Some(Limit::Recording),
@@ -231,7 +216,7 @@ fn page_of(word: &str) -> Option<Page>
 
 // The run in threads of a word.
 fn threaded_of(word: &str) -> Option<Threaded>
-    ensures some { IfSome result (λ run. Say (word.now ∷ []) (Command.Run run)) }
+    ensures some { IfSome result (λ run. Say (word.now ∷ []) (OfRun run)) }
     ensures none { IfNone result (AreNoRun (word.now ∷ [])) }
 {
     if word == "play" {
@@ -245,7 +230,7 @@ fn threaded_of(word: &str) -> Option<Threaded>
 
 // The plain command of one word.
 fn of_one(word: &str) -> Option<Plain>
-    ensures some { IfSome result (λ plain. Say (word.now ∷ []) (Command.Plain plain)) }
+    ensures some { IfSome result (λ plain. Say (word.now ∷ []) (OfPlain plain)) }
     ensures valid { IfSome result IsInRange }
     ensures none { IfNone result (AreNoPlain (word.now ∷ [])) }
 {
@@ -276,22 +261,44 @@ fn of_one(word: &str) -> Option<Plain>
     }
 }
 
-// The plain command of a word and the digits of another one.
-fn of_two(word: &str, digits: &str) -> Option<Plain>
-    ensures some { IfSome result (λ plain. Say (word.now ∷ digits.now ∷ []) (Command.Plain plain)) }
+// The word that `decode` tells.
+fn decode_of(digits: &str) -> Option<Plain>
+    ensures some { IfSome result (λ plain. Say (codes "decode" ∷ digits.now ∷ []) (OfPlain plain)) }
     ensures valid { IfSome result IsInRange }
-    ensures none { IfNone result (AreNoPlain (word.now ∷ digits.now ∷ [])) }
+    ensures none { IfNone result (AreNoPlain (codes "decode" ∷ digits.now ∷ [])) }
 {
-    if word != "decode" {
-        return None;
-    }
     let word = word_text::parse(digits.as_bytes())?;
     Some(Plain::Decode { word })
 }
 
+// The variation of one word.
+fn vary_one(word: &str) -> Option<Plain>
+    ensures some { IfSome result (λ plain. Say (codes "vary" ∷ word.now ∷ []) (OfPlain plain)) }
+    ensures valid { IfSome result IsInRange }
+    ensures none { IfNone result (AreNoPlain (codes "vary" ∷ word.now ∷ [])) }
+{
+    let variation = variation_words::of_one(word)?;
+    Some(Plain::Vary(variation))
+}
+
+// The plain command of two words.
+fn of_two(word: &str, other: &str) -> Option<Plain>
+    ensures some { IfSome result (λ plain. Say (word.now ∷ other.now ∷ []) (OfPlain plain)) }
+    ensures valid { IfSome result IsInRange }
+    ensures none { IfNone result (AreNoPlain (word.now ∷ other.now ∷ [])) }
+{
+    if word == "decode" {
+        return decode_of(other);
+    }
+    if word == "vary" {
+        return vary_one(other);
+    }
+    None
+}
+
 // The plain command of a word and three numbers.
 fn of_four(word: &str, number: &str, crafts: &str, cycles: &str) -> Option<Plain>
-    ensures some { IfSome result (λ plain. Say (word.now ∷ number.now ∷ crafts.now ∷ cycles.now ∷ []) (Command.Plain plain)) }
+    ensures some { IfSome result (λ plain. Say (word.now ∷ number.now ∷ crafts.now ∷ cycles.now ∷ []) (OfPlain plain)) }
     ensures valid { IfSome result IsInRange }
     ensures none { IfNone result (AreNoPlain (word.now ∷ number.now ∷ crafts.now ∷ cycles.now ∷ [])) }
 {
@@ -310,7 +317,7 @@ fn of_four(word: &str, number: &str, crafts: &str, cycles: &str) -> Option<Plain
 
 // The plain command of a word and four numbers.
 fn of_five(word: &str, number: &str, count: &str, crafts: &str, cycles: &str) -> Option<Plain>
-    ensures some { IfSome result (λ plain. Say (word.now ∷ number.now ∷ count.now ∷ crafts.now ∷ cycles.now ∷ []) (Command.Plain plain)) }
+    ensures some { IfSome result (λ plain. Say (word.now ∷ number.now ∷ count.now ∷ crafts.now ∷ cycles.now ∷ []) (OfPlain plain)) }
     ensures valid { IfSome result IsInRange }
     ensures none { IfNone result (AreNoPlain (word.now ∷ number.now ∷ count.now ∷ crafts.now ∷ cycles.now ∷ [])) }
 {
@@ -329,9 +336,29 @@ fn of_five(word: &str, number: &str, count: &str, crafts: &str, cycles: &str) ->
     })
 }
 
+// The plain command of six words.
+fn of_six(
+    word: &str,
+    quantity: &str,
+    address: &str,
+    first: &str,
+    count: &str,
+    step: &str,
+) -> Option<Plain>
+    ensures some { IfSome result (λ plain. Say (word.now ∷ quantity.now ∷ address.now ∷ first.now ∷ count.now ∷ step.now ∷ []) (OfPlain plain)) }
+    ensures valid { IfSome result IsInRange }
+    ensures none { IfNone result (AreNoPlain (word.now ∷ quantity.now ∷ address.now ∷ first.now ∷ count.now ∷ step.now ∷ [])) }
+{
+    if word != "vary" {
+        return None;
+    }
+    let variation = variation_words::of_five(quantity, address, first, count, step)?;
+    Some(Plain::Vary(variation))
+}
+
 /// The plain command that the words say, or none where they say none.
 pub(crate) fn parse_plain(words: &[String]) -> Option<Plain>
-    ensures some { IfSome result (λ plain. Say (map string_bytes words.now) (Command.Plain plain)) }
+    ensures some { IfSome result (λ plain. Say (map string_bytes words.now) (OfPlain plain)) }
     ensures valid { IfSome result IsInRange }
     ensures none { IfNone result (AreNoPlain (map string_bytes words.now)) }
 {
@@ -351,13 +378,37 @@ pub(crate) fn parse_plain(words: &[String]) -> Option<Plain>
             crafts.as_str(),
             cycles.as_str(),
         ),
+        [word, quantity, address, first, count, step] => of_six(
+            word.as_str(),
+            quantity.as_str(),
+            address.as_str(),
+            first.as_str(),
+            count.as_str(),
+            step.as_str(),
+        ),
         _ => None,
+    }
+}
+
+/// The addresses that `fly` names, or none where the words don't say `fly` and addresses.
+pub(crate) fn parse_flight(words: &[String]) -> Option<&[String]>
+    ensures some { IfSome result (λ names. SayFlight (map string_bytes words.now) (map string_bytes names.now)) }
+    ensures none { IfNone result (AreNoFlight (map string_bytes words.now)) }
+{
+    match words {
+        [word, names @ ..] => {
+            if word.as_str() == "fly" && are_addresses(names) {
+                return Some(names);
+            }
+            None
+        }
+        [] => None,
     }
 }
 
 /// The run in threads that the words say, or none where they say none.
 pub(crate) fn parse_threaded(words: &[String]) -> Option<Threaded>
-    ensures some { IfSome result (λ run. Say (map string_bytes words.now) (Command.Run run)) }
+    ensures some { IfSome result (λ run. Say (map string_bytes words.now) (OfRun run)) }
     ensures none { IfNone result (AreNoRun (map string_bytes words.now)) }
 {
     match words {

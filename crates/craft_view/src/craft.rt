@@ -192,6 +192,7 @@ impl Craft {
         requires own { own.now ≡ own_of (sight_of encounter.now self.now.own self.now.cycle) }
         requires rows { AreRows own.now }
         requires target { target < CRAFTS }
+        requires there { target < length encounter.now.crafts }
         ensures { view.new ≡ shown (asks_for (option_copied before.entry) target) (view_of encounter.now self.now.own target self.now.cycle) }
     {
         if is_other(encounter, self.own, target) {

@@ -1,5 +1,5 @@
 // The other aircraft of an encounter, and their tracks.
-ghost use Rattle.std.specs.Prelude.{◌≡◌, ℕ, ◌<◌, ◌≤◌, length, is_some, slice_index_or, IsTrue};
+ghost use Rattle.std.specs.Prelude.{◌≡◌, ℕ, ◌<◌, ◌≤◌, length, is_some, slice_index_or};
 ghost use Rattle.acas_base.specs.declared.TheConstants.{CRAFTS};
 ghost use Rattle.craft_view.specs.KnownTracks.{no_tracks, tracks_then};
 ghost use Rattle.craft_view.specs.Sight.{other_craft};
@@ -9,15 +9,12 @@ use crate::tracks::Tracks;
 use acas_base::{CRAFTS, Encounter};
 use flight::Places;
 
-// Whether there is another aircraft at an index.
+// Whether the aircraft at an index is another one. That there is one, its callers know.
 pub(crate) fn is_other(encounter: &Encounter, own: u8, target: u8) -> bool
-    ensures value { result ≡ is_some (other_craft encounter.now own target) }
-    ensures within { IsTrue result → target < length encounter.now.crafts }
+    requires { target < length encounter.now.crafts }
+    ensures { result ≡ is_some (other_craft encounter.now own target) }
 {
-    if target == own {
-        return false;
-    }
-    usize::from(target) < encounter.crafts().len()
+    target != own
 }
 
 // The tracks of all aircraft one second later.
@@ -38,6 +35,7 @@ pub(crate) fn step_tracks(tracks: &mut [Tracks; CRAFTS], places: &Places, own: u
 // The tracks of one place one second later: a measurement or a miss goes into those of another aircraft.
 fn step_place(tracks: &mut Tracks, places: &Places, own: u8, target: u8)
     requires own { own < length places.now.encounter.crafts }
+    requires target { target < length places.now.encounter.crafts }
     requires inside { IsInside places.now.encounter }
     requires run { places.now.cycle ≤ places.now.encounter.cycles }
     ensures { tracks.new ≡ tracks_then places.now.encounter own places.now.cycle target tracks.old }

@@ -160,6 +160,7 @@ fn leg_of(row: &ByteRecord) -> Result<Record, Code>
     })
 }
 
+#[inline(always)]
 #[tactic(auto, unfolding(crate::specs::Saying::miss_of))]
 fn miss_of(row: &ByteRecord) -> Result<Record, Code>
     ensures value { result ≡ miss_of (fields_of row.now) }
@@ -215,6 +216,7 @@ fn plan_of(row: &ByteRecord) -> Result<Record, Code>
     })
 }
 
+#[inline(always)]
 #[tactic(auto, unfolding(crate::specs::Saying::fate_of))]
 fn fate_of(row: &ByteRecord) -> Result<Record, Code>
     ensures value { result ≡ fate_of (fields_of row.now) }
@@ -271,7 +273,8 @@ fn of_format_2(version: u8, row: &ByteRecord) -> Result<Record, Code>
     Err(Code::Kind)
 }
 
-/// A later record, by its kind. It is inlined in the readers of encounters and of tracks, as [`crate::Tables::add`] is.
+/// A later record, by its kind. It is inlined in the readers of encounters and of tracks, as [`crate::Tables::add`] is,
+/// and so are the kinds that most records have.
 #[inline(always)]
 #[tactic(auto, unfolding(crate::specs::Saying::record_of))]
 pub fn record_of(version: u8, row: &ByteRecord) -> Result<Record, Code>

@@ -210,6 +210,7 @@ impl Tables {
         self.settle(fault)
     }
 
+    #[inline(always)]
     fn add_miss(&mut self, pair: Addresses, from: u16, to: u16) -> Result<(), ReadError>
         requires room { self.old.count < 2 ^ 32 - 1 }
         requires held { IsHeld self.old }
@@ -238,6 +239,7 @@ impl Tables {
         self.settle(fault)
     }
 
+    #[inline(always)]
     fn add_fate(&mut self, pair: Addresses, number: u16, copies: Copies) -> Result<(), ReadError>
         requires room { self.old.count < 2 ^ 32 - 1 }
         requires held { IsHeld self.old }

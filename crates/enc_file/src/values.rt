@@ -91,7 +91,9 @@ fn copy_in(held: &[u8], masked: &[u8]) -> Option<CopyPlan>
     })
 }
 
-// The copy with a number, from 0, among `count` copies that stand from a place on.
+// The copy with a number, from 0, among `count` copies that stand from a place on. It is inlined where place and number
+// are known.
+#[inline(always)]
 fn copy_from(row: &ByteRecord, start: u8, count: u8, number: u8) -> Option<CopyPlan>
     requires { start + number + number + 1 < 256 }
     ensures value { result ≡ copy_from (fields_of row.now) start count number }
@@ -105,6 +107,7 @@ fn copy_from(row: &ByteRecord, start: u8, count: u8, number: u8) -> Option<CopyP
 }
 
 /// The `count` copies that stand from a place on.
+#[inline(always)]
 pub(crate) fn copies_from(row: &ByteRecord, start: u8, count: u8) -> Option<Copies>
     requires start { start ≤ 4 }
     requires few { count ≤ 3 }

@@ -1,5 +1,5 @@
 -- What is told of a record that has a fault after those before it.
-use Rattle.std.proofs.Common.{◌≡◌, ◌∙◌, ℕ, ◌≤◌, Bool, true, false, List, [], ◌∷◌, ◌++◌, length, Option, Some, None, refl, sym, ap, subst, arith, leb-true, eqb-true}
+use Rattle.std.proofs.Common.{◌≡◌, ◌∙◌, ℕ, ◌+◌, ◌≤◌, Bool, true, false, List, [], ◌∷◌, ◌++◌, length, Option, Some, None, refl, sym, ap, subst, arith, leb-true, eqb-true}
 use Rattle.std.specs.Borrow.{Bor}
 use Rattle.std.specs.Prelude.{◌==◌, ◌||◌, not, is_none, is_some}
 use Rattle.std.specs.List.{list_any}
@@ -7,41 +7,33 @@ use Rattle.std.proofs.lemmas.Bool.{false≢true}
 use Rattle.std.proofs.lemmas.List.Folds.{list_any-append}
 use Rattle.std.proofs.lemmas.Option.{same_Some}
 use Rattle.acas_base.specs.Encounter.{is_active, most_crafts}
-use Rattle.enc_file.specs.Conditions.{IsRefused, if_pair, if_said, is_given, is_miscounted, is_repeat, is_stranger, is_unknown}
+use Rattle.enc_file.specs.Conditions.{if_pair, if_said, is_given, is_miscounted, is_repeat, is_stranger, is_unknown}
 use Rattle.enc_file.specs.Earlier.{crafts_of, run_of, version_of}
-use Rattle.enc_file.specs.Records.{records_of}
 use Rattle.enc_file.specs.Values.{address_in, count_in, field}
 use Rattle.enc_file.specs.declared.record.Record.{Record}
+use Rattle.enc_file.specs.declared.record.Record.TheVariants as said
 use Rattle.enc_file.specs.declared.record.Run.{Run}
-use Rattle.enc_file.specs.declared.refusal.Code.{Code}
 use Rattle.enc_file.specs.declared.refusal.Code.TheVariants as code
 use Rattle.enc_file.specs.declared.refusal.Refusal.{Refusal}
-use Rattle.fault_text.specs.Before.{Collides, IsLastBefore, IsStrange, TellsEqual, alike, has_first, has_second, is_about, reached_place, rises, rising_place}
-use Rattle.fault_text.specs.Lines.{fields_in, file_lines}
-use Rattle.fault_text.specs.Told.{IsAgainst, IsFormat, TellsAgainst, TellsEarlier, against_by, stated_kind}
+use Rattle.fault_text.specs.Before.{Collides, IsLastBefore, IsStrange, TellsCounted, TellsEqual, TellsRepeat, alike, are_about, has_first, has_second, holds_sought, is_about, is_about_in, reached_place, rising_place}
+use Rattle.fault_text.specs.Lines.{IsPlaced, fields_in, file_lines}
+use Rattle.fault_text.specs.Names.{stated_kind}
+use Rattle.fault_text.specs.Rows.{AreBefore, IsRow, SaysRow, records_in, rises}
+use Rattle.fault_text.specs.Told.{IsAgainst, IsFormat, IsRefusedAgainst, TellsEarlier}
 use Rattle.fault_text.specs.declared.earlier.Sought.{Sought}
-use Rattle.fault_text.specs.declared.fault.Why.{Why}
 use Rattle.fault_text.specs.declared.fault.Why.TheVariants as why
 use Rattle.fault_text.specs.declared.lines.Place.{Place}
 use Rattle.fault_text.specs.declared.names.RecordKind.{RecordKind}
 use Rattle.fault_text.specs.declared.names.RecordKind.TheVariants as kind
-use Rattle.fault_text.proofs.Passing.{Found, found-none, found-some}
+use Rattle.fault_text.proofs.Passing.{AreSame, found-none, found-some}
+use Rattle.fault_text.proofs.RefusedRows.{all_said, in-all, refused-against, tells-as}
 use Rattle.fault_text.proofs.Refusals.{version-is}
-use Rattle.fault_text.proofs.Repeats.{AreBare, given-any, of-craft, of-kind, passed-bare, repeat-any, run-any}
+use Rattle.fault_text.proofs.Repeats.{given-any, of-craft, of-kind, repeat-any, run-any, said-bare}
 use Rattle.fault_text.proofs.Rising.{NotAbove, not-above}
-use Rattle.fault_text.proofs.Said.{IsFit, is-row}
-
-pub fault-as : (text : List ℕ) (refusal : Refusal) (k : RecordKind) (line : List ℕ) (c : Code) (a : IsAgainst text refusal k line) → refusal.code ≡ c → against_by c a.refused.earlier (stated_kind k) (fields_in line) ≡ true
-fault-as text refusal k line c a e = subst (λ (d : Code). against_by d a.refused.earlier (stated_kind k) (fields_in line) ≡ true) e a.fault
-
-pub tells-as : (text : List ℕ) (refusal : Refusal) (k : RecordKind) (line : List ℕ) (w : Why) (c : Code) (a : IsAgainst text refusal k line) → refusal.code ≡ c → TellsAgainst c text a.refused.earlier k (fields_in line) w → TellsEarlier text refusal k line w
-tells-as text refusal k line w c a e t = record { refused = a.refused; tells = subst (λ (d : Code). TellsAgainst d text a.refused.earlier k (fields_in line) w) (sym e) t }
-
-pub counted-from : (text : List ℕ) (refusal : Refusal) (k : RecordKind) (line : List ℕ) → IsAgainst text refusal k line → 1 ≤ refusal.at
-counted-from text refusal k line a = omega (arith, a.refused.at)
+use Rattle.fault_text.proofs.Said.{IsFit, about-same, encounter-none}
 
 -- What is sought.
-alike-fit : (k : RecordKind) (fields : List (List ℕ)) → IsFit (alike k fields)
+pub alike-fit : (k : RecordKind) (fields : List (List ℕ)) → IsFit (alike k fields)
 alike-fit k fields = record { first = λ e. rw e refl; second = λ e. rw e refl }
 
 craft-fit : (address : ℕ) → IsFit (of-craft kind.Craft address)
@@ -50,72 +42,141 @@ craft-fit address = record { first = λ e. absurd (false≢true (sym e)); second
 run-fit : IsFit (of-kind kind.Run)
 run-fit = record { first = λ e. refl; second = λ e. refl }
 
+same-tests : (sought : Sought) → IsFit sought → AreSame SaysRow (is_about_in sought) (are_about sought)
+same-tests sought fit = λ older row now is. about-same sought older row now fit is
+
+-- The records of an encounter among what rows say.
+any-in : (test : Record → Bool) (earlier : List (Option Record)) → list_any (λ o. if_said o test) earlier ≡ list_any test (records_in earlier)
+any-in test [] = refl
+any-in test (None ∷ earlier) = any-in test earlier
+any-in test (Some now ∷ earlier) = ap (λ b. test now || b) (any-in test earlier)
+
+in-parts : (newer older : List (Option Record)) → records_in (newer ++ older) ≡ records_in newer ++ records_in older
+in-parts [] older = refl
+in-parts (None ∷ newer) older = in-parts newer older
+in-parts (Some now ∷ newer) older = ap (λ rest. now ∷ rest) (in-parts newer older)
+
+pub none-about : (text : List ℕ) (at : ℕ) (earlier : List (Option Record)) (sought : Sought) → AreBefore SaysRow text at earlier → IsFit sought → IsLastBefore (holds_sought sought) (file_lines text) at None
+    → list_any (is_about sought) (records_in earlier) ≡ false
+none-about text at earlier sought b fit last =
+    sym (any-in (is_about sought) earlier) ∙ found-none SaysRow (is_about_in sought) (are_about sought) text at earlier b (same-tests sought fit) last
+
+-- A row that is about what is sought says a record.
+record AboutRow (sought : Sought) (older : List (Option Record)) (row : List (List ℕ)) (now : Option Record) : Type 0 where
+  it : Record
+  is : now ≡ Some it
+  row-is : IsRow older row it
+  passes : is_about sought it ≡ true
+
+about-row : (sought : Sought) (older : List (Option Record)) (row : List (List ℕ)) (now : Option Record) → SaysRow older row now → is_about_in sought now ≡ true → AboutRow sought older row now
+about-row sought older row None is passes = absurd (false≢true passes)
+about-row sought older row (Some (said.Header version)) is passes = absurd (false≢true (sym (encounter-none sought.kind _) ∙ passes))
+about-row sought older row (Some (said.Run run)) is passes = record { it = said.Run run; is = refl; row-is = is; passes = passes }
+about-row sought older row (Some (said.Gains gains)) is passes = record { it = said.Gains gains; is = refl; row-is = is; passes = passes }
+about-row sought older row (Some (said.Craft craft)) is passes = record { it = said.Craft craft; is = refl; row-is = is; passes = passes }
+about-row sought older row (Some (said.Climb address limit)) is passes = record { it = said.Climb address limit; is = refl; row-is = is; passes = passes }
+about-row sought older row (Some (said.Leg address course)) is passes = record { it = said.Leg address course; is = refl; row-is = is; passes = passes }
+about-row sought older row (Some (said.Miss pair from to)) is passes = record { it = said.Miss pair from to; is = refl; row-is = is; passes = passes }
+about-row sought older row (Some (said.Plan pair copies)) is passes = record { it = said.Plan pair copies; is = refl; row-is = is; passes = passes }
+about-row sought older row (Some (said.Fate pair number copies)) is passes = record { it = said.Fate pair number copies; is = refl; row-is = is; passes = passes }
+about-row sought older row (Some said.End) is passes = record { it = said.End; is = refl; row-is = is; passes = passes }
+
+-- The last record about what is sought.
+pub record FoundRecord (text : List ℕ) (earlier : List (Option Record)) (sought : Sought) (place : Place) : Type 0 where
+  pub at : ℕ
+  pub now : Record
+  pub older : List (Option Record)
+  pub newer : List (Option Record)
+  pub whole : earlier ≡ newer ++ Some now ∷ older
+  pub number : at ≡ length older + 1
+  pub passes : is_about sought now ≡ true
+  pub last : list_any (is_about_in sought) newer ≡ false
+  pub row-is : IsRow older (fields_in place.line.now) now
+  pub placed : IsPlaced (file_lines text) at place.number place.line.now
+
+pub some-about : (text : List ℕ) (at : ℕ) (earlier : List (Option Record)) (sought : Sought) (place : Place) → AreBefore SaysRow text at earlier → IsFit sought → IsLastBefore (holds_sought sought) (file_lines text) at (Some place)
+    → FoundRecord text earlier sought place
+some-about text at earlier sought place b fit last =
+    let f = found-some SaysRow (is_about_in sought) (are_about sought) text at earlier place b (same-tests sought fit) last in
+    let a = about-row sought f.older (fields_in place.line.now) f.now f.says f.passes in record {
+      at = f.at;
+      now = a.it;
+      older = f.older;
+      newer = f.newer;
+      whole = f.whole ∙ ap (λ o. f.newer ++ o ∷ f.older) a.is;
+      number = f.number;
+      passes = a.passes;
+      last = f.last;
+      row-is = a.row-is;
+      placed = f.placed;
+    }
+
+found-whole : (text : List ℕ) (earlier : List (Option Record)) (sought : Sought) (place : Place) (f : FoundRecord text earlier sought place) → records_in earlier ≡ records_in f.newer ++ f.now ∷ records_in f.older
+found-whole text earlier sought place f = ap records_in f.whole ∙ in-parts f.newer (Some f.now ∷ f.older)
+
 any-found : (earlier newer older : List Record) (now : Record) (test : Record → Bool) → earlier ≡ newer ++ now ∷ older → test now ≡ true → list_any test earlier ≡ true
 any-found earlier newer older now test e is = ap (list_any test) e ∙ list_any-append test newer (now ∷ older) ∙ ap (λ b. list_any test newer || (b || list_any test older)) is ∙ either (list_any test newer) where
   either : (b : Bool) → (b || true) ≡ true
   either true = refl
   either false = refl
 
+found-any : (text : List ℕ) (earlier : List (Option Record)) (sought : Sought) (place : Place) → FoundRecord text earlier sought place → list_any (is_about sought) (records_in earlier) ≡ true
+found-any text earlier sought place f = any-found (records_in earlier) (records_in f.newer) (records_in f.older) f.now (is_about sought) (found-whole text earlier sought place f) f.passes
+
 -- A record that repeats an earlier one.
-bare : (text : List ℕ) (refusal : Refusal) (r : IsRefused (records_of text) refusal) → AreBare r.earlier
-bare text refusal r = passed-bare [] _ r.earlier r.passed tt
+pub repeat-some : (text : List ℕ) (at : ℕ) (k : RecordKind) (line : List ℕ) (earlier : List (Option Record)) → IsAgainst text at code.Repeat k line earlier → IsLastBefore (holds_sought (alike k (fields_in line))) (file_lines text) at None → ⊥
+repeat-some text at k line earlier a none =
+    let any = repeat-any (records_in earlier) k (fields_in line) (said-bare [] _ earlier a.before.said tt) a.fault in
+    false≢true (sym (none-about text at earlier (alike k (fields_in line)) a.before (alike-fit k (fields_in line)) none) ∙ any)
 
-pub repeat-some : (text : List ℕ) (refusal : Refusal) (k : RecordKind) (line : List ℕ) (a : IsAgainst text refusal k line) → refusal.code ≡ code.Repeat → IsLastBefore (alike k (fields_in line)) (file_lines text) refusal.at None → ⊥
-repeat-some text refusal k line a e none =
-    let any = repeat-any a.refused.earlier k (fields_in line) (bare text refusal a.refused) (fault-as text refusal k line code.Repeat a e) in
-    false≢true (sym (found-none text refusal a.refused (alike k (fields_in line)) (alike-fit k (fields_in line)) none) ∙ any)
+pub repeat-found : (text : List ℕ) (at : ℕ) (k : RecordKind) (line : List ℕ) (earlier : List (Option Record)) (place : Place) → IsAgainst text at code.Repeat k line earlier
+    → IsLastBefore (holds_sought (alike k (fields_in line))) (file_lines text) at (Some place) → FoundRecord text earlier (alike k (fields_in line)) place
+repeat-found text at k line earlier place a last = some-about text at earlier (alike k (fields_in line)) place a.before (alike-fit k (fields_in line)) last
 
-pub repeat-found : (text : List ℕ) (refusal : Refusal) (k : RecordKind) (line : List ℕ) (a : IsAgainst text refusal k line) (place : Place) → IsLastBefore (alike k (fields_in line)) (file_lines text) refusal.at (Some place)
-    → Found text refusal a.refused (alike k (fields_in line)) place
-repeat-found text refusal k line a place last = found-some text refusal a.refused (alike k (fields_in line)) place (alike-fit k (fields_in line)) last
-
-pub collides : (text : List ℕ) (refusal : Refusal) (r : IsRefused (records_of text) refusal) (k : RecordKind) (fields : List (List ℕ)) (place : Place) (f : Found text refusal r (alike k fields) place)
-    → Collides text r.earlier k fields place.number f.now
-collides text refusal r k fields place f = record {
+collides : (text : List ℕ) (earlier : List (Option Record)) (k : RecordKind) (fields : List (List ℕ)) (place : Place) (f : FoundRecord text earlier (alike k fields) place) → Collides text earlier k fields place.number f.now
+collides text earlier k fields place f = record {
   at = f.at;
   is = record { newer = f.newer; older = f.older; whole = f.whole; number = f.number; passes = f.passes; last = f.last };
   line = place.line.now;
   placed = f.placed;
 }
 
-pub risen : (text : List ℕ) (refusal : Refusal) (k : RecordKind) (line : List ℕ) (a : IsAgainst text refusal k line) (place : Place) → refusal.code ≡ code.Repeat → rises k ≡ true
-    → (f : Found text refusal a.refused (alike k (fields_in line)) place) → NotAbove k (fields_in line) (fields_in place.line.now) f.now
-risen text refusal k line a place e up f =
-    not-above k (fields_in line) (fields_in place.line.now) f.older f.newer f.now up (subst (λ rs. is_repeat rs (stated_kind k) (fields_in line) ≡ true) f.whole (fault-as text refusal k line code.Repeat a e))
-    (record { row-is = is-row f.older (fields_in place.line.now) f.now f.is-said; fine = f.fine; passes = f.passes; last = f.last })
+pub risen : (text : List ℕ) (at : ℕ) (k : RecordKind) (line : List ℕ) (earlier : List (Option Record)) (place : Place) → IsAgainst text at code.Repeat k line earlier → rises k ≡ true
+    → (f : FoundRecord text earlier (alike k (fields_in line)) place) → NotAbove k (fields_in line) (fields_in place.line.now) f.now
+risen text at k line earlier place a up f =
+    not-above k (fields_in line) (fields_in place.line.now) (records_in f.older) (records_in f.newer) f.now up
+    (subst (λ rs. is_repeat rs (stated_kind k) (fields_in line) ≡ true) (found-whole text earlier (alike k (fields_in line)) place f) a.fault)
+    (record { word = f.row-is.word; says = f.row-is.says; fine = f.row-is.fine; passes = f.passes; last = sym (any-in (is_about (alike k (fields_in line))) f.newer) ∙ f.last })
 
-pub tells-again : (text : List ℕ) (refusal : Refusal) (k : RecordKind) (line : List ℕ) (a : IsAgainst text refusal k line) (place : Place) (told : Bor (List ℕ)) → told.now ≡ line → refusal.code ≡ code.Repeat → rises k ≡ false
-    → IsLastBefore (alike k (fields_in line)) (file_lines text) refusal.at (Some place) → TellsEarlier text refusal k line (why.Again k told place.number)
-tells-again text refusal k line a place told same e up last =
-    let f = repeat-found text refusal k line a place last in
-    tells-as text refusal k line (why.Again k told place.number) code.Repeat a e (record { once = up; same = refl; whole = ap fields_in same; now = f.now; collides = collides text refusal a.refused k (fields_in line) place f })
+pub tells-again : (text : List ℕ) (at : ℕ) (k : RecordKind) (line : List ℕ) (earlier : List (Option Record)) (place : Place) (told : Bor (List ℕ)) → told.now ≡ line → IsAgainst text at code.Repeat k line earlier → rises k ≡ false
+    → IsLastBefore (holds_sought (alike k (fields_in line))) (file_lines text) at (Some place) → TellsRepeat text earlier k (fields_in line) (why.Again k told place.number)
+tells-again text at k line earlier place told same a up last =
+    let f = repeat-found text at k line earlier place a last in
+    record { once = up; same = refl; whole = ap fields_in same; now = f.now; collides = collides text earlier k (fields_in line) place f }
 
-pub tells-above : (text : List ℕ) (refusal : Refusal) (k : RecordKind) (line : List ℕ) (a : IsAgainst text refusal k line) (place : Place) (found reached : ℕ) → refusal.code ≡ code.Repeat → rises k ≡ true
-    → IsLastBefore (alike k (fields_in line)) (file_lines text) refusal.at (Some place) → count_in 1 600 (field (fields_in line) (rising_place k)) ≡ Some found → count_in 1 600 (field (fields_in place.line.now) (reached_place k)) ≡ Some reached
-    → TellsEarlier text refusal k line (why.NotAbove k found reached place.number)
-tells-above text refusal k line a place found reached e up last one two =
-    let f = repeat-found text refusal k line a place last in
-    let n = risen text refusal k line a place e up f in
+pub tells-above : (text : List ℕ) (at : ℕ) (k : RecordKind) (line : List ℕ) (earlier : List (Option Record)) (place : Place) (found reached : ℕ) → IsAgainst text at code.Repeat k line earlier → rises k ≡ true
+    → IsLastBefore (holds_sought (alike k (fields_in line))) (file_lines text) at (Some place) → count_in 1 600 (field (fields_in line) (rising_place k)) ≡ Some found
+    → count_in 1 600 (field (fields_in place.line.now) (reached_place k)) ≡ Some reached → TellsRepeat text earlier k (fields_in line) (why.NotAbove k found reached place.number)
+tells-above text at k line earlier place found reached a up last one two =
+    let f = repeat-found text at k line earlier place a last in
+    let n = risen text at k line earlier place a up f in
     let same-found : n.found ≡ found = same_Some n.found found (sym n.stands ∙ one) in
     let same-reached : n.risen.reached ≡ reached = same_Some n.risen.reached reached (sym n.risen.stands ∙ two) in
-    tells-as text refusal k line (why.NotAbove k found reached place.number) code.Repeat a e
-    (record { rising = up; same = refl; now = f.now; collides = collides text refusal a.refused k (fields_in line) place f; found-is = one; reached-is = n.risen.is-said ∙ ap Some same-reached; order = omega (arith, n.risen.order, same-found, same-reached) })
+    record { rising = up; same = refl; now = f.now; collides = collides text earlier k (fields_in line) place f; found-is = one; reached-is = n.risen.is-said ∙ ap Some same-reached; order = omega (arith, n.risen.order, same-found, same-reached) }
 
 -- An address that no earlier aircraft has.
-given-of : (address : ℕ) (earlier : List Record) (b : Bool) → list_any (is_about (of-craft kind.Craft address)) earlier ≡ b → is_given earlier address ≡ b
-given-of address earlier b e = given-any address earlier ∙ e
+pub stranger-unknown : (text : List ℕ) (at : ℕ) (earlier : List (Option Record)) (address : ℕ) → AreBefore SaysRow text at earlier → IsLastBefore (holds_sought (of-craft kind.Craft address)) (file_lines text) at None
+    → is_given (records_in earlier) address ≡ false
+stranger-unknown text at earlier address b none = given-any address (records_in earlier) ∙ none-about text at earlier (of-craft kind.Craft address) b (craft-fit address) none
 
-pub stranger-unknown : (text : List ℕ) (refusal : Refusal) (r : IsRefused (records_of text) refusal) (address : ℕ) → IsLastBefore (of-craft kind.Craft address) (file_lines text) refusal.at None → is_given r.earlier address ≡ false
-stranger-unknown text refusal r address none = given-of address r.earlier false (found-none text refusal r (of-craft kind.Craft address) (craft-fit address) none)
+pub stranger-none : (text : List ℕ) (at : ℕ) (earlier : List (Option Record)) (fields : List (List ℕ)) (place : ℕ) (found : List ℕ) (address : ℕ) → AreBefore SaysRow text at earlier → found ≡ field fields place → address_in found ≡ Some address
+    → IsLastBefore (holds_sought (of-craft kind.Craft address)) (file_lines text) at None → IsStrange (records_in earlier) fields place found
+stranger-none text at earlier fields place found address b is spelled none = record { stands = is; address = address; spelled = spelled; unknown = stranger-unknown text at earlier address b none }
 
-pub stranger-none : (text : List ℕ) (refusal : Refusal) (r : IsRefused (records_of text) refusal) (fields : List (List ℕ)) (place : ℕ) (found : List ℕ) (address : ℕ) → found ≡ field fields place → address_in found ≡ Some address
-    → IsLastBefore (of-craft kind.Craft address) (file_lines text) refusal.at None → IsStrange r.earlier fields place found
-stranger-none text refusal r fields place found address is spelled none = record { stands = is; address = address; spelled = spelled; unknown = stranger-unknown text refusal r address none }
-
-pub stranger-some : (text : List ℕ) (refusal : Refusal) (r : IsRefused (records_of text) refusal) (address : ℕ) (place : Place) → IsLastBefore (of-craft kind.Craft address) (file_lines text) refusal.at (Some place) → is_given r.earlier address ≡ true
-stranger-some text refusal r address place some =
-    let f = found-some text refusal r (of-craft kind.Craft address) place (craft-fit address) some in
-    given-of address r.earlier true (any-found r.earlier f.newer f.older f.now (is_about (of-craft kind.Craft address)) f.whole f.passes)
+pub stranger-some : (text : List ℕ) (at : ℕ) (earlier : List (Option Record)) (address : ℕ) (place : Place) → AreBefore SaysRow text at earlier → IsLastBefore (holds_sought (of-craft kind.Craft address)) (file_lines text) at (Some place)
+    → is_given (records_in earlier) address ≡ true
+stranger-some text at earlier address place b some =
+    given-any address (records_in earlier) ∙ found-any text earlier (of-craft kind.Craft address) place (some-about text at earlier (of-craft kind.Craft address) place b (craft-fit address) some)
 
 pub no-stranger : (earlier : List Record) (fields : List (List ℕ)) (place address : ℕ) → address_in (field fields place) ≡ Some address → is_given earlier address ≡ true → is_stranger earlier fields place ≡ false
 no-stranger earlier fields place address e g = rw (e, g) refl
@@ -156,13 +217,7 @@ equal-at earlier fields found (Some a) (Some b) at e f h known =
 pub tells-equal : (earlier : List Record) (fields : List (List ℕ)) (found : List ℕ) → found ≡ field fields 1 → if_pair fields (λ pair. pair.first == pair.second) ≡ true → is_stranger earlier fields 1 ≡ false → TellsEqual earlier fields found
 tells-equal earlier fields found at h known = equal-at earlier fields found (address_in (field fields 1)) (address_in (field fields 2)) at (ap address_in at) refl h known
 
--- Counts.
-pub many-by : (text : List ℕ) (refusal : Refusal) (line : List ℕ) (version : ℕ) (a : IsAgainst text refusal kind.Craft line) → refusal.code ≡ code.Count → IsFormat text version → TellsEarlier text refusal kind.Craft line (why.ManyCrafts version)
-many-by text refusal line version a e format =
-    let same : version_of a.refused.earlier ≡ version = version-is text refusal version a.refused a.some format in
-    let le : most_crafts (version_of a.refused.earlier) ≤ length (crafts_of a.refused.earlier) = leb-true _ _ (fault-as text refusal kind.Craft line code.Count a e) in
-    tells-as text refusal kind.Craft line (why.ManyCrafts version) code.Count a e (refl, sym same, subst (λ v. most_crafts v ≤ length (crafts_of a.refused.earlier)) same le)
-
+-- What is wanting at the end.
 pub end-by : (earlier : List Record) (k : RecordKind) (fields : List (List ℕ)) → is_miscounted earlier (stated_kind k) fields ≡ true → (k ≡ kind.Craft → ⊥) → (k ≡ kind.End) × ((is_none (run_of earlier) || not (list_any is_active (crafts_of earlier))) ≡ true)
 end-by earlier kind.Craft fields h other = absurd (other refl)
 end-by earlier kind.End fields h other = (refl, h)
@@ -183,24 +238,39 @@ none-active None b e h = absurd (false≢true e)
 none-active (Some run) true e h = absurd (false≢true h)
 none-active (Some run) false e h = refl
 
-pub run-none : (text : List ℕ) (refusal : Refusal) (k : RecordKind) (line : List ℕ) (a : IsAgainst text refusal k line) → refusal.code ≡ code.Count → (k ≡ kind.Craft → ⊥) → IsLastBefore (of-kind kind.Run) (file_lines text) refusal.at None
-    → TellsEarlier text refusal k line why.NoRun
-run-none text refusal k line a e other none =
-    let ends = end-by a.refused.earlier k (fields_in line) (fault-as text refusal k line code.Count a e) other in
-    tells-as text refusal k line why.NoRun code.Count a e (ends.0, no-run (run_of a.refused.earlier) (run-any a.refused.earlier ∙ found-none text refusal a.refused (of-kind kind.Run) run-fit none))
+pub run-none : (text : List ℕ) (at : ℕ) (line : List ℕ) (earlier : List (Option Record)) → IsAgainst text at code.Count kind.End line earlier → IsLastBefore (holds_sought (of-kind kind.Run)) (file_lines text) at None
+    → TellsCounted (records_in earlier) kind.End why.NoRun
+run-none text at line earlier a none = (refl, no-run (run_of (records_in earlier)) (run-any (records_in earlier) ∙ none-about text at earlier (of-kind kind.Run) a.before run-fit none))
 
-pub run-some : (text : List ℕ) (refusal : Refusal) (k : RecordKind) (line : List ℕ) (a : IsAgainst text refusal k line) (place : Place) → refusal.code ≡ code.Count → (k ≡ kind.Craft → ⊥)
-    → IsLastBefore (of-kind kind.Run) (file_lines text) refusal.at (Some place) → TellsEarlier text refusal k line why.NoneActive
-run-some text refusal k line a place e other some =
-    let ends = end-by a.refused.earlier k (fields_in line) (fault-as text refusal k line code.Count a e) other in
-    let f = found-some text refusal a.refused (of-kind kind.Run) place run-fit some in
-    let run : is_some (run_of a.refused.earlier) ≡ true = run-any a.refused.earlier ∙ any-found a.refused.earlier f.newer f.older f.now (is_about (of-kind kind.Run)) f.whole f.passes in
-    tells-as text refusal k line why.NoneActive code.Count a e (ends.0, run, none-active (run_of a.refused.earlier) (list_any is_active (crafts_of a.refused.earlier)) run ends.1)
+pub run-some : (text : List ℕ) (at : ℕ) (line : List ℕ) (earlier : List (Option Record)) (place : Place) → IsAgainst text at code.Count kind.End line earlier → IsLastBefore (holds_sought (of-kind kind.Run)) (file_lines text) at (Some place)
+    → TellsCounted (records_in earlier) kind.End why.NoneActive
+run-some text at line earlier place a some =
+    let run : is_some (run_of (records_in earlier)) ≡ true = run-any (records_in earlier) ∙ found-any text earlier (of-kind kind.Run) place (some-about text at earlier (of-kind kind.Run) place a.before run-fit some) in
+    (refl, run, none-active (run_of (records_in earlier)) (list_any is_active (crafts_of (records_in earlier))) run a.fault)
 
-pub many-of : (text : List ℕ) (refusal : Refusal) (k : RecordKind) (line : List ℕ) (version : ℕ) → IsAgainst text refusal k line → k ≡ kind.Craft → refusal.code ≡ code.Count → IsFormat text version → TellsEarlier text refusal k line (why.ManyCrafts version)
+-- One aircraft too many.
+many-by : (text : List ℕ) (refusal : Refusal) (line : List ℕ) (version : ℕ) (a : IsRefusedAgainst text refusal kind.Craft line) → refusal.code ≡ code.Count → IsFormat text version → TellsEarlier text refusal kind.Craft line (why.ManyCrafts version)
+many-by text refusal line version a e format =
+    let same : version_of a.refused.earlier ≡ version = version-is text refusal version a.refused a.some format in
+    let b = refused-against text refusal kind.Craft line code.Count a e in
+    let all : records_in (all_said a.refused.earlier) ≡ a.refused.earlier = in-all a.refused.earlier in
+    let now : version ≡ version_of (records_in (all_said a.refused.earlier)) = sym same ∙ ap version_of (sym all) in
+    let le : most_crafts (version_of (records_in (all_said a.refused.earlier))) ≤ length (crafts_of (records_in (all_said a.refused.earlier))) = leb-true _ _ b.fault in
+    tells-as text refusal kind.Craft line (why.ManyCrafts version) code.Count a e (refl, now, subst (λ v. most_crafts v ≤ length (crafts_of (records_in (all_said a.refused.earlier)))) (sym now) le)
+
+pub many-of : (text : List ℕ) (refusal : Refusal) (k : RecordKind) (line : List ℕ) (version : ℕ) → IsRefusedAgainst text refusal k line → k ≡ kind.Craft → refusal.code ≡ code.Count → IsFormat text version → TellsEarlier text refusal k line (why.ManyCrafts version)
 many-of text refusal k line version a is e format =
-    subst (λ (x : RecordKind). TellsEarlier text refusal x line (why.ManyCrafts version)) (sym is) (many-by text refusal line version (subst (λ (x : RecordKind). IsAgainst text refusal x line) is a) e format)
+    subst (λ (x : RecordKind). TellsEarlier text refusal x line (why.ManyCrafts version)) (sym is) (many-by text refusal line version (subst (λ (x : RecordKind). IsRefusedAgainst text refusal x line) is a) e format)
+
+-- Where it isn't that, the record is the end.
+pub end-of : (text : List ℕ) (refusal : Refusal) (k : RecordKind) (line : List ℕ) (w : _) → IsRefusedAgainst text refusal k line → (k ≡ kind.Craft → ⊥) → refusal.code ≡ code.Count
+    → ((l : List ℕ) (earlier : List (Option Record)) → IsAgainst text refusal.at code.Count kind.End l earlier → TellsCounted (records_in earlier) kind.End w) → TellsEarlier text refusal k line w
+end-of text refusal k line w a other e told =
+    let b = refused-against text refusal k line code.Count a e in
+    let end : k ≡ kind.End = (end-by (records_in (all_said a.refused.earlier)) k (fields_in line) b.fault other).0 in
+    let at-end : IsAgainst text refusal.at code.Count kind.End line (all_said a.refused.earlier) = subst (λ (x : RecordKind). IsAgainst text refusal.at code.Count x line (all_said a.refused.earlier)) end b in
+    tells-as text refusal k line w code.Count a e (subst (λ (x : RecordKind). TellsCounted (records_in (all_said a.refused.earlier)) x w) (sym end) (told line (all_said a.refused.earlier) at-end))
 
 -- What was found, by what it is.
-pub last-as : (text : List ℕ) (refusal : Refusal) (s t : Sought) (found o : Option Place) → s ≡ t → found ≡ o → IsLastBefore s (file_lines text) refusal.at found → IsLastBefore t (file_lines text) refusal.at o
-last-as text refusal s t found o e f last = subst (λ (x : Sought). IsLastBefore x (file_lines text) refusal.at o) e (subst (λ (x : Option Place). IsLastBefore s (file_lines text) refusal.at x) f last)
+pub last-as : (text : List ℕ) (at : ℕ) (s t : Sought) (found o : Option Place) → s ≡ t → found ≡ o → IsLastBefore (holds_sought s) (file_lines text) at found → IsLastBefore (holds_sought t) (file_lines text) at o
+last-as text at s t found o e f last = subst (λ (x : Sought). IsLastBefore (holds_sought x) (file_lines text) at o) e (subst (λ (x : Option Place). IsLastBefore (holds_sought s) (file_lines text) at x) f last)

@@ -13,6 +13,7 @@ pub mod Marked
 pub mod Quoted
 pub mod Said
 pub mod Passing
+pub mod RefusedRows
 pub mod Repeats
 pub mod Rising
 pub mod LastLine

@@ -17,7 +17,7 @@ use Rattle.enc_file.specs.declared.refusal.Code.TheVariants as code
 use Rattle.enc_file.specs.declared.refusal.Refusal.{Refusal}
 use Rattle.fault_text.specs.Lines.{IsPlaced, fields_in, file_lines, is_written, written}
 use Rattle.fault_text.specs.Names.{word_text}
-use Rattle.fault_text.specs.Told.{IsAgainst, IsFormat, IsHeaded, IsNamedAgainst, IsRecord, Tells, TellsAfterEarlier, against_by, stated_kind, stated_kinds}
+use Rattle.fault_text.specs.Told.{IsFormat, IsHeaded, IsNamedAgainst, IsRecord, IsRefusedAgainst, Tells, TellsAfterEarlier, against_by, stated_kind, stated_kinds}
 use Rattle.fault_text.specs.declared.fault.Why.{Why}
 use Rattle.fault_text.specs.declared.names.RecordKind.{RecordKind}
 use Rattle.fault_text.specs.declared.names.RecordKind.TheVariants as kind
@@ -50,7 +50,7 @@ after-headed text refusal h k =
     let g = going (records_of text) refusal r _ (after-fault (records_of text) refusal r refusal.code k r.fault.faulty) in
     headed-by text refusal r g.unfirst
 
-enough-lines : (lines : List (List ℕ)) (at number : ℕ) (line : List ℕ) → IsPlaced lines at number line → at ≤ length (written lines) + 1
+pub enough-lines : (lines : List (List ℕ)) (at number : ℕ) (line : List ℕ) → IsPlaced lines at number line → at ≤ length (written lines) + 1
 enough-lines lines at number line p =
     let parts : written lines ≡ written p.before ++ written (line ∷ p.after) = ap written p.whole ∙ filter-append is_written p.before (line ∷ p.after) in
     omega (arith, p.counted, ap length parts, length-append (written p.before) (written (line ∷ p.after)))
@@ -77,7 +77,7 @@ named-against text refusal line version h k place format =
     }
 
 pub against-as : (text : List ℕ) (refusal : Refusal) (version : ℕ) (line : List ℕ) (a : IsNamedAgainst text refusal version line) (found : Option RecordKind) (kind : RecordKind) → found ≡ Some kind
-    → stated_kinds found ≡ kind_named version (field (fields_in line) 0) → IsAgainst text refusal kind line
+    → stated_kinds found ≡ kind_named version (field (fields_in line) 0) → IsRefusedAgainst text refusal kind line
 against-as text refusal version line a found kind is e = a.against kind (same_Some (stated_kind kind) a.kind (ap stated_kinds (sym is) ∙ e ∙ a.named))
 
 -- The word of a kind that is named.

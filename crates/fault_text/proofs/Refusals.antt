@@ -232,7 +232,7 @@ after-counted text refusal h is =
     let ended = after-fault (records_of text) refusal r (faulty-as (records_of text) refusal r code.After is) in
     omega (arith, r.at, refused-some (records_of text) refusal r ended)
 
-one-field : (line : List ℕ) → fields_in line ≡ codes "end" ∷ [] → line ≡ codes "end"
+pub one-field : (line : List ℕ) → fields_in line ≡ codes "end" ∷ [] → line ≡ codes "end"
 one-field line h = sym (join_with_byte-slice_split 44 line) ∙ ap (join_with_byte 44) h
 
 pub after-at : (text : List ℕ) (refusal : Refusal) (number : ℕ) (line : List ℕ) → reading_of text ≡ Err refusal → refusal.code ≡ code.After → Stands (file_lines text) (refusal.at - 1) number line

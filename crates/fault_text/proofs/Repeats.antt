@@ -6,18 +6,18 @@ use Rattle.std.proofs.Math.Bool.{and-true, or_comm, or-false, or-true}
 use Rattle.std.proofs.lemmas.Bool.{false≢true, eqb-true}
 use Rattle.std.proofs.lemmas.List.Folds.{list_any-append}
 use Rattle.acas_base.specs.declared.craft.CraftSpec.{CraftSpec}
-use Rattle.enc_file.specs.Conditions.{ArePassed, has_climb, if_said, is_fate_since, is_given, is_leg_since, is_miss_until, is_plan_for, is_repeat}
+use Rattle.enc_file.specs.Conditions.{has_climb, if_said, is_fate_since, is_given, is_leg_since, is_miss_until, is_plan_for, is_repeat}
 use Rattle.enc_file.specs.Earlier as gives
 use Rattle.enc_file.specs.Values.{address_in, count_in, field}
 use Rattle.enc_file.specs.declared.record.Addresses.{Addresses}
 use Rattle.enc_file.specs.declared.record.Record.{Record}
 use Rattle.enc_file.specs.declared.record.Record.TheVariants as said
 use Rattle.fault_text.specs.Before.{alike, is_about, reached_said}
-use Rattle.fault_text.specs.Told.{stated_kind}
+use Rattle.fault_text.specs.Names.{stated_kind}
+use Rattle.fault_text.specs.Rows.{AreSaid, SaysRow, records_in}
 use Rattle.fault_text.specs.declared.earlier.Sought.{Sought}
 use Rattle.fault_text.specs.declared.names.RecordKind.{RecordKind}
 use Rattle.fault_text.specs.declared.names.RecordKind.TheVariants as kind
-use Rattle.fault_text.proofs.Said.{IsRow, is-row}
 
 pub any-weaken : (f g : Record → Bool) → ((x : Record) → f x ≡ true → g x ≡ true) → (xs : List Record) → list_any f xs ≡ true → list_any g xs ≡ true
 any-weaken f g more [] h = absurd (false≢true h)
@@ -116,13 +116,22 @@ climb-any a (said.Climb n limit ∷ earlier) bare h = by (n == a) refl (climb-an
   by false e later = later (sym (climbs-other a n limit (gives.crafts_of earlier) e) ∙ h)
 climb-any a (other ∷ earlier) bare h = climb-any a earlier bare h
 
-bare-more : (now : Record) (earlier : List Record) (row : List (List ℕ)) → IsRow row now → AreBare earlier → AreBare (now ∷ earlier)
-bare-more (said.Craft craft) earlier row is bare = (is.says.1, bare)
-bare-more other earlier row is bare = bare
+bare-more : (older earlier : List (Option Record)) (now : Option Record) (row : List (List ℕ)) → SaysRow older row now → AreBare (records_in earlier) → AreBare (records_in (now ∷ earlier))
+bare-more older earlier None row is bare = bare
+bare-more older earlier (Some (said.Craft craft)) row is bare = (is.says.1, bare)
+bare-more older earlier (Some (said.Header version)) row is bare = bare
+bare-more older earlier (Some (said.Run run)) row is bare = bare
+bare-more older earlier (Some (said.Gains gains)) row is bare = bare
+bare-more older earlier (Some (said.Climb address limit)) row is bare = bare
+bare-more older earlier (Some (said.Leg address course)) row is bare = bare
+bare-more older earlier (Some (said.Miss pair from to)) row is bare = bare
+bare-more older earlier (Some (said.Plan pair copies)) row is bare = bare
+bare-more older earlier (Some (said.Fate pair number copies)) row is bare = bare
+bare-more older earlier (Some said.End) row is bare = bare
 
-pub passed-bare : (before : List Record) (rows : List (List (List ℕ))) (all : List Record) → ArePassed before rows all → AreBare before → AreBare all
-passed-bare before [] all passed bare = rw (← passed) bare
-passed-bare before (row ∷ rows) all passed bare = passed-bare (passed.1.0 ∷ before) rows all passed.1.2 (bare-more passed.1.0 before row (is-row before row passed.1.0 passed.1.1) bare)
+pub said-bare : (before : List (Option Record)) (rows : List (List (List ℕ))) (all : List (Option Record)) → AreSaid SaysRow before rows all → AreBare (records_in before) → AreBare (records_in all)
+said-bare before [] all says bare = rw (← says) bare
+said-bare before (row ∷ rows) all says bare = said-bare (says.0 ∷ before) rows all says.2 (bare-more before before says.0 row says.1 bare)
 
 -- A record of a kind and about an aircraft or pair, that reaches a number.
 abbrev pub is_since : Sought → ℕ → Record → Bool

@@ -1,26 +1,22 @@
 -- Records about one aircraft or pair rise. So the last one of them reaches what any of them reaches.
-use Rattle.std.proofs.Common.{◌≡◌, ◌∙◌, ℕ, ◌≤◌, ◌<◌, Bool, true, false, List, [], ◌∷◌, ◌++◌, Option, Some, None, refl, sym, ap, arith, leb-true, subst, eqb-true}
-use Rattle.std.specs.Prelude.{◌==◌, ◌&&◌, ◌||◌, not, nat_le}
+use Rattle.std.proofs.Common.{◌≡◌, ◌∙◌, ℕ, ◌≤◌, ◌<◌, Bool, true, false, List, ◌∷◌, ◌++◌, Option, Some, None, refl, sym, ap, arith, leb-true, subst, eqb-true}
+use Rattle.std.specs.Prelude.{◌==◌, ◌&&◌, ◌||◌, nat_le}
 use Rattle.std.specs.List.{list_any}
 use Rattle.std.proofs.Math.Bool.{and-true}
 use Rattle.std.proofs.lemmas.Bool.{false≢true, leb-false, ltb-false}
 use Rattle.std.proofs.lemmas.Bool.Decides.{nat_tests}
 use Rattle.std.proofs.lemmas.List.Folds.{list_any-append}
-use Rattle.enc_file.specs.Conditions.{HasNoFault, has_fault, if_pair, if_said, is_first, is_repeat, kind_named}
-use Rattle.enc_file.specs.Conditions as stated
-use Rattle.enc_file.specs.Earlier.{has_ended, version_of}
+use Rattle.enc_file.specs.Conditions.{if_said, is_repeat}
 use Rattle.enc_file.specs.Values.{address_in, count_in, field}
 use Rattle.enc_file.specs.declared.record.Record.{Record}
 use Rattle.enc_file.specs.declared.record.Record.TheVariants as said
-use Rattle.enc_file.specs.declared.refusal.Code.TheVariants as code
-use Rattle.fault_text.specs.Before.{alike, is_about, reached_place, reached_said, rises, rising_place}
-use Rattle.fault_text.specs.Names.{word_text}
-use Rattle.fault_text.specs.Told.{stated_kind}
+use Rattle.fault_text.specs.Before.{alike, is_about, reached_place, reached_said, rising_place}
+use Rattle.fault_text.specs.Names.{stated_kind, word_text}
+use Rattle.fault_text.specs.Rows.{Says, rises, word_said}
 use Rattle.fault_text.specs.declared.earlier.Sought.{Sought}
 use Rattle.fault_text.specs.declared.names.RecordKind.{RecordKind}
 use Rattle.fault_text.specs.declared.names.RecordKind.TheVariants as kind
 use Rattle.fault_text.proofs.Repeats.{any-none, any-weaken, fate-rises, fates-since, is_since, leg-rises, legs-since, miss-rises, misses-since, since-about}
-use Rattle.fault_text.proofs.Said.{IsRow}
 
 less-since : (sought : Sought) (start n : ℕ) (now : Record) → start ≤ n → is_since sought n now ≡ true → is_since sought start now ≡ true
 less-since sought start n now le h = by (is_about sought now) (reached_said now) h where
@@ -51,38 +47,27 @@ at-most newer now older sought n start reached any none said-is le fine = by (na
       let le : start ≤ n = omega arith in
       absurd (false≢true (sym fine ∙ any-weaken (is_since sought n) (is_since sought start) (λ x. less-since sought start n x le) older older-any))
 
--- What a record of these kinds says, where nothing is wrong with it.
-not-first : (last : Record) (older : List Record) (row : List (List ℕ)) (k : stated.RecordKind) → HasNoFault (last ∷ older) (Some row) → kind_named (version_of (last ∷ older)) (field row 0) ≡ Some k
-    → is_repeat (last ∷ older) k row ≡ false
-unfolding has_fault
-not-first last older row k fine named =
-    let going : has_ended (last ∷ older) ≡ false = fine code.After in
-    let repeat : (not (has_ended (last ∷ older)) && if_said (kind_named (version_of (last ∷ older)) (field row 0)) (λ k. is_repeat (last ∷ older) k row)) ≡ false = fine code.Repeat in
-    rw (going, named) at repeat
+-- No record of these kinds repeats an earlier one.
+abbrev pub NoneRepeats : List Record → List (List ℕ) → Type 0
+NoneRepeats older row = (of : RecordKind) → rises of ≡ true → word_text of ≡ field row 0 → is_repeat older (stated_kind of) row ≡ false
 
-fine-leg : (older : List Record) (row : List (List ℕ)) (a n : ℕ) → HasNoFault older (Some row) → field row 0 ≡ word_text kind.Leg → address_in (field row 1) ≡ Some a → count_in 1 600 (field row 2) ≡ Some n
+fine-leg : (older : List Record) (row : List (List ℕ)) (a n : ℕ) → NoneRepeats older row → field row 0 ≡ word_text kind.Leg → address_in (field row 1) ≡ Some a → count_in 1 600 (field row 2) ≡ Some n
     → list_any (is_since (record { kind = kind.Leg; first = Some a; second = None }) n) older ≡ false
-fine-leg [] row a n fine word one two = refl
-fine-leg (last ∷ older) row a n fine word one two =
-    let named : kind_named (version_of (last ∷ older)) (field row 0) ≡ Some stated.LegKind = rw word refl in
-    let repeat = not-first last older row stated.LegKind fine named in
-    sym (legs-since a n (last ∷ older)) ∙ rw (one, two) at repeat
+fine-leg older row a n fine word one two =
+    let repeat = fine kind.Leg refl (sym word) in
+    sym (legs-since a n older) ∙ rw (one, two) at repeat
 
-fine-miss : (older : List Record) (row : List (List ℕ)) (a b n : ℕ) → HasNoFault older (Some row) → field row 0 ≡ word_text kind.Miss → address_in (field row 1) ≡ Some a → address_in (field row 2) ≡ Some b → count_in 1 600 (field row 3) ≡ Some n
+fine-miss : (older : List Record) (row : List (List ℕ)) (a b n : ℕ) → NoneRepeats older row → field row 0 ≡ word_text kind.Miss → address_in (field row 1) ≡ Some a → address_in (field row 2) ≡ Some b → count_in 1 600 (field row 3) ≡ Some n
     → list_any (is_since (record { kind = kind.Miss; first = Some a; second = Some b }) n) older ≡ false
-fine-miss [] row a b n fine word one two three = refl
-fine-miss (last ∷ older) row a b n fine word one two three =
-    let named : kind_named (version_of (last ∷ older)) (field row 0) ≡ Some stated.MissKind = rw word refl in
-    let repeat = not-first last older row stated.MissKind fine named in
-    sym (misses-since (record { first = a; second = b }) n (last ∷ older)) ∙ rw (one, two, three) at repeat
+fine-miss older row a b n fine word one two three =
+    let repeat = fine kind.Miss refl (sym word) in
+    sym (misses-since (record { first = a; second = b }) n older) ∙ rw (one, two, three) at repeat
 
-fine-fate : (older : List Record) (row : List (List ℕ)) (a b n : ℕ) → HasNoFault older (Some row) → field row 0 ≡ word_text kind.Fate → address_in (field row 1) ≡ Some a → address_in (field row 2) ≡ Some b → count_in 1 600 (field row 3) ≡ Some n
+fine-fate : (older : List Record) (row : List (List ℕ)) (a b n : ℕ) → NoneRepeats older row → field row 0 ≡ word_text kind.Fate → address_in (field row 1) ≡ Some a → address_in (field row 2) ≡ Some b → count_in 1 600 (field row 3) ≡ Some n
     → list_any (is_since (record { kind = kind.Fate; first = Some a; second = Some b }) n) older ≡ false
-fine-fate [] row a b n fine word one two three = refl
-fine-fate (last ∷ older) row a b n fine word one two three =
-    let named : kind_named (version_of (last ∷ older)) (field row 0) ≡ Some stated.FateKind = rw word refl in
-    let repeat = not-first last older row stated.FateKind fine named in
-    sym (fates-since (record { first = a; second = b }) n (last ∷ older)) ∙ rw (one, two, three) at repeat
+fine-fate older row a b n fine word one two three =
+    let repeat = fine kind.Fate refl (sym word) in
+    sym (fates-since (record { first = a; second = b }) n older) ∙ rw (one, two, three) at repeat
 
 -- The last record about the same, and the number that it reaches.
 pub record Risen (k : RecordKind) (fields row : List (List ℕ)) (now : Record) (found : ℕ) : Type 0 where
@@ -93,8 +78,9 @@ pub record Risen (k : RecordKind) (fields row : List (List ℕ)) (now : Record) 
 
 -- What was found, where the record rises.
 pub record Behind (sought : Sought) (row : List (List ℕ)) (older newer : List Record) (now : Record) : Type 0 where
-  pub row-is : IsRow row now
-  pub fine : HasNoFault older (Some row)
+  pub word : field row 0 ≡ word_said now
+  pub says : Says row now
+  pub fine : NoneRepeats older row
   pub passes : is_about sought now ≡ true
   pub last : list_any (is_about sought) newer ≡ false
 
@@ -102,8 +88,8 @@ leg-risen : (fields row : List (List ℕ)) (older newer : List Record) (now : Re
     → list_any (is_since (record { kind = kind.Leg; first = Some a; second = None }) n) (newer ++ now ∷ older) ≡ true → Risen kind.Leg fields row now n
 leg-risen fields row older newer (said.Leg b course) a n f any =
     let same : b ≡ a = eqb-true b a (sym (and-true (b == a)) ∙ f.passes) in
-    let begins = f.row-is.says.1 in
-    let fine = fine-leg older row a course.from f.fine f.row-is.word (f.row-is.says.0 ∙ ap Some same) begins in
+    let begins = f.says.1 in
+    let fine = fine-leg older row a course.from f.fine f.word (f.says.0 ∙ ap Some same) begins in
     record { reached = course.from; is-said = refl; stands = begins; order = at-most newer (said.Leg b course) older (record { kind = kind.Leg; first = Some a; second = None }) n course.from course.from any f.last refl (omega arith) fine }
 leg-risen fields row older newer other a n f any = absurd (false≢true f.passes)
 
@@ -117,8 +103,8 @@ miss-risen : (fields row : List (List ℕ)) (older newer : List Record) (now : R
     → list_any (is_since (record { kind = kind.Miss; first = Some a; second = Some b }) n) (newer ++ now ∷ older) ≡ true → Risen kind.Miss fields row now n
 miss-risen fields row older newer (said.Miss pair from to) a b n f any =
     let same = both-equal pair.first a pair.second b f.passes in
-    let says = f.row-is.says in
-    let fine = fine-miss older row a b from f.fine f.row-is.word (says.0.0 ∙ ap Some same.0) (says.0.1 ∙ ap Some same.1) says.1 in
+    let says = f.says in
+    let fine = fine-miss older row a b from f.fine f.word (says.0.0 ∙ ap Some same.0) (says.0.1 ∙ ap Some same.1) says.1 in
     let le : from ≤ to = ltb-false to from says.3 in
     record { reached = to; is-said = refl; stands = says.2; order = at-most newer (said.Miss pair from to) older (record { kind = kind.Miss; first = Some a; second = Some b }) n from to any f.last refl le fine }
 miss-risen fields row older newer other a b n f any = absurd (false≢true f.passes)
@@ -127,8 +113,8 @@ fate-risen : (fields row : List (List ℕ)) (older newer : List Record) (now : R
     → list_any (is_since (record { kind = kind.Fate; first = Some a; second = Some b }) n) (newer ++ now ∷ older) ≡ true → Risen kind.Fate fields row now n
 fate-risen fields row older newer (said.Fate pair number copies) a b n f any =
     let same = both-equal pair.first a pair.second b f.passes in
-    let says = f.row-is.says in
-    let fine = fine-fate older row a b number f.fine f.row-is.word (says.0.0 ∙ ap Some same.0) (says.0.1 ∙ ap Some same.1) says.1 in
+    let says = f.says in
+    let fine = fine-fate older row a b number f.fine f.word (says.0.0 ∙ ap Some same.0) (says.0.1 ∙ ap Some same.1) says.1 in
     record { reached = number; is-said = refl; stands = says.1; order = at-most newer (said.Fate pair number copies) older (record { kind = kind.Fate; first = Some a; second = Some b }) n number number any f.last refl (omega arith) fine }
 fate-risen fields row older newer other a b n f any = absurd (false≢true f.passes)
 

@@ -16,24 +16,12 @@ use Rattle.enc_file.specs.declared.record.Run.{Run}
 use Rattle.enc_file.specs.declared.record.TrackGains.{TrackGains}
 use Rattle.enc_file.specs.declared.refusal.Code.{Code}
 use Rattle.enc_file.specs.declared.refusal.Code.TheVariants as code
-use Rattle.fault_text.specs.Before.{are_about, has_first, has_second, is_about, is_asked, word_said}
+use Rattle.fault_text.specs.Before.{are_about, has_first, has_second, is_about, is_about_in, is_asked}
+use Rattle.fault_text.specs.Rows.{IsNoKind, IsRow, Says, SaysRow, word_said}
 use Rattle.fault_text.specs.Names.{word_text}
 use Rattle.fault_text.specs.declared.earlier.Sought.{Sought}
 use Rattle.fault_text.specs.declared.names.RecordKind.{RecordKind}
 use Rattle.fault_text.specs.declared.names.RecordKind.TheVariants as kind
-
-abbrev pub SaysPair : List (List ℕ) → ℕ → ℕ → Type 0
-SaysPair row first second = (address_in (field row 1) ≡ Some first) × (address_in (field row 2) ≡ Some second)
-
--- What some fields are, by what was read of them.
-abbrev pub Says : List (List ℕ) → Record → Type 0
-Says row (said.Craft craft) = (address_in (field row 1) ≡ Some craft.address) × (craft.ceiling ≡ None)
-Says row (said.Climb address limit) = address_in (field row 1) ≡ Some address
-Says row (said.Leg address course) = (address_in (field row 1) ≡ Some address) × (count_in 1 600 (field row 2) ≡ Some course.from)
-Says row (said.Miss pair from to) = SaysPair row pair.first pair.second × (count_in 1 600 (field row 3) ≡ Some from) × (count_in 1 600 (field row 4) ≡ Some to) × (nat_lt to from ≡ false)
-Says row (said.Plan pair copies) = SaysPair row pair.first pair.second
-Says row (said.Fate pair number copies) = SaysPair row pair.first pair.second × (count_in 1 600 (field row 3) ≡ Some number)
-Says row other = Unit {0}
 
 -- A record with this word was read, or none was.
 As : List ℕ → List (List ℕ) → Result Record Code → Type 0
@@ -177,18 +165,22 @@ said-as : (earlier : List Record) (row : List (List ℕ)) → As (field row 0) r
 said-as [] row = header-as row
 said-as (last ∷ earlier) row = record-as (version_of (last ∷ earlier)) row
 
-pub record IsRow (row : List (List ℕ)) (now : Record) : Type 0 where
+pub record WasRead (row : List (List ℕ)) (now : Record) : Type 0 where
   pub word : field row 0 ≡ word_said now
   pub says : Says row now
 
-row-by : (row : List (List ℕ)) (r : Result Record Code) (now : Record) → As (field row 0) row r → r ≡ Ok now → IsRow row now
+row-by : (row : List (List ℕ)) (r : Result Record Code) (now : Record) → As (field row 0) row r → r ≡ Ok now → WasRead row now
 unfolding As
 row-by row (Err why) now h e = absurd (cc e)
 row-by row (Ok other) now h e =
     let same : other ≡ now = cc e in
     rw (← same) (record { word = h.0; says = h.1 })
 
-pub is-row : (earlier : List Record) (row : List (List ℕ)) (now : Record) → said_by earlier row ≡ Ok now → IsRow row now
+-- The same of a record that is read by itself, in a format.
+pub was-read : (version : ℕ) (row : List (List ℕ)) (now : Record) → record_of version row ≡ Ok now → WasRead row now
+was-read version row now e = row-by row (record_of version row) now (record-as version row) e
+
+pub is-row : (earlier : List Record) (row : List (List ℕ)) (now : Record) → said_by earlier row ≡ Ok now → WasRead row now
 is-row earlier row now e = row-by row (said_by earlier row) now (said-as earlier row) e
 
 -- A record is about what is asked for exactly where its fields are.
@@ -228,7 +220,7 @@ end-first kind.Gains h = (refl, refl)
 end-first kind.End h = (refl, refl)
 end-first other h = absurd (false≢true h)
 
-encounter-none : (k : RecordKind) (x : Bool) → (bytes_eq (codes "encounter") (word_text k) && x) ≡ false
+pub encounter-none : (k : RecordKind) (x : Bool) → (bytes_eq (codes "encounter") (word_text k) && x) ≡ false
 encounter-none kind.Run x = refl
 encounter-none other x = refl
 
@@ -284,7 +276,22 @@ about-by sought row (said.Plan pair copies) fit says = two-about sought (codes "
 about-by sought row (said.Fate pair number copies) fit says = two-about sought (codes "fate") pair.first pair.second _ _ says.0.0 says.0.1
 about-by sought row said.End fit says = none-about sought (codes "end") _ _ fit (end-first sought.kind)
 
-pub about-same : (sought : Sought) (earlier : List Record) (row : List (List ℕ)) (now : Record) → IsFit sought → said_by earlier row ≡ Ok now → are_about sought row ≡ is_about sought now
-about-same sought earlier row now fit e =
-    let is = is-row earlier row now e in
-    word-same sought row now is.word ∙ about-by sought row now fit is.says
+no-kind : (sought : Sought) (row : List (List ℕ)) (x : Bool) → IsNoKind row → (bytes_eq (field row 0) (word_text sought.kind) && x) ≡ false
+no-kind sought row x none = rw (none sought.kind) refl
+
+row-same : (sought : Sought) (older : List (Option Record)) (row : List (List ℕ)) (now : Record) → IsFit sought → IsRow older row now → are_about sought row ≡ is_about sought now
+row-same sought older row now fit is = word-same sought row now is.word ∙ about-by sought row now fit is.says
+
+-- A row is about what is asked for exactly where it says such a record.
+pub about-same : (sought : Sought) (older : List (Option Record)) (row : List (List ℕ)) (now : Option Record) → IsFit sought → SaysRow older row now → are_about sought row ≡ is_about_in sought now
+about-same sought older row None fit is = no-kind sought row _ is
+about-same sought older row (Some (said.Header version)) fit is = no-kind sought row _ is ∙ sym (encounter-none sought.kind _)
+about-same sought older row (Some (said.Run run)) fit is = row-same sought older row (said.Run run) fit is
+about-same sought older row (Some (said.Gains gains)) fit is = row-same sought older row (said.Gains gains) fit is
+about-same sought older row (Some (said.Craft craft)) fit is = row-same sought older row (said.Craft craft) fit is
+about-same sought older row (Some (said.Climb address limit)) fit is = row-same sought older row (said.Climb address limit) fit is
+about-same sought older row (Some (said.Leg address course)) fit is = row-same sought older row (said.Leg address course) fit is
+about-same sought older row (Some (said.Miss pair from to)) fit is = row-same sought older row (said.Miss pair from to) fit is
+about-same sought older row (Some (said.Plan pair copies)) fit is = row-same sought older row (said.Plan pair copies) fit is
+about-same sought older row (Some (said.Fate pair number copies)) fit is = row-same sought older row (said.Fate pair number copies) fit is
+about-same sought older row (Some said.End) fit is = row-same sought older row said.End fit is

@@ -10,8 +10,8 @@ use Rattle.enc_file.specs.Conditions.{if_said, is_count_wrong, is_number_wrong, 
 use Rattle.enc_file.specs.Values.{count_in, field, mask_in, number_in}
 use Rattle.enc_file.specs.declared.refusal.Code.{Code}
 use Rattle.enc_file.specs.declared.refusal.Code.TheVariants as code
-use Rattle.fault_text.specs.Names.{content_of, copy_names, fails, first_failing, many_bits, names_of}
-use Rattle.fault_text.specs.Told.{IsLeftmost, TellsNumber, TellsTurned, stated_kind}
+use Rattle.fault_text.specs.Names.{content_of, copy_names, fails, first_failing, many_bits, names_of, stated_kind}
+use Rattle.fault_text.specs.Told.{IsLeftmost, TellsNumber, TellsTurned}
 use Rattle.fault_text.specs.declared.fault.Why.{Why}
 use Rattle.fault_text.specs.declared.fault.Why.TheVariants as why
 use Rattle.fault_text.specs.declared.names.Content.{Content}
@@ -23,15 +23,15 @@ use Rattle.fault_text.specs.declared.names.RecordKind.TheVariants as kind
 use Rattle.fault_text.proofs.FirstFailing.{no-fields}
 
 -- None of the fields from a place on fails: the next one doesn't, and none of the others.
-record NoneNext (c : Code) (n : FieldName) (ns : List FieldName) (fields : List (List ℕ)) (k : ℕ) : Type 0 where
-  here : fails c n (field fields k) ≡ false
-  later : first_failing c ns (drop (suc k) fields) ≡ None
+pub record NoneNext (c : Code) (n : FieldName) (ns : List FieldName) (fields : List (List ℕ)) (k : ℕ) : Type 0 where
+  pub here : fails c n (field fields k) ≡ false
+  pub later : first_failing c ns (drop (suc k) fields) ≡ None
 
 none-first : (c : Code) (n : FieldName) (ns : List FieldName) (f : List ℕ) (fs : List (List ℕ)) (b : Bool) → fails c n f ≡ b → cond b (Some (n, f)) (first_failing c ns fs) ≡ None → (fails c n f ≡ false) × (first_failing c ns fs ≡ None)
 none-first c n ns f fs true is h = absurd (cc h)
 none-first c n ns f fs false is h = (is, h)
 
-none-next : (c : Code) (n : FieldName) (ns : List FieldName) (fields : List (List ℕ)) (k : ℕ) → k < length fields → first_failing c (n ∷ ns) (drop k fields) ≡ None → NoneNext c n ns fields k
+pub none-next : (c : Code) (n : FieldName) (ns : List FieldName) (fields : List (List ℕ)) (k : ℕ) → k < length fields → first_failing c (n ∷ ns) (drop k fields) ≡ None → NoneNext c n ns fields k
 none-next c n ns [] k h none = absurd (omega (arith, h))
 none-next c n ns (f ∷ fs) zero h none =
     let parts = none-first c n ns f fs (fails c n f) refl none in
@@ -41,7 +41,7 @@ none-next c n ns (f ∷ fs) (suc k) h none =
     record { here = next.here; later = next.later }
 
 -- How many fields there are.
-one-count : (n k : ℕ) → not (list_any (λ m. n == m) (k ∷ [])) ≡ false → n ≡ k
+pub one-count : (n k : ℕ) → not (list_any (λ m. n == m) (k ∷ [])) ≡ false → n ≡ k
 one-count n k h = at (n == k) refl h where
   at : (b : Bool) → (n == k) ≡ b → not (b || false) ≡ false → n ≡ k
   at true is e = eqb-true n k is
@@ -95,7 +95,7 @@ pub record IsTurned (of : RecordKind) (fields : List (List ℕ)) : Type 0 where
   pub miss : of ≡ kind.Miss
   pub turned : is_turned fields 3 4 ≡ true
 
-none-wrong : {X : Type 0} (b : Bool) → b ≡ false → b ≡ true → X
+pub none-wrong : {X : Type 0} (b : Bool) → b ≡ false → b ≡ true → X
 none-wrong b fine is = absurd (false≢true (sym fine ∙ is))
 
 or-two : (a b : Bool) → a ≡ false → b ≡ false → (a || b) ≡ false
@@ -104,7 +104,7 @@ or-two a b e f = rw (e, f) refl
 or-three : (a b c : Bool) → a ≡ false → b ≡ false → c ≡ false → (a || (b || c)) ≡ false
 or-three a b c e f g = rw (e, f, g) refl
 
-or-four : (a b c d : Bool) → a ≡ false → b ≡ false → c ≡ false → d ≡ false → (a || (b || (c || d))) ≡ false
+pub or-four : (a b c d : Bool) → a ≡ false → b ≡ false → c ≡ false → d ≡ false → (a || (b || (c || d))) ≡ false
 or-four a b c d e f g h = rw (e, f, g, h) refl
 
 or-last : (a b c : Bool) → a ≡ false → b ≡ false → (a || (b || c)) ≡ true → c ≡ true
@@ -201,7 +201,7 @@ pub mask-found : (names : List FieldName) (fields : List (List ℕ)) (n : FieldN
 mask-found names fields n found h e = masked-content (content_of n) found (found-fails code.Mask names fields n found h) e
 
 -- What is told of the cycles of a miss is told of its numbers.
-pub turned-number : (of : RecordKind) (line : List ℕ) (w : Why) → IsLeftmost code.Number of line None → of ≡ kind.Miss → TellsTurned line w → TellsNumber of line w
+pub turned-number : (of : RecordKind) (line : List ℕ) (w : Why) → IsLeftmost code.Number (names_of of) line None → of ≡ kind.Miss → TellsTurned line w → TellsNumber of line w
 turned-number of line (why.Turned from to) none miss told = (none, miss, told)
 turned-number of line why.NoRecord none miss told = absurd told
 turned-number of line (why.NoHeader found) none miss told = absurd told

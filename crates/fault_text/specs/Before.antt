@@ -1,5 +1,5 @@
 -- What the records before a refused one say.
-use Rattle.std.specs.Prelude.{◌≡◌, ℕ, ◌+◌, ◌-◌, ◌≤◌, ◌⊎◌, ◌==◌, ◌&&◌, Bool, true, false, List, ◌∷◌, ◌++◌, codes, length, Option, Some, None, MatchOption, is_some, slice_get}
+use Rattle.std.specs.Prelude.{◌≡◌, ℕ, ◌+◌, ◌-◌, ◌≤◌, ◌⊎◌, ◌==◌, ◌&&◌, Bool, true, false, List, ◌∷◌, ◌++◌, length, Option, Some, None, MatchOption, is_some, slice_get}
 use Rattle.std.specs.List.{list_any}
 use Rattle.std.specs.Str.{bytes_eq}
 use Rattle.acas_base.specs.Encounter.{is_active, most_crafts}
@@ -10,6 +10,7 @@ use Rattle.enc_file.specs.declared.record.Record.{Record}
 use Rattle.enc_file.specs.declared.record.Record.TheVariants as said
 use Rattle.fault_text.specs.Lines.{IsPlaced, fields_in, file_lines, is_written, written}
 use Rattle.fault_text.specs.Names.{names_of, word_text}
+use Rattle.fault_text.specs.Rows.{rises, word_said}
 use Rattle.fault_text.specs.declared.earlier.Sought.{Sought}
 use Rattle.fault_text.specs.declared.fault.Why.{Why}
 use Rattle.fault_text.specs.declared.fault.Why.TheVariants as why
@@ -17,19 +18,6 @@ use Rattle.fault_text.specs.declared.lines.Place.{Place}
 use Rattle.fault_text.specs.declared.names.FieldName.{FieldName}
 use Rattle.fault_text.specs.declared.names.RecordKind.{RecordKind}
 use Rattle.fault_text.specs.declared.names.RecordKind.TheVariants as kind
-
--- The word of a record.
-abbrev pub word_said : Record → List ℕ
-word_said (said.Header version) = codes "encounter"
-word_said (said.Run run) = codes "run"
-word_said (said.Gains gains) = codes "gains"
-word_said (said.Craft craft) = codes "craft"
-word_said (said.Climb address limit) = codes "climb"
-word_said (said.Leg address course) = codes "leg"
-word_said (said.Miss pair from to) = codes "miss"
-word_said (said.Plan pair copies) = codes "plan"
-word_said (said.Fate pair number copies) = codes "fate"
-word_said said.End = codes "end"
 
 -- The address that a record says first, and the one that it says second.
 abbrev pub first_said : Record → Option ℕ
@@ -88,43 +76,47 @@ address_if false found = None
 abbrev pub alike : RecordKind → List (List ℕ) → Sought
 alike kind fields = record { kind = kind; first = address_if (has_first kind) (field fields 1); second = address_if (has_second kind) (field fields 2) }
 
--- The last line of these that holds a record that is sought, and its number, from 1. With None there is no such line.
 abbrev pub holds_sought : Sought → List ℕ → Bool
 holds_sought sought line = are_about sought (fields_in line)
 
-pub record IsLastLine (sought : Sought) (lines : List (List ℕ)) (place : Place) : Type 0 where
+-- The last line of these that holds a record and passes a test, and its number, from 1. With None there is no such line.
+pub record IsLastLine (holds : List ℕ → Bool) (lines : List (List ℕ)) (place : Place) : Type 0 where
   pub before : List (List ℕ)
   pub after : List (List ℕ)
   pub whole : lines ≡ before ++ place.line.now ∷ after
   pub number : place.number ≡ length before + 1
   pub full : is_written place.line.now ≡ true
-  pub holds : holds_sought sought place.line.now ≡ true
-  pub last : list_any (holds_sought sought) (written after) ≡ false
+  pub passes : holds place.line.now ≡ true
+  pub last : list_any holds (written after) ≡ false
 
-abbrev pub IsLastIn : Sought → List (List ℕ) → Option Place → Type 0
-IsLastIn sought lines found = MatchOption found (list_any (holds_sought sought) (written lines) ≡ false) (IsLastLine sought lines)
+abbrev pub IsLastIn : (List ℕ → Bool) → List (List ℕ) → Option Place → Type 0
+IsLastIn holds lines found = MatchOption found (list_any holds (written lines) ≡ false) (IsLastLine holds lines)
 
 -- The same of the records before the one with a number.
-pub record IsLastBefore (sought : Sought) (lines : List (List ℕ)) (at : ℕ) (found : Option Place) : Type 0 where
+pub record IsLastBefore (holds : List ℕ → Bool) (lines : List (List ℕ)) (at : ℕ) (found : Option Place) : Type 0 where
   pub before : List (List ℕ)
   pub after : List (List ℕ)
   pub whole : lines ≡ before ++ after
   pub count : length (written before) + 1 ≡ at
-  pub last : IsLastIn sought before found
+  pub last : IsLastIn holds before found
 
--- The last of some records that passes a test, and its number, from 1. The newest record stands first.
-pub record IsLast (earlier : List Record) (test : Record → Bool) (at : ℕ) (now : Record) : Type 0 where
-  pub newer : List Record
-  pub older : List Record
+-- The last of some things that passes a test, and its number, from 1. The newest stands first.
+pub record IsLast {X : Type 0} (earlier : List X) (test : X → Bool) (at : ℕ) (now : X) : Type 0 where
+  pub newer : List X
+  pub older : List X
   pub whole : earlier ≡ newer ++ now ∷ older
   pub number : at ≡ length older + 1
   pub passes : test now ≡ true
   pub last : list_any test newer ≡ false
 
+-- The same of what a record says, where it is a record of an encounter.
+abbrev pub is_about_in : Sought → Option Record → Bool
+is_about_in sought now = if_said now (is_about sought)
+
 -- The last earlier record of the same kind, about the same aircraft or pair. It stands in the line with this number.
-pub record Collides (text : List ℕ) (earlier : List Record) (kind : RecordKind) (fields : List (List ℕ)) (number : ℕ) (now : Record) : Type 0 where
+pub record Collides (text : List ℕ) (earlier : List (Option Record)) (kind : RecordKind) (fields : List (List ℕ)) (number : ℕ) (now : Record) : Type 0 where
   pub at : ℕ
-  pub is : IsLast earlier (is_about (alike kind fields)) at now
+  pub is : IsLast earlier (is_about_in (alike kind fields)) at (Some now)
   pub line : List ℕ
   pub placed : IsPlaced (file_lines text) at number line
 
@@ -139,22 +131,16 @@ reached_place kind.Leg = 2
 reached_place kind.Miss = 4
 reached_place other = 3
 
-abbrev pub rises : RecordKind → Bool
-rises kind.Leg = true
-rises kind.Miss = true
-rises kind.Fate = true
-rises other = false
-
 -- Of some kinds there is one record alone, or one about each aircraft or pair. Of the other kinds each record about an
 -- aircraft or pair has to exceed the one before.
-pub record TellsAgain (text : List ℕ) (earlier : List Record) (kind : RecordKind) (fields : List (List ℕ)) (named : RecordKind) (told : List (List ℕ)) (number : ℕ) : Type 0 where
+pub record TellsAgain (text : List ℕ) (earlier : List (Option Record)) (kind : RecordKind) (fields : List (List ℕ)) (named : RecordKind) (told : List (List ℕ)) (number : ℕ) : Type 0 where
   pub once : rises kind ≡ false
   pub same : named ≡ kind
   pub whole : told ≡ fields
   pub now : Record
   pub collides : Collides text earlier kind fields number now
 
-pub record TellsNotAbove (text : List ℕ) (earlier : List Record) (kind : RecordKind) (fields : List (List ℕ)) (named : RecordKind) (found reached number : ℕ) : Type 0 where
+pub record TellsNotAbove (text : List ℕ) (earlier : List (Option Record)) (kind : RecordKind) (fields : List (List ℕ)) (named : RecordKind) (found reached number : ℕ) : Type 0 where
   pub rising : rises kind ≡ true
   pub same : named ≡ kind
   pub now : Record
@@ -163,7 +149,7 @@ pub record TellsNotAbove (text : List ℕ) (earlier : List Record) (kind : Recor
   pub reached-is : reached_said now ≡ Some reached
   pub order : found ≤ reached
 
-abbrev pub TellsRepeat : List ℕ → List Record → RecordKind → List (List ℕ) → Why → Type 0
+abbrev pub TellsRepeat : List ℕ → List (Option Record) → RecordKind → List (List ℕ) → Why → Type 0
 TellsRepeat text earlier kind fields (why.Again of line number) = TellsAgain text earlier kind fields of (fields_in line.now) number
 TellsRepeat text earlier kind fields (why.NotAbove of found reached number) = TellsNotAbove text earlier kind fields of found reached number
 TellsRepeat text earlier kind fields other = ⊥

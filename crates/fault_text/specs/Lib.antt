@@ -1,6 +1,7 @@
 pub mod Lines
 pub mod Shown
 pub mod Names
+pub mod Rows
 pub mod Told
 pub mod Hints
 pub mod Sentences

@@ -1,6 +1,7 @@
 -- The fields of the records, by name, and what has to stand in them.
-use Rattle.std.specs.Prelude.{ℕ, nat_lt, Bool, false, pos, neg_ℤ, List, [], ◌∷◌, codes, count_ones, find, Option, is_none}
+use Rattle.std.specs.Prelude.{ℕ, nat_lt, Bool, false, pos, neg_ℤ, List, [], ◌∷◌, codes, count_ones, find, option_map, Option, is_none}
 use Rattle.std.specs.List.{zip}
+use Rattle.enc_file.specs.Conditions as stated
 use Rattle.enc_file.specs.Conditions.{if_said}
 use Rattle.enc_file.specs.Values.{address_in, kind_in, mask_in, number_in}
 use Rattle.enc_file.specs.declared.refusal.Code.{Code}
@@ -22,6 +23,21 @@ word_text kind.Miss = codes "miss"
 word_text kind.Plan = codes "plan"
 word_text kind.Fate = codes "fate"
 word_text kind.End = codes "end"
+
+-- A kind of record, as the conditions of the codes name it.
+abbrev pub stated_kind : RecordKind → stated.RecordKind
+stated_kind kind.Run = stated.RunKind
+stated_kind kind.Gains = stated.GainsKind
+stated_kind kind.Craft = stated.CraftKind
+stated_kind kind.Climb = stated.ClimbKind
+stated_kind kind.Leg = stated.LegKind
+stated_kind kind.Miss = stated.MissKind
+stated_kind kind.Plan = stated.PlanKind
+stated_kind kind.Fate = stated.FateKind
+stated_kind kind.End = stated.EndKind
+
+abbrev pub stated_kinds : Option RecordKind → Option stated.RecordKind
+stated_kinds found = option_map stated_kind found
 
 abbrev pub name_text : FieldName → List ℕ
 name_text name.Cycles = codes "CYCLES"
@@ -46,6 +62,8 @@ name_text name.Receiver = codes "RECEIVER"
 name_text name.Number = codes "NUMBER"
 name_text name.Hold = codes "HOLD"
 name_text name.Mask = codes "MASK"
+name_text name.Ms = codes "MS"
+name_text name.Z = codes "Z"
 
 -- A number from `low` to `high`, or from `-low` to `high`.
 abbrev pub up_from : ℕ → ℕ → Content
@@ -77,6 +95,8 @@ content_of name.Receiver = content.Address
 content_of name.Number = up_from 1 600
 content_of name.Hold = up_from 0 60
 content_of name.Mask = content.Mask
+content_of name.Ms = around 1000000 1000000
+content_of name.Z = around 60000 3600000
 
 -- The fields after the first one. Where a record has copies, the fields of three copies stand at the end.
 abbrev pub copy_names : List FieldName

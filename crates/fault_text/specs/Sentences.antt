@@ -31,6 +31,8 @@ unit_text name.Limit = codes " ft"
 unit_text name.Vx = codes " ft/s"
 unit_text name.Vy = codes " ft/s"
 unit_text name.Vz = codes " ft/min"
+unit_text name.Ms = codes " ms"
+unit_text name.Z = codes ", in 1/60 ft"
 unit_text other = []
 
 abbrev pub range_text : ℤ → ℤ → List ℕ
@@ -72,8 +74,12 @@ no_kind_text version found =
 abbrev pub fields_text : ℕ → List ℕ
 fields_text count = if count == 1 then codes " field here, and has to be " else codes " fields here, and has to be "
 
+-- A record that begins with this word hasn't so many fields, and has to have this form.
+abbrev pub count_text : List ℕ → ℕ → List ℕ → List ℕ
+count_text word count form = word ++ codes " has " ++ decimal count ++ fields_text count ++ form
+
 abbrev pub field_count_text : RecordKind → ℕ → List ℕ
-field_count_text of count = word_text of ++ codes " has " ++ decimal count ++ fields_text count ++ form_text of
+field_count_text of count = count_text (word_text of) count (form_text of)
 
 -- A field and what stands there.
 abbrev pub found_text : FieldName → List ℕ → List ℕ

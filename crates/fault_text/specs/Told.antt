@@ -1,6 +1,6 @@
 -- What is told of a refusal: in which line the record stands, and what is wrong with it.
 use Rattle.std.specs.Borrow.{Bor}
-use Rattle.std.specs.Prelude.{◌≡◌, ℕ, ◌+◌, ◌-◌, ◌≤◌, ◌<◌, Bool, false, true, List, [], length, drop, count_ones, option_map, Option, Some, None, codes, slice_get, IsSome}
+use Rattle.std.specs.Prelude.{◌≡◌, ℕ, ◌+◌, ◌-◌, ◌≤◌, ◌<◌, Bool, false, true, List, [], length, map, drop, count_ones, option_map, Option, Some, None, codes, slice_get, IsSome}
 use Rattle.enc_file.specs.Conditions as stated
 use Rattle.enc_file.specs.Conditions.{IsRefused, is_first}
 use Rattle.enc_file.specs.Records.{records_of}
@@ -13,6 +13,8 @@ use Rattle.enc_file.specs.declared.refusal.Refusal.{Refusal}
 use Rattle.fault_text.specs.Before.{TellsCounted, TellsRepeat, TellsUnknown}
 use Rattle.fault_text.specs.Lines.{IsPlaced, Stands, fields_in, file_lines, is_written, written}
 use Rattle.fault_text.specs.Names.{first_failing, names_of, word_text}
+pub use Rattle.fault_text.specs.Names.{stated_kind, stated_kinds}
+use Rattle.fault_text.specs.Rows.{AreBefore, SaysRow, records_in}
 use Rattle.fault_text.specs.Outside.{TellsOutside}
 use Rattle.fault_text.specs.Sentences.{sentence}
 use Rattle.fault_text.specs.declared.fault.Fault.{Fault}
@@ -22,24 +24,10 @@ use Rattle.fault_text.specs.declared.names.FieldName.{FieldName}
 use Rattle.fault_text.specs.declared.names.RecordKind.{RecordKind}
 use Rattle.fault_text.specs.declared.names.RecordKind.TheVariants as kind
 
--- A kind of record, as the conditions of the codes name it.
-abbrev pub stated_kind : RecordKind → stated.RecordKind
-stated_kind kind.Run = stated.RunKind
-stated_kind kind.Gains = stated.GainsKind
-stated_kind kind.Craft = stated.CraftKind
-stated_kind kind.Climb = stated.ClimbKind
-stated_kind kind.Leg = stated.LegKind
-stated_kind kind.Miss = stated.MissKind
-stated_kind kind.Plan = stated.PlanKind
-stated_kind kind.Fate = stated.FateKind
-stated_kind kind.End = stated.EndKind
-
-abbrev pub stated_kinds : Option RecordKind → Option stated.RecordKind
-stated_kinds found = option_map stated_kind found
-
--- The leftmost field of a record that fails its part of a code's condition; with None, no field does.
-abbrev pub IsLeftmost : Code → RecordKind → List ℕ → Option (FieldName × Bor (List ℕ)) → Type 0
-IsLeftmost c kind line found = option_map (λ p. (p.0, p.1.now)) found ≡ first_failing c (names_of kind) (drop 1 (fields_in line))
+-- Of the fields with these names, which stand behind the first field, the leftmost one that fails its part of a code's
+-- condition; with None, no field does.
+abbrev pub IsLeftmost : Code → List FieldName → List ℕ → Option (FieldName × Bor (List ℕ)) → Type 0
+IsLeftmost c names line found = option_map (λ p. (p.0, p.1.now)) found ≡ first_failing c names (drop 1 (fields_in line))
 
 -- No header.
 abbrev pub TellsHeader : List ℕ → Why → Type 0
@@ -54,17 +42,17 @@ TellsTurned line other = ⊥
 
 -- The leftmost field that is no value; or, where all are values, TO below FROM in a miss.
 abbrev pub TellsNumber : RecordKind → List ℕ → Why → Type 0
-TellsNumber of line (why.NoValue name found) = IsLeftmost code.Number of line (Some (name, found))
-TellsNumber of line other = IsLeftmost code.Number of line None × (of ≡ kind.Miss) × TellsTurned line other
+TellsNumber of line (why.NoValue name found) = IsLeftmost code.Number (names_of of) line (Some (name, found))
+TellsNumber of line other = IsLeftmost code.Number (names_of of) line None × (of ≡ kind.Miss) × TellsTurned line other
 
 -- The leftmost field that has to be an address and is none.
 abbrev pub TellsAddress : RecordKind → List ℕ → Why → Type 0
-TellsAddress kind line (why.NoAddress name found) = IsLeftmost code.Address kind line (Some (name, found))
+TellsAddress kind line (why.NoAddress name found) = IsLeftmost code.Address (names_of kind) line (Some (name, found))
 TellsAddress kind line other = ⊥
 
 -- The leftmost mask with more than three bits, and how many it has.
 abbrev pub TellsMask : RecordKind → List ℕ → Why → Type 0
-TellsMask kind line (why.ManyBits name found bits) = IsLeftmost code.Mask kind line (Some (name, found)) × (option_map count_ones (mask_in found.now) ≡ Some bits)
+TellsMask kind line (why.ManyBits name found bits) = IsLeftmost code.Mask (names_of kind) line (Some (name, found)) × (option_map count_ones (mask_in found.now) ≡ Some bits)
 TellsMask kind line other = ⊥
 
 -- A record has a fault of one of these codes, and its number of fields isn't wrong where the code is another one.
@@ -78,6 +66,11 @@ wrong_by other of fields = false
 abbrev pub is_fields : Code → Bool
 is_fields code.Fields = true
 is_fields other = false
+
+-- The same of a record of a known kind.
+pub record IsWrong (c : Code) (of : RecordKind) (fields : List (List ℕ)) : Type 0 where
+  pub wrong : wrong_by c (stated_kind of) fields ≡ true
+  pub counted : is_fields c ≡ false → stated.is_count_wrong (stated_kind of) fields ≡ false
 
 pub record IsAtFault (version : ℕ) (c : Code) (fields : List (List ℕ)) : Type 0 where
   pub kind : stated.RecordKind
@@ -140,8 +133,13 @@ against_by code.Unknown earlier kind fields = stated.is_unknown earlier kind fie
 against_by code.Count earlier kind fields = stated.is_miscounted earlier kind fields
 against_by other earlier kind fields = false
 
--- A record of this kind has a fault after those before it, which aren't none.
-pub record IsAgainst (text : List ℕ) (refusal : Refusal) (kind : RecordKind) (line : List ℕ) : Type 0 where
+-- A record of this kind has a fault of this code after those before it, which say these things.
+pub record IsAgainst (text : List ℕ) (at : ℕ) (c : Code) (kind : RecordKind) (line : List ℕ) (earlier : List (Option Record)) : Type 0 where
+  pub before : AreBefore SaysRow text at earlier
+  pub fault : against_by c (records_in earlier) (stated_kind kind) (fields_in line) ≡ true
+
+-- A refused record of this kind has its fault after those before it, which aren't none.
+pub record IsRefusedAgainst (text : List ℕ) (refusal : Refusal) (kind : RecordKind) (line : List ℕ) : Type 0 where
   pub refused : IsRefused (records_of text) refusal
   pub fault : against_by refusal.code refused.earlier (stated_kind kind) (fields_in line) ≡ true
   pub some : is_first refused.earlier ≡ false
@@ -151,19 +149,19 @@ pub record IsAgainst (text : List ℕ) (refusal : Refusal) (kind : RecordKind) (
 pub record IsNamedAgainst (text : List ℕ) (refusal : Refusal) (version : ℕ) (line : List ℕ) : Type 0 where
   pub kind : stated.RecordKind
   pub named : stated.kind_named version (field (fields_in line) 0) ≡ Some kind
-  pub against : (of : RecordKind) → stated_kind of ≡ kind → IsAgainst text refusal of line
+  pub against : (of : RecordKind) → stated_kind of ≡ kind → IsRefusedAgainst text refusal of line
 
 -- What is wrong with a record after those before it, by the code.
-abbrev pub TellsAgainst : Code → List ℕ → List Record → RecordKind → List (List ℕ) → Why → Type 0
+abbrev pub TellsAgainst : Code → List ℕ → List (Option Record) → RecordKind → List (List ℕ) → Why → Type 0
 TellsAgainst code.Repeat text earlier kind fields w = TellsRepeat text earlier kind fields w
-TellsAgainst code.Unknown text earlier kind fields w = TellsUnknown earlier kind fields w
-TellsAgainst code.Count text earlier kind fields w = TellsCounted earlier kind w
+TellsAgainst code.Unknown text earlier kind fields w = TellsUnknown (records_in earlier) kind fields w
+TellsAgainst code.Count text earlier kind fields w = TellsCounted (records_in earlier) kind w
 TellsAgainst other text earlier kind fields w = ⊥
 
 -- The records before the refused one are those that `IsRefused` names.
 pub record TellsEarlier (text : List ℕ) (refusal : Refusal) (kind : RecordKind) (line : List ℕ) (w : Why) : Type 0 where
   pub refused : IsRefused (records_of text) refusal
-  pub tells : TellsAgainst refusal.code text refused.earlier kind (fields_in line) w
+  pub tells : TellsAgainst refusal.code text (map (λ now. Some now) refused.earlier) kind (fields_in line) w
 
 pub record TellsAfterEarlier (text : List ℕ) (refusal : Refusal) (line : List ℕ) (w : Why) : Type 0 where
   pub kind : RecordKind

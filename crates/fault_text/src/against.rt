@@ -1,15 +1,16 @@
 // What is wrong with a record after those before it.
-ghost use Rattle.std.specs.Prelude.{◌≡◌, ◌+◌, ◌-◌, ◌≤◌, ◌<◌, ◌^◌, IsSome, MatchOption, Some, false, length, slice_get, true};
-ghost use Rattle.enc_file.specs.Conditions.{IsRefused, is_stranger};
-ghost use Rattle.enc_file.specs.Records.{records_of};
+ghost use Rattle.std.specs.Prelude.{◌≡◌, ◌+◌, ◌-◌, ◌≤◌, ◌<◌, ◌^◌, ℕ, IsSome, List, MatchOption, Option, Some, false, length, slice_get, true};
+ghost use Rattle.enc_file.specs.Conditions.{is_stranger};
 ghost use Rattle.enc_file.specs.Values.{address_in, count_in};
 ghost use Rattle.enc_file.specs.Values.{field as stated_field};
-ghost use Rattle.enc_file.specs.declared.refusal.Code.{Code};
+ghost use Rattle.enc_file.specs.declared.record.Record.{Record};
 ghost use Rattle.enc_file.specs.declared.refusal.Code.TheVariants as code;
-ghost use Rattle.fault_text.specs.Before.{IsStrange, has_first, has_second, reached_place, rises, rising_place};
+ghost use Rattle.fault_text.specs.Before.{IsStrange, TellsCounted, TellsRepeat, TellsUnknown, has_first, has_second, reached_place, rising_place};
 ghost use Rattle.fault_text.specs.Lines.{fields_in, file_lines, written};
 ghost use Rattle.fault_text.specs.Names.{names_of};
-ghost use Rattle.fault_text.specs.Told.{IsAgainst, IsFormat, TellsEarlier};
+ghost use Rattle.fault_text.specs.Rows.{AreBefore, SaysRow, records_in, rises};
+ghost use Rattle.fault_text.specs.Told.{IsAgainst, IsFormat, IsRefusedAgainst, TellsEarlier};
+ghost use Rattle.fault_text.specs.declared.names.RecordKind.TheVariants as kind;
 
 use crate::earlier::{Sought, has_second, last_before};
 use crate::fault::Why;
@@ -54,15 +55,16 @@ fn number_at(line: &[u8], place: usize) -> u16
     }
 }
 
-// Which earlier record a record repeats.
-fn repeat_why<'a>(text: &[u8], refusal: Refusal, kind: RecordKind, line: &'a [u8]) -> Why<'a>
+/// Which earlier record a record of this kind repeats, or which number of one it doesn't exceed. The record has the number
+/// `at`, and this line.
+pub fn repeat_why<'a>(text: &[u8], at: u32, kind: RecordKind, line: &'a [u8]) -> Why<'a>
     requires few { length text.now < 2 ^ 32 - 1 }
-    requires code { refusal.code ≡ code.Repeat }
-    requires against { IsAgainst text.now refusal kind line.now }
-    ensures { TellsEarlier text.now refusal kind line.now result }
+    requires enough { at ≤ length (written (file_lines text.now)) + 1 }
+    requires against { (earlier : List (Option Record)) × IsAgainst text.now at code.Repeat kind line.now earlier }
+    ensures { (earlier : List (Option Record)) → IsAgainst text.now at code.Repeat kind line.now earlier → TellsRepeat text.now earlier kind (fields_in line.now) result }
 {
     let sought = Sought::alike(kind, line);
-    let Some(place) = last_before(text, refusal.at, sought) else {
+    let Some(place) = last_before(text, at, &sought) else {
         unreachable!();
     };
     if rises(kind) {
@@ -82,22 +84,22 @@ fn repeat_why<'a>(text: &[u8], refusal: Refusal, kind: RecordKind, line: &'a [u8
     }
 }
 
-// The field at a place, where it is an address that no earlier aircraft has.
-fn stranger<'a>(text: &[u8], at: u32, line: &'a [u8], place: usize) -> Option<&'a [u8]>
+/// The field at a place of the record with the number `at`, where it is an address that no earlier aircraft has.
+pub fn stranger<'a>(text: &[u8], at: u32, line: &'a [u8], place: usize) -> Option<&'a [u8]>
     requires few { length text.now < 2 ^ 32 - 1 }
     requires counted { 1 ≤ at }
     requires enough { at ≤ length (written (file_lines text.now)) + 1 }
-    ensures { (code : Code) (r : IsRefused (records_of text.now) (record { at = at; code = code }))
-        → MatchOption result (is_stranger r.earlier (fields_in line.now) place ≡ false) (λ found. IsStrange r.earlier (fields_in line.now) place found.now) }
+    ensures { (earlier : List (Option Record)) → AreBefore SaysRow text.now at earlier
+        → MatchOption result (is_stranger (records_in earlier) (fields_in line.now) place ≡ false) (λ found. IsStrange (records_in earlier) (fields_in line.now) place found.now) }
 {
     let found = field(line, place);
     let address = address_in(found)?;
-    let of = Sought {
+    let sought = Sought {
         kind: RecordKind::Craft,
         first: Some(address),
         second: None,
     };
-    match last_before(text, at, of) {
+    match last_before(text, at, &sought) {
         Some(_) => None,
         None => Some(found),
     }
@@ -125,25 +127,44 @@ fn second_name(kind: RecordKind) -> FieldName
     }
 }
 
-// Which address is unknown, or that two are equal.
-fn unknown_why<'a>(text: &[u8], refusal: Refusal, kind: RecordKind, line: &'a [u8]) -> Why<'a>
+/// Which address of a record of this kind is unknown, or that two are equal. The record has the number `at`, and this
+/// line.
+pub fn unknown_why<'a>(text: &[u8], at: u32, kind: RecordKind, line: &'a [u8]) -> Why<'a>
     requires few { length text.now < 2 ^ 32 - 1 }
-    requires code { refusal.code ≡ code.Unknown }
-    requires against { IsAgainst text.now refusal kind line.now }
-    ensures { TellsEarlier text.now refusal kind line.now result }
+    requires enough { at ≤ length (written (file_lines text.now)) + 1 }
+    requires against { (earlier : List (Option Record)) × IsAgainst text.now at code.Unknown kind line.now earlier }
+    ensures { (earlier : List (Option Record)) → IsAgainst text.now at code.Unknown kind line.now earlier → TellsUnknown (records_in earlier) kind (fields_in line.now) result }
 {
-    if let Some(found) = stranger(text, refusal.at, line, 1) {
+    if let Some(found) = stranger(text, at, line, 1) {
         let name = first_name(kind);
         return Why::Unknown { name, found };
     }
     if has_second(kind) {
-        if let Some(found) = stranger(text, refusal.at, line, 2) {
+        if let Some(found) = stranger(text, at, line, 2) {
             let name = second_name(kind);
             return Why::Unknown { name, found };
         }
     }
     Why::Equal {
         found: field(line, 1),
+    }
+}
+
+/// What is wanting at the end, the record with the number `at`: a run or, where there is one, an active aircraft.
+pub fn end_why(text: &[u8], at: u32) -> Why<'static>
+    requires few { length text.now < 2 ^ 32 - 1 }
+    requires counted { 1 ≤ at }
+    requires enough { at ≤ length (written (file_lines text.now)) + 1 }
+    ensures { (line : List ℕ) (earlier : List (Option Record)) → IsAgainst text.now at code.Count kind.End line earlier → TellsCounted (records_in earlier) kind.End result }
+{
+    let sought = Sought {
+        kind: RecordKind::Run,
+        first: None,
+        second: None,
+    };
+    match last_before(text, at, &sought) {
+        Some(_) => Why::NoneActive,
+        None => Why::NoRun,
     }
 }
 
@@ -158,24 +179,16 @@ fn count_why(
     requires few { length text.now < 2 ^ 32 - 1 }
     requires code { refusal.code ≡ code.Count }
     requires version { IsFormat text.now version }
-    requires against { IsAgainst text.now refusal kind line.now }
+    requires against { IsRefusedAgainst text.now refusal kind line.now }
     ensures { TellsEarlier text.now refusal kind line.now result }
 {
-    if let RecordKind::Craft = kind {
-        return Why::ManyCrafts { version };
-    }
-    let of = Sought {
-        kind: RecordKind::Run,
-        first: None,
-        second: None,
-    };
-    match last_before(text, refusal.at, of) {
-        Some(_) => Why::NoneActive,
-        None => Why::NoRun,
+    match kind {
+        RecordKind::Craft => Why::ManyCrafts { version },
+        _ => end_why(text, refusal.at),
     }
 }
 
-/// What is wrong with a record after those before it. Its code is Repeat, Unknown or Count.
+/// What is wrong with a refused record after those before it. Its code is Repeat, Unknown or Count.
 pub(crate) fn against_why<'a>(
     text: &[u8],
     refusal: Refusal,
@@ -185,12 +198,12 @@ pub(crate) fn against_why<'a>(
 ) -> Why<'a>
     requires few { length text.now < 2 ^ 32 - 1 }
     requires version { IsFormat text.now version }
-    requires against { IsAgainst text.now refusal kind line.now }
+    requires against { IsRefusedAgainst text.now refusal kind line.now }
     ensures { TellsEarlier text.now refusal kind line.now result }
 {
     match refusal.code {
-        Code::Repeat => repeat_why(text, refusal, kind, line),
-        Code::Unknown => unknown_why(text, refusal, kind, line),
+        Code::Repeat => repeat_why(text, refusal.at, kind, line),
+        Code::Unknown => unknown_why(text, refusal.at, kind, line),
         Code::Count => count_why(text, refusal, version, kind, line),
         _ => unreachable!(),
     }

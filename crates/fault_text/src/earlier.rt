@@ -1,5 +1,5 @@
 // The records before a refused one.
-ghost use Rattle.std.specs.Prelude.{◌≡◌, ◌+◌, ◌-◌, ◌≤◌, ◌<◌, ◌^◌, length};
+ghost use Rattle.std.specs.Prelude.{◌≡◌, ◌+◌, ◌-◌, ◌≤◌, ◌<◌, ◌^◌, ℕ, Bool, List, length};
 ghost use Rattle.enc_file.specs.Values.{address_in, field};
 ghost use Rattle.fault_text.specs.Before.{IsLastBefore, address_if, alike, has_first, has_second, holds_sought, is_asked};
 ghost use Rattle.fault_text.specs.Lines.{fields_in, file_lines, written};
@@ -9,6 +9,16 @@ use crate::lines::{Place, cut, unmarked};
 use crate::names::RecordKind;
 use acas_base::Address;
 use enc_file::address_in;
+
+/// A test of the line of a record.
+pub trait LineTest {
+    /// The lines that pass it.
+    ghost holds: { Self → List ℕ → Bool };
+
+    /// Whether a line passes it.
+    fn is_passed(&self, line: &[u8]) -> bool
+        ensures { result ≡ holds self.now line.now };
+}
 
 /// The records of a kind that say these addresses. Where an address is none, all pass.
 #[derive(Clone, Copy)]
@@ -62,11 +72,12 @@ impl Sought {
             second: address_if(has_second(kind), field(line, 2)),
         }
     }
+}
 
-    // Whether a line holds such a record.
-    fn is_in(&self, line: &[u8]) -> bool
-        ensures { result ≡ holds_sought self.now line.now }
-    {
+impl LineTest for Sought {
+    ghost holds = { holds_sought };
+
+    fn is_passed(&self, line: &[u8]) -> bool {
         if field(line, 0) != self.kind.word().as_bytes() {
             return false;
         }
@@ -74,12 +85,12 @@ impl Sought {
     }
 }
 
-/// The last record that is sought before the one with the number `at`, and its line.
-pub(crate) fn last_before(text: &[u8], at: u32, sought: Sought) -> Option<Place<'_>>
+/// The last record before the one with the number `at` whose line passes a test, and this line.
+pub fn last_before<'a, T: LineTest>(text: &'a [u8], at: u32, test: &T) -> Option<Place<'a>>
     requires few { length text.now < 2 ^ 32 - 1 }
     requires counted { 1 ≤ at }
     requires enough { at ≤ length (written (file_lines text.now)) + 1 }
-    ensures { IsLastBefore sought (file_lines text.now) at result }
+    ensures { IsLastBefore (T.holds test.now) (file_lines text.now) at result }
 {
     let mut rest = unmarked(text);
     let mut number = 1;
@@ -91,7 +102,7 @@ pub(crate) fn last_before(text: &[u8], at: u32, sought: Sought) -> Option<Place<
         }
         let (line, after) = cut(rest);
         if !line.is_empty() {
-            if sought.is_in(line) {
+            if test.is_passed(line) {
                 found = Some(Place { number, line });
             }
             left -= 1;

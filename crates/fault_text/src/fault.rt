@@ -4,7 +4,8 @@ ghost use Rattle.enc_file.specs.Conditions.{is_address_wrong, is_count_wrong, is
 ghost use Rattle.enc_file.specs.Reading.{reading_of};
 ghost use Rattle.enc_file.specs.declared.refusal.Code.TheVariants as code;
 ghost use Rattle.fault_text.specs.Lines.{fields_in, file_lines};
-ghost use Rattle.fault_text.specs.Told.{Explains, IsAtFault, IsExplained, IsFormat, IsHeaded, IsNamedAgainst, IsRecord, Tells, TellsAddress, TellsAfterEarlier, TellsHeader, TellsMask, TellsNumber, TellsRecord, TellsTurned, stated_kind};
+ghost use Rattle.fault_text.specs.Names.{names_of, stated_kind};
+ghost use Rattle.fault_text.specs.Told.{Explains, IsAtFault, IsExplained, IsFormat, IsHeaded, IsLeftmost, IsNamedAgainst, IsRecord, IsWrong, Tells, TellsAddress, TellsAfterEarlier, TellsHeader, TellsKind, TellsMask, TellsNumber, TellsRecord, TellsTurned};
 
 use crate::against::against_why;
 use crate::fields::{count, field, kind_of, version_of};
@@ -140,13 +141,20 @@ fn turned_why(line: &[u8]) -> Why<'_>
     Why::Turned { from, to }
 }
 
+// The leftmost field of a record of this kind that fails its part of a code's condition.
+fn leftmost_of(code: Code, kind: RecordKind, line: &[u8]) -> Option<(FieldName, &[u8])>
+    ensures { IsLeftmost code (names_of kind) line.now result }
+{
+    leftmost(code, kind.names(), line)
+}
+
 // Which value of a record is wrong.
 fn number_why(kind: RecordKind, line: &[u8]) -> Why<'_>
     requires counted { is_count_wrong (stated_kind kind) (fields_in line.now) ≡ false }
     requires wrong { is_number_wrong (stated_kind kind) (fields_in line.now) ≡ true }
     ensures { TellsNumber kind line.now result }
 {
-    match leftmost(Code::Number, kind, line) {
+    match leftmost_of(Code::Number, kind, line) {
         Some((name, found)) => Why::NoValue { name, found },
         None => turned_why(line),
     }
@@ -158,7 +166,7 @@ fn address_why(kind: RecordKind, line: &[u8]) -> Why<'_>
     requires wrong { is_address_wrong (stated_kind kind) (fields_in line.now) ≡ true }
     ensures { TellsAddress kind line.now result }
 {
-    match leftmost(Code::Address, kind, line) {
+    match leftmost_of(Code::Address, kind, line) {
         Some((name, found)) => Why::NoAddress { name, found },
         None => unreachable!(),
     }
@@ -170,7 +178,7 @@ fn mask_why(kind: RecordKind, line: &[u8]) -> Why<'_>
     requires wrong { is_masked (stated_kind kind) (fields_in line.now) ≡ true }
     ensures { TellsMask kind line.now result }
 {
-    let Some((name, found)) = leftmost(Code::Mask, kind, line) else {
+    let Some((name, found)) = leftmost_of(Code::Mask, kind, line) else {
         unreachable!();
     };
     match mask_in(found) {
@@ -183,15 +191,12 @@ fn mask_why(kind: RecordKind, line: &[u8]) -> Why<'_>
     }
 }
 
-// What is wrong with a record of a known kind.
-fn record_why(code: Code, version: u8, line: &[u8]) -> Why<'_>
+/// Which field of a record of this kind is wrong, or that it hasn't so many. The code is Fields, Number, Address or Mask.
+pub fn field_why(code: Code, kind: RecordKind, line: &[u8]) -> Why<'_>
     requires few { length line.now < 2 ^ 32 - 1 }
-    requires fault { IsAtFault version code (fields_in line.now) }
-    ensures { TellsRecord code line.now result }
+    requires wrong { IsWrong code kind (fields_in line.now) }
+    ensures { TellsKind code kind line.now result }
 {
-    let Some(kind) = kind_of(version, field(line, 0)) else {
-        unreachable!();
-    };
     match code {
         Code::Number => number_why(kind, line),
         Code::Address => address_why(kind, line),
@@ -201,6 +206,18 @@ fn record_why(code: Code, version: u8, line: &[u8]) -> Why<'_>
             count: count(line),
         },
     }
+}
+
+// What is wrong with a record of a known kind.
+fn record_why(code: Code, version: u8, line: &[u8]) -> Why<'_>
+    requires few { length line.now < 2 ^ 32 - 1 }
+    requires fault { IsAtFault version code (fields_in line.now) }
+    ensures { TellsRecord code line.now result }
+{
+    let Some(kind) = kind_of(version, field(line, 0)) else {
+        unreachable!();
+    };
+    field_why(code, kind, line)
 }
 
 // What is wrong with a record of a known kind after those before it.

@@ -56,7 +56,7 @@ impl<'a> Fields<'a> {
 }
 
 /// How many fields a line has.
-pub(crate) fn count(line: &[u8]) -> u32
+pub fn count(line: &[u8]) -> u32
     requires { length line.now < 2 ^ 32 - 1 }
     ensures { result ≡ length (fields_in line.now) }
 {

@@ -17,10 +17,14 @@ mod search;
 mod sentence;
 mod shown;
 
-pub use fault::{Fault, Why, explain, explained};
+pub use against::{end_why, repeat_why, stranger, unknown_why};
+pub use earlier::{LineTest, last_before};
+pub use fault::{Fault, Why, explain, explained, field_why};
 pub use faultless::faultless_line;
-pub use fields::{field, kind_of};
+pub use fields::{count, field, kind_of};
 pub use leaving::Axis;
 pub use lines::{FileLines, Place, begins_recording, begins_tracks, place_of, records_law};
 pub use names::{FieldName, RecordKind};
+pub use search::leftmost;
+pub use sentence::{add_field_count, add_why};
 pub use shown::{SHOWN_BYTES, add_shown, shown_law};

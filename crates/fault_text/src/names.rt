@@ -1,4 +1,4 @@
-// The fields of the records, by name, and what has to stand in them.
+// The fields of the records, by name, and what has to stand in them. Two of them are of recorded tracks.
 ghost use Rattle.std.specs.Prelude.{◌≡◌, ◌≤◌, length};
 ghost use Rattle.fault_text.specs.Names.{content_of, name_text, names_of, word_text};
 
@@ -41,6 +41,10 @@ pub enum FieldName {
     Number,
     Hold,
     Mask,
+    /// The time of a point of a recorded track.
+    Ms,
+    /// The altitude of such a point.
+    Z,
 }
 
 /// What has to stand in a field.
@@ -87,6 +91,14 @@ impl FieldName {
                 high: 10_000,
             },
             FieldName::Hold => Content::Whole { low: 0, high: 60 },
+            FieldName::Ms => Content::Whole {
+                low: -1_000_000,
+                high: 1_000_000,
+            },
+            FieldName::Z => Content::Whole {
+                low: -60_000,
+                high: 3_600_000,
+            },
             FieldName::Kind => Content::Kind,
             FieldName::Mask => Content::Mask,
             FieldName::Address
@@ -125,6 +137,8 @@ impl FieldName {
             FieldName::Number => "NUMBER",
             FieldName::Hold => "HOLD",
             FieldName::Mask => "MASK",
+            FieldName::Ms => "MS",
+            FieldName::Z => "Z",
         }
     }
 }

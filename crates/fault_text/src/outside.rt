@@ -26,7 +26,7 @@ fn address_before(text: &[u8], refusal: Refusal, address: Address) -> &[u8]
         first: Some(address),
         second: None,
     };
-    match last_before(text, refusal.at, of) {
+    match last_before(text, refusal.at, &of) {
         Some(place) => field(place.line, 1),
         None => unreachable!(),
     }

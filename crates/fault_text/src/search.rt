@@ -5,7 +5,7 @@ ghost use Rattle.fault_text.specs.Names.{fails};
 ghost use Rattle.fault_text.specs.Told.{IsLeftmost};
 
 use crate::fields::Fields;
-use crate::names::{Content, FieldName, RecordKind};
+use crate::names::{Content, FieldName};
 use enc_file::{Code, address_in, kind_in, mask_in, number_in};
 
 // The most bits that a mask flips.
@@ -58,13 +58,18 @@ fn fails(code: Code, name: FieldName, found: &[u8]) -> bool
     }
 }
 
-/// The leftmost field of a record that fails its part of a code's condition.
-pub(crate) fn leftmost(code: Code, kind: RecordKind, line: &[u8]) -> Option<(FieldName, &[u8])>
-    ensures { IsLeftmost code kind line.now result }
+/// Of the fields with these names, which stand behind the first field of a record, the leftmost one that fails its part of
+/// a code's condition, and what stands there. The code is Number, Address or Mask; of other codes there is none.
+pub fn leftmost<'a>(
+    code: Code,
+    names: &[FieldName],
+    line: &'a [u8],
+) -> Option<(FieldName, &'a [u8])>
+    ensures { IsLeftmost code names.now line.now result }
 {
     let mut fields = Fields::of(line);
     let _ = fields.next();
-    for name in kind.names() {
+    for name in names {
         let Some(found) = fields.next() else {
             return None;
         };

@@ -1,7 +1,7 @@
 // The sentence of a fault.
 ghost use Rattle.std.specs.Prelude.{◌≡◌, ◌+◌, ◌≤◌, ◌++◌, length};
 ghost use Rattle.acas_text.specs.Hex.{hex};
-ghost use Rattle.fault_text.specs.Sentences.{again_text, field_count_text, fields_text, form_text, found_text, is_later_word, kinds_text, many_crafts_text, named_text, no_kind_text, not_above_text, range_text, reached_name, reached_text, rising_name, rising_text, sentence, unit_text, wanted, why_text};
+ghost use Rattle.fault_text.specs.Sentences.{again_text, count_text, fields_text, form_text, found_text, is_later_word, kinds_text, many_crafts_text, named_text, no_kind_text, not_above_text, range_text, reached_name, reached_text, rising_name, rising_text, sentence, unit_text, wanted, why_text};
 
 use crate::earlier::Sought;
 use crate::fault::{Fault, Why};
@@ -15,13 +15,15 @@ use enc_file::address_in;
 
 fn unit_text(name: FieldName) -> &'static str
     ensures text { result.now ≡ unit_text name }
-    ensures short { length result.now ≤ 7 }
+    ensures short { length result.now ≤ 12 }
 {
     match name {
         FieldName::Ground | FieldName::X | FieldName::Y | FieldName::Alt | FieldName::Limit =>
             " ft",
         FieldName::Vx | FieldName::Vy => " ft/s",
         FieldName::Vz => " ft/min",
+        FieldName::Ms => " ms",
+        FieldName::Z => ", in 1/60 ft",
         _ => "",
     }
 }
@@ -39,9 +41,9 @@ fn add_range(line: &mut Line, low: i32, high: i32)
 
 // Adds what has to stand in a field.
 fn add_wanted(line: &mut Line, name: FieldName, content: Content, found: &[u8])
-    requires { length line.old + 100 ≤ LINE_BYTES }
+    requires { length line.old + 104 ≤ LINE_BYTES }
     ensures added { line.new ≡ line.old ++ wanted name content found.now }
-    ensures short { length line.new ≤ length line.old + 100 }
+    ensures short { length line.new ≤ length line.old + 104 }
 {
     match content {
         Content::Whole { low, high } => {
@@ -117,17 +119,18 @@ fn fields_text(count: u32) -> &'static str
     " fields here, and has to be "
 }
 
-// Adds that a record hasn't so many fields.
-fn add_field_count(line: &mut Line, kind: RecordKind, count: u32)
-    requires { length line.old + 270 ≤ LINE_BYTES }
-    ensures added { line.new ≡ line.old ++ field_count_text kind count }
+/// Adds that a record that begins with this word hasn't so many fields, and has to have this form.
+pub fn add_field_count(line: &mut Line, word: &str, count: u32, form: &str)
+    requires room { length line.old + 270 ≤ LINE_BYTES }
+    requires short { length word.now + length form.now ≤ 80 }
+    ensures added { line.new ≡ line.old ++ count_text word.now count form.now }
     ensures short { length line.new ≤ length line.old + 270 }
 {
-    line.text(kind.word());
+    line.text(word);
     line.text(" has ");
     line.u32(count);
     line.text(fields_text(count));
-    line.text(form_text(kind));
+    line.text(form);
 }
 
 // Adds a field and what stands there.
@@ -244,8 +247,8 @@ fn many_crafts_text(version: u8) -> &'static str
     "one aircraft too many: format 2 has at most 16"
 }
 
-// Adds what is wrong.
-fn add_why(line: &mut Line, why: &Why<'_>)
+/// Adds what is wrong. It adds no end of the line.
+pub fn add_why(line: &mut Line, why: &Why<'_>)
     requires { length line.old + 300 ≤ LINE_BYTES }
     ensures added { line.new ≡ line.old ++ why_text why.now }
     ensures short { length line.new ≤ length line.old + 300 }
@@ -264,7 +267,9 @@ fn add_why(line: &mut Line, why: &Why<'_>)
             add_shown(line, found);
             line.text(no_kind_text(version, found));
         }
-        Why::FieldCount { kind, count } => add_field_count(line, kind, count),
+        Why::FieldCount { kind, count } => {
+            add_field_count(line, kind.word(), count, form_text(kind));
+        }
         Why::NoValue { name, found } => {
             add_found(line, name, found);
             line.text(", and has to be ");

@@ -78,6 +78,7 @@ impl<'a> Places<'a> {
     }
 
     // Whether a record says that an own aircraft misses a target in that cycle.
+    #[inline(always)]
     fn is_missed(&self, own: u8, target: u8) -> bool
         requires { own < length self.now.encounter.crafts }
         ensures { result ≡ is_missed self.now.encounter own target self.now.cycle }

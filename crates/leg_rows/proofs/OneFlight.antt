@@ -57,7 +57,7 @@ same-place p q x y z = grind arith
 begins-there : (start : Place) (legs : List Leg) → place_in start legs 1 ≡ start
 begins-there start legs = same-place (place_in start legs 1) start (carried-none (λ (leg : Leg). leg.vx) legs start.x) (carried-none (λ (leg : Leg). leg.vy) legs start.y) (carried-none (λ (leg : Leg). leg.vz) legs start.z)
 
-starts-at : (e : Parts) (craft : ℕ) → craft < length e.crafts → start_of (get_or e.crafts craft any-craft) ≡ position e craft 1
+pub starts-at : (e : Parts) (craft : ℕ) → craft < length e.crafts → start_of (get_or e.crafts craft any-craft) ≡ position e craft 1
 starts-at e craft within = sym (begins-there (start_of (get_or e.crafts craft any-craft)) (legs_of e craft)) ∙ position-at e craft 1 within
 
 -- Legs that lead through the places of an aircraft, where each is needed, are the legs through these places.
@@ -78,7 +78,7 @@ Sorted low (leg ∷ legs) = (low ≤ leg.craft) × Sorted leg.craft legs
 below-first : (a b c d : ℕ) → is_below (a, 0, b) (c, 0, d) ≡ true → a ≤ c
 below-first a b c d h = grind (arith, nat_tests)
 
-tail-rising : (x : Leg) (xs : List Leg) → IsRising leg_below (x ∷ xs) → IsRising leg_below xs
+pub tail-rising : (x : Leg) (xs : List Leg) → IsRising leg_below (x ∷ xs) → IsRising leg_below xs
 tail-rising x xs rising k d h = let next : suc k + 1 ≡ suc (k + 1) = omega arith in rw next at (rising (suc k) d (omega arith))
 
 sorted-on : (x : Leg) (xs : List Leg) → IsRising leg_below (x ∷ xs) → Sorted x.craft xs
@@ -127,6 +127,10 @@ same-by-craft a b (x ∷ xs) (y ∷ ys) one two same = elim (cases_lt x.craft y.
   cases : (n m : ℕ) → (n ≡ m) ⊎ (n ≢ m)
   cases n m = cases_eq n m
 
+-- Legs in their order are the same, where they are so for each aircraft.
+pub same-legs : (xs ys : List Leg) → IsRising leg_below xs → IsRising leg_below ys → ((n : ℕ) → filter (λ (leg : Leg). leg.craft == n) xs ≡ filter (λ (leg : Leg). leg.craft == n) ys) → xs ≡ ys
+same-legs xs ys one two each = same-by-craft 0 0 xs ys (sorted xs one) (sorted ys two) each
+
 -- An aircraft is known by what it is and where it begins.
 same-craft : (a b : CraftSpec) → unplaced a ≡ unplaced b → start_of a ≡ start_of b → a ≡ b
 same-craft a b kind start =
@@ -152,11 +156,11 @@ same-crafts d e some alike fly =
     count = sym (length-map d.crafts unplaced) ∙ ap length alike.crafts ∙ length-map e.crafts unplaced
 
 -- The places that an aircraft comes through.
-places-at : (e : Parts) (craft cycle : ℕ) → 1 ≤ cycle → cycle ≤ e.cycles → position e craft cycle ≡ place_of (places_of e craft) cycle
+pub places-at : (e : Parts) (craft cycle : ℕ) → 1 ≤ cycle → cycle ≤ e.cycles → position e craft cycle ≡ place_of (places_of e craft) cycle
 unfolding places_of
 places-at e craft cycle first last = sym (get_or-map-range_with_len (position e craft) 1 e.cycles (cycle - 1) cycle nowhere (omega arith) (omega arith))
 
-places-long : (e : Parts) (craft : ℕ) → length (places_of e craft) ≡ e.cycles
+pub places-long : (e : Parts) (craft : ℕ) → length (places_of e craft) ≡ e.cycles
 unfolding places_of
 places-long e craft = length-map-range_with_len (position e craft) 1 e.cycles
 
@@ -177,7 +181,7 @@ same-parts d e alike crafts legs =
 -- needed.
 pub one-flight : (d e : Parts) → IsEncounter d → IsEncounter e → AreAlike d e → HasNeededLegs d → HasNeededLegs e → FlyAlike d e → d ≡ e
 one-flight d e one two alike first second fly =
-    same-parts d e alike crafts (same-by-craft 0 0 d.legs e.legs (sorted d.legs one.records.legs.1) (sorted e.legs two.records.legs.1) each)
+    same-parts d e alike crafts (same-legs d.legs e.legs one.records.legs.1 two.records.legs.1 each)
   where
     some : 1 ≤ e.cycles
     some = two.run.length.0

@@ -31,7 +31,7 @@ needed-own craft cycles before after [] each k d h = absurd (omega arith)
 needed-own craft cycles before after (leg ∷ legs) each zero d h = each.0
 needed-own craft cycles before after (leg ∷ legs) each (suc k) d h = needed-own craft cycles (rates_of leg) leg.from legs each.4 k d (omega arith)
 
-through-own : (craft : ℕ) (places : List Place) → All (λ (leg : Leg). leg.craft ≡ craft) (legs_through craft places)
+pub through-own : (craft : ℕ) (places : List Place) → All (λ (leg : Leg). leg.craft ≡ craft) (legs_through craft places)
 through-own craft places = needed-own craft (length places) at_rest 0 (legs_through craft places) (needed craft places)
 
 from-own : (craft : ℕ) (rows : List (List Place)) → All (λ (leg : Leg). craft ≤ leg.craft) (legs_from craft rows)
@@ -63,17 +63,17 @@ unfolding legs_of_all
 all-there rows craft within = from-there 0 rows craft craft (omega arith) within
 
 -- Legs in their order, after the leg of an aircraft that begins in a cycle.
-abbrev Rises : ℕ → ℕ → List Leg → Type 0
+abbrev pub Rises : ℕ → ℕ → List Leg → Type 0
 Rises craft from [] = Unit {0}
 Rises craft from (leg ∷ legs) = IsTrue (is_below (craft, 0, from) (leg.craft, 0, leg.from)) × Rises leg.craft leg.from legs
 
-later-cycle : (a b c d : ℕ) → a ≡ c → b < d → is_below (a, 0, b) (c, 0, d) ≡ true
+pub later-cycle : (a b c d : ℕ) → a ≡ c → b < d → is_below (a, 0, b) (c, 0, d) ≡ true
 later-cycle a b c d same h = grind (arith, nat_tests)
 
 later-craft : (a b c d : ℕ) → a < c → is_below (a, 0, b) (c, 0, d) ≡ true
 later-craft a b c d h = grind (arith, nat_tests)
 
-rises-needed : (craft cycles : ℕ) (before : Rates) (after : ℕ) (legs : List Leg) → AreNeeded craft cycles before after legs → Rises craft after legs
+pub rises-needed : (craft cycles : ℕ) (before : Rates) (after : ℕ) (legs : List Leg) → AreNeeded craft cycles before after legs → Rises craft after legs
 rises-needed craft cycles before after [] each = tt
 rises-needed craft cycles before after (leg ∷ legs) each = (
   later-cycle craft after leg.craft leg.from (sym each.0) each.1,
@@ -81,7 +81,7 @@ rises-needed craft cycles before after (leg ∷ legs) each = (
 )
 
 -- After the legs of one aircraft, those of aircraft behind it.
-rises-append : (craft from : ℕ) (xs ys : List Leg) → All (λ (leg : Leg). leg.craft ≡ craft) xs → Rises craft from xs → ((f : ℕ) → Rises craft f ys) → Rises craft from (xs ++ ys)
+pub rises-append : (craft from : ℕ) (xs ys : List Leg) → All (λ (leg : Leg). leg.craft ≡ craft) xs → Rises craft from xs → ((f : ℕ) → Rises craft f ys) → Rises craft from (xs ++ ys)
 rises-append craft from [] ys own rises rest = rest from
 rises-append craft from (x ∷ xs) ys own rises rest =
     let same : x.craft ≡ craft = own 0 x (omega arith) in (
@@ -89,7 +89,7 @@ rises-append craft from (x ∷ xs) ys own rises rest =
       rises-append x.craft x.from xs ys (λ k d h. own (suc k) d (omega arith) ∙ sym same) rises.1 (λ f. subst (λ c. Rises c f ys) (sym same) (rest f)),
     )
 
-rises-behind : (a b c d : ℕ) (legs : List Leg) → a < c → Rises c d legs → Rises a b legs
+pub rises-behind : (a b c d : ℕ) (legs : List Leg) → a < c → Rises c d legs → Rises a b legs
 rises-behind a b c d [] order rises = tt
 rises-behind a b c d (leg ∷ legs) order rises = (below-first a b c d leg.craft leg.from order rises.0, rises.1) where
   below-first : (a b c d e f : ℕ) → a < c → is_below (c, 0, d) (e, 0, f) ≡ true → is_below (a, 0, b) (e, 0, f) ≡ true
@@ -102,7 +102,7 @@ rises-from craft (places ∷ rows) =
     (rises-needed craft (length places) at_rest 0 (legs_through craft places) (needed craft places))
     (λ f. rises-behind craft f (craft + 1) 0 (legs_from (craft + 1) rows) (omega arith) (rises-from (craft + 1) rows))
 
-rising : (craft from : ℕ) (legs : List Leg) → Rises craft from legs → IsRising leg_below legs
+pub rising : (craft from : ℕ) (legs : List Leg) → Rises craft from legs → IsRising leg_below legs
 rising craft from [] rises k d h = absurd (omega arith)
 rising craft from (x ∷ []) rises k d h = absurd (omega arith)
 rising craft from (x ∷ y ∷ legs) rises zero d h = rises.1.0
@@ -114,7 +114,7 @@ range-all P first count each k d h =
     subst P (sym (get_or-range_with_len first count k d within)) (each (first + k) (omega arith) (omega arith))
 
 -- Each leg has rates that lead from a place to the next, and begins in the run.
-through-fits : (count craft : ℕ) (places : List Place) → craft < count → length places ≤ 600 → AreFlyable places → All (IsLeg count) (legs_through craft places)
+pub through-fits : (count craft : ℕ) (places : List Place) → craft < count → length places ≤ 600 → AreFlyable places → All (IsLeg count) (legs_through craft places)
 unfolding legs_through
 through-fits count craft places few short flyable =
     All-map (IsLeg count) (λ cycle. leg_with craft cycle (rates_from places cycle)) (filter (is_turn (rates_from places)) (range_with_len 1 (length places - 1)))

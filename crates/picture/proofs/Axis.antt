@@ -79,5 +79,15 @@ in-order axis low high a b order =
     let it = (kept 3200 (unsigned_abs (to -ℤ from)) (unsigned_abs (low -ℤ from)) (unsigned_abs (high -ℤ from)) part.some (rising from low high a.low order) part.within).in_order in
     omega (arith, it)
 
+-- No altitude of an axis stands above the box.
+pub high-enough : (axis : Span) (height : ℤ) → IsOn axis height → 1500 ≤ altitude_y axis height
+unfolding altitude_y
+high-enough axis height on =
+    let from = height_of axis.low in
+    let to = height_of axis.high in
+    let part = parted from to height on.low on.high in
+    let it = (kept 3200 (unsigned_abs (to -ℤ from)) 0 (unsigned_abs (height -ℤ from)) part.some (omega arith) part.within).within in
+    omega (arith, it)
+
 pub are-courses : (e : Parts) → AreCourses e
 are-courses e = record { holds = holds-all e; in_order = λ low high a b order. in-order (axis_of e) low high a b order }

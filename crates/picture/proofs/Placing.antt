@@ -1,124 +1,109 @@
 -- All marks lie within the page, and their numbers fit.
-use Rattle.std.proofs.Common.{ℕ, zero, suc, ◌+◌, ◌-◌, ◌*◌, ◌^◌, ◌<◌, ◌≤◌, Bool, List, [], ◌∷◌, ◌++◌, Option, Some, None, codes, length, sym, ap, subst, arith, inl, inr}
-use Rattle.std.proofs.lemmas.Bool.{cases_Bool, cond-false, cond-true}
-use Rattle.std.proofs.lemmas.Int.{ints}
-use Rattle.std.specs.Prelude.{◌%◌, ◌==◌, ℤ, filter, map, slice_get, take}
+use Rattle.std.proofs.Common.{ℕ, zero, suc, ◌+◌, ◌-◌, ◌*◌, ◌^◌, ◌<◌, ◌≤◌, Bool, List, [], ◌∷◌, ◌++◌, Option, Some, None, codes, eqb, eq-eqb, length, ne_eqb, sym, ap, subst, arith, inl, inr}
+use Rattle.std.proofs.lemmas.Bool.{cases_Bool, cases_eq, cond-false, cond-true, ltb-true}
+use Rattle.std.specs.Prelude.{◌%◌, ◌==◌, ℤ, filter, nat_lt, slice_get, take}
 use Rattle.std.specs.Fmt.{decimal}
 use Rattle.std.specs.Option.{option_map_or}
 use Rattle.std.specs.List.{AllByRecursion, flat_map, range_with_len}
-use Rattle.acas_base.specs.Encounter.{Parts, is_active_kind}
+use Rattle.acas_base.specs.Encounter.{IsEncounter, Parts, is_active_kind}
 use Rattle.acas_base.specs.declared.craft.CraftSpec.{CraftSpec}
 use Rattle.acas_base.specs.declared.entry.Entry.{Entry}
 use Rattle.acas_text.specs.Hex.{hex}
 use Rattle.advisory_report.specs.Composite.{word_of}
 use Rattle.advisory_report.specs.declared.composite.Composite.{Composite}
-use Rattle.air_journal.specs.Airs.{address_of}
+use Rattle.air_journal.specs.Airs.{address_of, air_of}
 use Rattle.air_rules.specs.Air.{Air}
 use Rattle.air_rules.specs.Rules.{IsLegal}
 use Rattle.equal_rows.proofs.Rowing.{are-rows}
 use Rattle.equal_rows.specs.Rows.{IsLongest}
 use Rattle.equal_rows.specs.declared.row.Row.{Row}
-use Rattle.picture.specs.Bars.{advised, bar_area, bar_marks, bar_height, bar_of, bar_title, bars, craft_marks, has_room, lane_head, lane_marks, marks_of_craft, row_marks, titled_bar, word_marks, word_pair, word_size, word_x, word_y}
+use Rattle.picture.specs.Bars.{advised, bar_area, bar_marks, bar_height, bar_of, bar_title, bars, craft_marks, has_room, lane_head, lane_marks, lanes_marks, marks_of_craft, row_marks, titled_bar, word_marks, word_pair, word_size, word_x, word_y}
+use Rattle.picture.specs.Bands.{band, band_depth, band_of_row, bands_marks, bands_of, craft_bands, edge_point, far_edge, has_line, last_area, last_stripe, last_top, last_width, near_edge, reach_end, reach_length, row_band, shifted, sided_band, stripe, stripe_paint}
+use Rattle.picture.specs.Onsets.{circle_mark, corners, diamond, downward, is_onset, onset_mark, onset_marks, onset_paint, upward}
 use Rattle.picture.specs.Altitude.{altitude_marks, altitude_y, axis_marks, course_marks, course_point, course_y, courses, height_text, name_x}
 use Rattle.picture.specs.Heights.{axis_of, height_in}
 use Rattle.picture.specs.Head.{description, head_marks, sent_in, sent_text, title_text}
-use Rattle.picture.specs.Layout.{area_at, frame_of, lane_base, lane_of, page_height, plot_bottom, plot_height, point_at}
-use Rattle.picture.specs.Legend.{height_words, item_marks, legend_marks}
+use Rattle.picture.specs.Layout.{bounds_of, frame_of, lane_base, lane_of, page_bounds, page_height, plot_bottom, plot_height}
+use Rattle.page_marks.specs.Places.{area_at, point_at}
+use Rattle.picture.specs.Legend.{arrow_words, height_words, item_marks, legend_marks}
+use Rattle.picture.specs.Messages.{arrows}
+use Rattle.picture.specs.MessagesDrawn.{arrow_marks, arrow_shaft, arrow_title, color_of, down_shaft, event_x, head_points, messages_marks, shaft_marks, shaft_of, up_shaft}
 use Rattle.picture.specs.Laws.{IsSound}
-use Rattle.picture.specs.Paints.{box_marks, box_paint, grid, halo, hatched, hatching, ink, letters, line_paint}
+use Rattle.page_marks.specs.Paints.{blue, box_marks, filled, grid, halo, hatched, ink, letters, line_paint, plain, purple, vermilion}
 use Rattle.picture.specs.Picture.{lanes_of, page, picture_lines, sections}
 use Rattle.picture.specs.Shown.{goes_on, is_shown, shown_in, shown_rows}
 use Rattle.picture.specs.Time.{box_and_name, tick_at, tick_marks, time_marks}
-use Rattle.picture.specs.Within.{IsMarkWithin, IsWithin}
+use Rattle.page_marks.proofs.Bounded.{AreSmall, IsPlace, wider, all-append, all-left, all-over, all-points, all-range, all-right, at-point, is-point, good-box as box-in, good-boxes as boxes-in, good-circle as circle-in, good-halo as halo-in, good-line as line-in, good-words as words-in}
+use Rattle.page_marks.specs.Within.{AreInside, Bounds, IsMarkWithin, IsWithin}
+use Rattle.pair_panels.proofs.Best.{is-pair, nearest-is}
+use Rattle.pair_panels.proofs.Placing.{are-within}
+use Rattle.pair_panels.specs.Laws.{bounds_from}
+use Rattle.pair_panels.specs.Nearest.{IsNearest, IsPair, nearest_pair}
+use Rattle.pair_panels.specs.Panel.{distance_marks}
+use Rattle.pair_panels.specs.declared.distance.Distance.{Distance}
+use Rattle.pair_panels.specs.declared.distance.Distance.TheVariants.{Slant, Vertical}
+use Rattle.pair_panels.specs.declared.nearest.NearPair.{NearPair}
+use Rattle.picture.specs.Panels.{panel_marks, panels_height}
 use Rattle.picture.specs.declared.bar.Bar.{Bar}
+use Rattle.picture.specs.declared.messages_drawn.Shaft.{Shaft}
+use Rattle.picture.specs.declared.messages_read.Arrow.{Arrow}
 use Rattle.picture.specs.declared.span.Span.{Span}
-use Rattle.picture.specs.declared.paints.Advised.{Advised}
-use Rattle.picture.specs.declared.paints.Advised.TheVariants.{Traffic, Up, Down, Both}
+use Rattle.picture.specs.declared.side.Side.{Side}
+use Rattle.picture.specs.declared.side.Side.TheVariants.{Above, Below}
+use Rattle.page_marks.specs.declared.paints.Advised.{Advised}
+use Rattle.page_marks.specs.declared.paints.Advised.TheVariants.{Traffic, Up, Down, Both}
+use Rattle.picture.proofs.Axis.{high-enough, holds-all}
 use Rattle.picture.proofs.Barring.{is-run}
+use Rattle.picture.proofs.Messaging.{IsTimely, arrows-timely}
 use Rattle.plot_axes.proofs.Shares.{kept}
-use Rattle.plot_axes.specs.Time.{begin_of, is_tick}
+use Rattle.plot_axes.specs.Time.{axis_begin, begin_of, is_tick, middle_of}
 use Rattle.svg_text.proofs.WellFormed.{form}
 use Rattle.svg_text.specs.Documents.{Section}
 use Rattle.svg_text.specs.Fitting.{FitsFrame, FitsMark, FitsPaint, IsPoint}
-use Rattle.svg_text.specs.Marks.{Mark, figure, worded}
+use Rattle.svg_text.specs.Marks.{Mark, figure, traced, worded}
 use Rattle.svg_text.specs.declared.shapes.Anchor.{Anchor}
 use Rattle.svg_text.specs.declared.shapes.Anchor.TheVariants as anchors
+use Rattle.svg_text.specs.declared.shapes.Outline.{Outline}
+use Rattle.svg_text.specs.declared.shapes.Outline.TheVariants as outlines
+use Rattle.svg_text.specs.declared.shapes.Color.{Color}
 use Rattle.svg_text.specs.declared.shapes.Paint.{Paint}
 use Rattle.svg_text.specs.declared.shapes.Point.{Point}
 use Rattle.svg_text.specs.declared.shapes.Shape.TheVariants as shapes
 use Rattle.svg_text.specs.declared.shapes.Weight.{Weight}
 use Rattle.svg_text.specs.declared.shapes.Weight.TheVariants as weights
 
--- ---- lists
-
-all-append : {X : Type 0} (P : X → Type 0) (xs ys : List X) → AllByRecursion P xs → AllByRecursion P ys → AllByRecursion P (xs ++ ys)
-all-append P [] ys g h = h
-all-append P (x ∷ xs) ys g h = (g.0, all-append P xs ys g.1 h)
-
-all-range : {X : Type 0} (P : X → Type 0) (f : ℕ → List X) (first n : ℕ) → ((k : ℕ) → first ≤ k → k < first + n → AllByRecursion P (f k)) → AllByRecursion P (flat_map f (range_with_len first n))
-all-range P f first zero h = tt
-all-range P f first (suc n) h =
-    all-append P (f first) (flat_map f (range_with_len (first + 1) n)) (h first (omega arith) (omega arith)) (all-range P f (first + 1) n (λ k low high. h k (omega arith) (omega arith)))
-
-all-over : {X Y : Type 0} (Q : Y → Type 0) (P : X → Type 0) (f : Y → List X) → ((y : Y) → Q y → AllByRecursion P (f y)) → (ys : List Y) → AllByRecursion Q ys → AllByRecursion P (flat_map f ys)
-all-over Q P f h [] g = tt
-all-over Q P f h (y ∷ ys) g = all-append P (f y) (flat_map f ys) (h y g.0) (all-over Q P f h ys g.1)
-
-all-left : {X : Type 0} (P Q : X → Type 0) (xs : List X) → AllByRecursion (λ x. P x × Q x) xs → AllByRecursion P xs
-all-left P Q [] h = tt
-all-left P Q (x ∷ xs) h = (h.0.0, all-left P Q xs h.1)
-
-all-right : {X : Type 0} (P Q : X → Type 0) (xs : List X) → AllByRecursion (λ x. P x × Q x) xs → AllByRecursion Q xs
-all-right P Q [] h = tt
-all-right P Q (x ∷ xs) h = (h.0.1, all-right P Q xs h.1)
-
 -- ---- single marks
 
+-- A mark lies within a page of so many lanes, and its numbers fit.
 abbrev Good : ℕ → Mark → Type 0
-Good lanes mark = IsMarkWithin (frame_of lanes) mark × FitsMark mark
+Good lanes mark = IsMarkWithin (bounds_of lanes) mark × FitsMark mark
 
-at-point : (lanes x y : ℕ) → x ≤ 20000 → y ≤ page_height lanes → IsWithin (frame_of lanes) 0 (point_at x y)
-at-point lanes x y wide tall = record { left = omega (arith, ints); right = omega (arith, ints); top = omega (arith, ints); bottom = omega (arith, ints) }
+small : (lanes : ℕ) → lanes ≤ 16 → AreSmall (bounds_of lanes)
+small lanes few = record { right = omega arith; bottom = omega arith }
 
-is-point : (lanes x y : ℕ) → lanes ≤ 16 → x ≤ 20000 → y ≤ page_height lanes → IsPoint (point_at x y)
-is-point lanes x y few wide tall = record { x = omega arith; y = omega arith }
+place : (lanes x y : ℕ) → x ≤ 20000 → y ≤ page_height lanes → IsPlace (bounds_of lanes) x y
+place lanes x y wide tall = record { left = omega arith; right = omega arith; top = omega arith; bottom = omega arith }
 
 good-line : (lanes x y p q : ℕ) (paint : Paint) (title : List ℕ) → FitsPaint paint → lanes ≤ 16 → x ≤ 20000 → y ≤ page_height lanes → p ≤ 20000 → q ≤ page_height lanes →
     Good lanes (figure (shapes.Segment (point_at x y) (point_at p q)) paint title)
-good-line lanes x y p q paint title fits few a b c d =
-    ((at-point lanes x y a b, at-point lanes p q c d), ((is-point lanes x y few a b, is-point lanes p q few c d), fits))
+good-line lanes x y p q paint title fits few a b c d = line-in (bounds_of lanes) x y p q paint title fits (small lanes few) (place lanes x y a b) (place lanes p q c d)
 
 good-box : (lanes x y width height : ℕ) (paint : Paint) (title : List ℕ) → FitsPaint paint → lanes ≤ 16 → x + width ≤ 20000 → y + height ≤ page_height lanes →
     Good lanes (figure (shapes.Rect (area_at x y width height)) paint title)
-good-box lanes x y width height paint title fits few right bottom = (
-  (at-point lanes x y (omega arith) (omega arith), record { left = omega (arith, ints); right = omega (arith, ints); top = omega (arith, ints); bottom = omega (arith, ints) }),
-  (record { corner = is-point lanes x y few (omega arith) (omega arith); width = omega arith; height = omega arith }, fits),
-)
+good-box lanes x y width height paint title fits few right bottom =
+    box-in (bounds_of lanes) x y width height paint title fits (small lanes few) (place lanes x y (omega arith) (omega arith)) (place lanes (x + width) (y + height) right bottom)
 
 good-words : (lanes x y size : ℕ) (anchor : Anchor) (weight : Weight) (words title : List ℕ) → size < 2 ^ 16 → lanes ≤ 16 → x ≤ 20000 → y ≤ page_height lanes →
     Good lanes (worded (letters (point_at x y) size anchor weight) words title)
-good-words lanes x y size anchor weight words title small few a b = (at-point lanes x y a b, record { at = is-point lanes x y few a b; size = small; paint = tt })
+good-words lanes x y size anchor weight words title short few a b = words-in (bounds_of lanes) x y size anchor weight words title short (small lanes few) (place lanes x y a b)
 
 good-halo : (lanes x y size : ℕ) (anchor : Anchor) (weight : Weight) (words title : List ℕ) → size < 2 ^ 16 → lanes ≤ 16 → x ≤ 20000 → y ≤ page_height lanes →
     Good lanes (worded (halo (point_at x y) size anchor weight) words title)
-good-halo lanes x y size anchor weight words title small few a b = (at-point lanes x y a b, record { at = is-point lanes x y few a b; size = small; paint = omega arith })
-
-box-fits : (kind : Advised) → FitsPaint (box_paint kind)
-box-fits Traffic = omega arith
-box-fits Up = omega arith
-box-fits Down = omega arith
-box-fits Both = omega arith
-
-good-hatching : (lanes x y width height : ℕ) (kind : Advised) (title : List ℕ) → lanes ≤ 16 → x + width ≤ 20000 → y + height ≤ page_height lanes → AllByRecursion (Good lanes) (hatching kind (area_at x y width height) title)
-good-hatching lanes x y width height Traffic title few right bottom = tt
-good-hatching lanes x y width height Up title few right bottom = tt
-good-hatching lanes x y width height Down title few right bottom = (good-box lanes x y width height hatched title tt few right bottom, tt)
-good-hatching lanes x y width height Both title few right bottom = tt
+good-halo lanes x y size anchor weight words title short few a b = halo-in (bounds_of lanes) x y size anchor weight words title short (small lanes few) (place lanes x y a b)
 
 good-boxes : (lanes x y width height : ℕ) (kind : Advised) (title : List ℕ) → lanes ≤ 16 → x + width ≤ 20000 → y + height ≤ page_height lanes → AllByRecursion (Good lanes) (box_marks kind (area_at x y width height) title)
-unfolding box_marks
 good-boxes lanes x y width height kind title few right bottom =
-    (good-box lanes x y width height (box_paint kind) title (box-fits kind) few right bottom, good-hatching lanes x y width height kind title few right bottom)
+    boxes-in (bounds_of lanes) x y width height kind title (small lanes few) (place lanes x y (omega arith) (omega arith)) (place lanes (x + width) (y + height) right bottom)
 
 -- ---- the head, the axis and the legend
 
@@ -165,8 +150,10 @@ good-legend lanes few =
     all-append (Good lanes) (item 2000 Traffic (codes "traffic")) _ (good-item lanes 2000 Traffic (codes "traffic") few (omega arith))
     (all-append (Good lanes) (item 5200 Up (codes "up")) _ (good-item lanes 5200 Up (codes "up") few (omega arith))
     (all-append (Good lanes) (item 8400 Down (codes "down")) _ (good-item lanes 8400 Down (codes "down") few (omega arith))
-    (all-append (Good lanes) (item 11600 Both (codes "up and down")) _ (good-item lanes 11600 Both (codes "up and down") few (omega arith))
-    (good-words lanes 2000 (plot_bottom lanes + 1850) 260 anchors.Start weights.Regular height_words [] (omega arith) few (omega arith) (omega arith), tt))))
+    (all-append (Good lanes) (item 11600 Both (codes "up and down")) _ (good-item lanes 11600 Both (codes "up and down") few (omega arith)) (
+      good-words lanes 2000 (plot_bottom lanes + 1850) 260 anchors.Start weights.Regular height_words [] (omega arith) few (omega arith) (omega arith),
+      (good-words lanes 2000 (plot_bottom lanes + 2200) 260 anchors.Start weights.Regular arrow_words [] (omega arith) few (omega arith) (omega arith), tt),
+    ))))
   where
     item : ℕ → Advised → List ℕ → List Mark
     item x kind words = item_marks (plot_bottom lanes) x kind words
@@ -181,16 +168,13 @@ y-most : (e : Parts) (own cycle : ℕ) → course_y e own cycle ≤ 4700
 unfolding course_y
 y-most e own cycle = low-enough (axis_of e) (height_in e own cycle)
 
-good-point : (e : Parts) (lanes own cycle : ℕ) → lanes ≤ 16 → 1 ≤ cycle → cycle < 1 + e.cycles → IsWithin (frame_of lanes) 0 (course_point e own cycle) × IsPoint (course_point e own cycle)
+good-point : (e : Parts) (lanes own cycle : ℕ) → lanes ≤ 16 → 1 ≤ cycle → cycle < 1 + e.cycles → IsWithin (bounds_of lanes) 0 (course_point e own cycle) × IsPoint (course_point e own cycle)
 unfolding course_point
 good-point e lanes own cycle few first last =
     let x = begins-within e.cycles cycle (omega arith) (omega arith) in
     let y = y-most e own cycle in
-    (at-point lanes (begin_of e.cycles cycle) (course_y e own cycle) (omega (arith, x)) (omega (arith, y)), is-point lanes (begin_of e.cycles cycle) (course_y e own cycle) few (omega (arith, x)) (omega (arith, y)))
-
-all-points : (P : Point → Type 0) (f : ℕ → Point) (first n : ℕ) → ((k : ℕ) → first ≤ k → k < first + n → P (f k)) → AllByRecursion P (map f (range_with_len first n))
-all-points P f first zero h = tt
-all-points P f first (suc n) h = (h first (omega arith) (omega arith), all-points P f (first + 1) n (λ k low high. h k (omega arith) (omega arith)))
+    let p = place lanes (begin_of e.cycles cycle) (course_y e own cycle) (omega (arith, x)) (omega (arith, y)) in
+    (at-point (bounds_of lanes) (begin_of e.cycles cycle) (course_y e own cycle) p, is-point (bounds_of lanes) (begin_of e.cycles cycle) (course_y e own cycle) (small lanes few) p)
 
 x-most : (own : ℕ) → name_x own ≤ 18950
 unfolding name_x
@@ -204,7 +188,7 @@ unfolding course_marks
 good-course e lanes own few =
     let x = x-most own in
     let y = y-most e own e.cycles in
-    let within = all-points (IsWithin (frame_of lanes) 0) (course_point e own) 1 e.cycles (λ k first last. (good-point e lanes own k few first last).0) in
+    let within = all-points (IsWithin (bounds_of lanes) 0) (course_point e own) 1 e.cycles (λ k first last. (good-point e lanes own k few first last).0) in
     let fitting = all-points IsPoint (course_point e own) 1 e.cycles (λ k first last. (good-point e lanes own k few first last).1) in
     let name = good-words lanes (name_x own) (course_y e own e.cycles + 80) 240 anchors.Start weights.Regular (hex 6 (address_of e own)) [] (omega arith) few (omega (arith, x)) (omega (arith, y)) in
     ((within, (fitting, omega arith)), (name, tt))
@@ -221,6 +205,201 @@ good-altitude : (e : Parts) (lanes : ℕ) → lanes ≤ 16 → AllByRecursion (G
 good-altitude e lanes few =
     all-append (Good lanes) (axis_marks (axis_of e)) (courses e) (good-axis lanes (axis_of e) few)
     (all-range (Good lanes) (course_marks e) 0 (length e.crafts) (λ own first last. good-course e lanes own few))
+
+-- ---- bands
+
+y-least : (e : Parts) (own cycle : ℕ) → own < length e.crafts → 1 ≤ cycle → cycle ≤ e.cycles → 1500 ≤ course_y e own cycle
+unfolding course_y
+y-least e own cycle within first last = high-enough (axis_of e) (height_in e own cycle) (holds-all e own cycle within first last)
+
+abbrev GoodPoint : ℕ → Point → Type 0
+GoodPoint lanes point = IsWithin (bounds_of lanes) 0 point × IsPoint point
+
+a-point : (lanes x y : ℕ) → lanes ≤ 16 → x ≤ 20000 → y ≤ page_height lanes → GoodPoint lanes (point_at x y)
+a-point lanes x y few wide tall =
+    let p = place lanes x y wide tall in
+    (at-point (bounds_of lanes) x y p, is-point (bounds_of lanes) x y (small lanes few) p)
+
+shifted-most : (side : Side) (depth y : ℕ) → depth ≤ 150 → y ≤ 4700 → shifted side depth y ≤ 4850
+shifted-most Above depth y deep low = omega arith
+shifted-most Below depth y deep low = omega arith
+
+good-edge : (e : Parts) (lanes own : ℕ) (side : Side) (depth cycle : ℕ) → lanes ≤ 16 → depth ≤ 150 → 1 ≤ e.cycles → cycle ≤ e.cycles → GoodPoint lanes (edge_point e own side depth cycle)
+unfolding edge_point
+good-edge e lanes own side depth cycle few deep some last =
+    let x = begins-within e.cycles cycle some (omega arith) in
+    let y = shifted-most side depth (course_y e own cycle) deep (y-most e own cycle) in
+    a-point lanes (begin_of e.cycles cycle) (shifted side depth (course_y e own cycle)) few (omega (arith, x)) (omega (arith, y))
+
+-- A row lies in a run of cycles.
+pub record IsIn (cycles : ℕ) (row : Row) : Type 0 where
+  pub begun : 1 ≤ row.first
+  pub in_order : row.first ≤ row.last
+  pub in_run : row.last ≤ cycles
+
+reach-most : (cycles : ℕ) (row : Row) → reach_end cycles row ≤ cycles
+reach-most cycles row = elim (cases_Bool (nat_lt row.last cycles)) [
+  | inl met ↦
+      (let within = ltb-true row.last cycles met in
+      subst (λ (n : ℕ). n ≤ cycles) (sym (cond-true (nat_lt row.last cycles) (row.last + 1) cycles met)) (omega (arith, within)))
+  | inr unmet ↦ subst (λ (n : ℕ). n ≤ cycles) (sym (cond-false (nat_lt row.last cycles) (row.last + 1) cycles unmet)) (omega arith)
+]
+
+good-near : (e : Parts) (lanes own : ℕ) (row : Row) → lanes ≤ 16 → IsIn e.cycles row → AllByRecursion (GoodPoint lanes) (near_edge e own row)
+unfolding near_edge
+good-near e lanes own row few it =
+    let begun = it.begun in
+    let end = reach-most e.cycles row in
+    all-points (GoodPoint lanes) (course_point e own) row.first (reach_length e.cycles row) (λ k first last. good-point e lanes own k few (omega arith) (omega arith))
+
+good-far : (e : Parts) (lanes own : ℕ) (side : Side) (depth : ℕ) (row : Row) → lanes ≤ 16 → depth ≤ 150 → IsIn e.cycles row → AllByRecursion (GoodPoint lanes) (far_edge e own side depth row)
+unfolding far_edge
+good-far e lanes own side depth row few deep it =
+    let begun = it.begun in
+    let order = it.in_order in
+    let run = it.in_run in
+    let end = reach-most e.cycles row in
+    all-points (GoodPoint lanes) (λ (k : ℕ). edge_point e own side depth (reach_end e.cycles row - k)) 0 (reach_length e.cycles row)
+    (λ k first last. good-edge e lanes own side depth (reach_end e.cycles row - k) few deep (omega arith) (omega arith))
+
+good-traced : (lanes : ℕ) (outline : Outline) (points : List Point) (paint : Paint) (title : List ℕ) → FitsPaint paint → AllByRecursion (GoodPoint lanes) points → Good lanes (traced outline points paint title)
+good-traced lanes outline points paint title fits all = (all-left (IsWithin (bounds_of lanes) 0) IsPoint points all, (all-right (IsWithin (bounds_of lanes) 0) IsPoint points all, fits))
+
+middles-within : (cycles : ℕ) → 1 ≤ cycles → middle_of cycles cycles ≤ 17800
+middles-within cycles some =
+    let one = begins-within cycles cycles some (omega arith) in
+    let other = begins-within cycles (cycles + 1) some (omega arith) in
+    omega (arith, one, other)
+
+top-most : (side : Side) (depth y : ℕ) → y ≤ 4700 → last_top side depth y ≤ 4700
+top-most Above depth y low = omega arith
+top-most Below depth y low = omega arith
+
+good-last : (e : Parts) (lanes own : ℕ) (side : Side) (depth : ℕ) (paint : Paint) (title : List ℕ) → FitsPaint paint → lanes ≤ 16 → depth ≤ 150 → 1 ≤ e.cycles →
+    Good lanes (figure (shapes.Rect (last_area e own side depth)) paint title)
+unfolding last_area
+good-last e lanes own side depth paint title fits few deep some =
+    let x = begins-within e.cycles e.cycles some (omega arith) in
+    let middle = middles-within e.cycles some in
+    let y = top-most side depth (course_y e own e.cycles) (y-most e own e.cycles) in
+    good-box lanes (begin_of e.cycles e.cycles) (last_top side depth (course_y e own e.cycles)) (last_width e.cycles) depth paint title fits few (omega (arith, x, middle)) (omega (arith, y))
+
+good-last-stripe : (e : Parts) (lanes own : ℕ) (title : List ℕ) → lanes ≤ 16 → 1 ≤ e.cycles → Good lanes (figure (last_stripe e own) stripe_paint title)
+unfolding last_stripe course_point
+good-last-stripe e lanes own title few some =
+    let x = begins-within e.cycles e.cycles some (omega arith) in
+    let middle = middles-within e.cycles some in
+    let y = y-most e own e.cycles in
+    good-line lanes (begin_of e.cycles e.cycles) (course_y e own e.cycles) (middle_of e.cycles e.cycles) (course_y e own e.cycles) stripe_paint title (omega arith) few (omega (arith, x)) (omega (arith, y)) (omega (arith, middle)) (omega (arith, y))
+
+in-run : (cycles : ℕ) (row : Row) → IsIn cycles row → 1 ≤ cycles
+in-run cycles row it = (let begun = it.begun in let order = it.in_order in let run = it.in_run in omega arith)
+
+good-band : (e : Parts) (lanes own : ℕ) (row : Row) (title : List ℕ) (side : Side) (depth : ℕ) (paint : Paint) → FitsPaint paint → lanes ≤ 16 → depth ≤ 150 → IsIn e.cycles row →
+    AllByRecursion (Good lanes) (band e own row title side depth paint)
+unfolding band
+good-band e lanes own row title side depth paint fits few deep it =
+    let points = near_edge e own row ++ far_edge e own side depth row in
+    let one = traced outlines.Closed points paint title in
+    let other = figure (shapes.Rect (last_area e own side depth)) paint title in
+    elim (cases_Bool (has_line e.cycles row)) [
+      | inl met ↦
+          subst (AllByRecursion (Good lanes)) (sym (cond-true (has_line e.cycles row) (one ∷ []) (other ∷ []) met)) (
+            good-traced lanes outlines.Closed points paint title fits
+                (all-append (GoodPoint lanes) (near_edge e own row) (far_edge e own side depth row) (good-near e lanes own row few it) (good-far e lanes own side depth row few deep it)),
+            tt,
+          )
+      | inr unmet ↦
+          subst (AllByRecursion (Good lanes)) (sym (cond-false (has_line e.cycles row) (one ∷ []) (other ∷ []) unmet))
+          (good-last e lanes own side depth paint title fits few deep (in-run e.cycles row it), tt)
+    ]
+
+good-stripe : (e : Parts) (lanes own : ℕ) (row : Row) (title : List ℕ) → lanes ≤ 16 → IsIn e.cycles row → AllByRecursion (Good lanes) (stripe e own row title)
+unfolding stripe
+good-stripe e lanes own row title few it =
+    let one = traced outlines.Open (near_edge e own row) stripe_paint title in
+    let other = figure (last_stripe e own) stripe_paint title in
+    elim (cases_Bool (has_line e.cycles row)) [
+      | inl met ↦
+          subst (AllByRecursion (Good lanes)) (sym (cond-true (has_line e.cycles row) (one ∷ []) (other ∷ []) met))
+          (good-traced lanes outlines.Open (near_edge e own row) stripe_paint title (omega arith) (good-near e lanes own row few it), tt)
+      | inr unmet ↦
+          subst (AllByRecursion (Good lanes)) (sym (cond-false (has_line e.cycles row) (one ∷ []) (other ∷ []) unmet))
+          (good-last-stripe e lanes own title few (in-run e.cycles row it), tt)
+    ]
+
+good-sided : (e : Parts) (lanes own : ℕ) (row : Row) (title : List ℕ) (kind : Advised) (depth : ℕ) → lanes ≤ 16 → depth ≤ 150 → IsIn e.cycles row →
+    AllByRecursion (Good lanes) (sided_band e own row title kind depth)
+good-sided e lanes own row title Traffic depth few deep it = good-stripe e lanes own row title few it
+good-sided e lanes own row title Up depth few deep it = good-band e lanes own row title Above depth (plain blue) tt few deep it
+good-sided e lanes own row title Down depth few deep it =
+    all-append (Good lanes) (band e own row title Below depth (plain vermilion)) (band e own row title Below depth hatched)
+    (good-band e lanes own row title Below depth (plain vermilion) tt few deep it) (good-band e lanes own row title Below depth hatched tt few deep it)
+good-sided e lanes own row title Both depth few deep it =
+    all-append (Good lanes) (band e own row title Above depth (plain purple)) (band e own row title Below depth (plain purple))
+    (good-band e lanes own row title Above depth (plain purple) tt few deep it) (good-band e lanes own row title Below depth (plain purple) tt few deep it)
+
+good-corners : (lanes x y : ℕ) (kind : Advised) → lanes ≤ 16 → x ≤ 17800 → y ≤ 4700 → AllByRecursion (GoodPoint lanes) (corners kind x y)
+unfolding upward downward diamond
+good-corners lanes x y Traffic few right low = tt
+good-corners lanes x y Up few right low =
+    (a-point lanes (x - 110) (y - 20) few (omega arith) (omega arith), (a-point lanes (x + 110) (y - 20) few (omega arith) (omega arith), (a-point lanes x (y - 260) few (omega arith) (omega arith), tt)))
+good-corners lanes x y Down few right low =
+    (a-point lanes (x - 110) (y + 20) few (omega arith) (omega arith), (a-point lanes (x + 110) (y + 20) few (omega arith) (omega arith), (a-point lanes x (y + 260) few (omega arith) (omega arith), tt)))
+good-corners lanes x y Both few right low = (
+  a-point lanes (x - 110) y few (omega arith) (omega arith),
+  (a-point lanes x (y - 150) few (omega arith) (omega arith), (a-point lanes (x + 110) y few (omega arith) (omega arith), (a-point lanes x (y + 150) few (omega arith) (omega arith), tt))),
+)
+
+good-circle : (lanes x y : ℕ) (title : List ℕ) → lanes ≤ 16 → 2000 ≤ x → x ≤ 17800 → 1500 ≤ y → y ≤ 4700 → AllByRecursion (Good lanes) (circle_mark x y title)
+good-circle lanes x y title few left right high low =
+    (circle-in (bounds_of lanes) x y 90 (onset_paint Traffic) title (omega arith) (small lanes few) (omega arith) (omega arith) (omega arith) (omega arith) (omega arith), tt)
+
+good-onset : (lanes x y : ℕ) (title : List ℕ) (kind : Advised) → lanes ≤ 16 → 2000 ≤ x → x ≤ 17800 → 1500 ≤ y → y ≤ 4700 → AllByRecursion (Good lanes) (onset_mark x y title kind)
+good-onset lanes x y title Traffic few left right high low = good-circle lanes x y title few left right high low
+good-onset lanes x y title Up few left right high low = (good-traced lanes outlines.Closed (corners Up x y) (onset_paint Up) title (omega arith) (good-corners lanes x y Up few right low), tt)
+good-onset lanes x y title Down few left right high low = (good-traced lanes outlines.Closed (corners Down x y) (onset_paint Down) title (omega arith) (good-corners lanes x y Down few right low), tt)
+good-onset lanes x y title Both few left right high low = (good-traced lanes outlines.Closed (corners Both x y) (onset_paint Both) title (omega arith) (good-corners lanes x y Both few right low), tt)
+
+good-onsets : (lanes x y : ℕ) (title : List ℕ) (before now : Composite) → lanes ≤ 16 → 2000 ≤ x → x ≤ 17800 → 1500 ≤ y → y ≤ 4700 → AllByRecursion (Good lanes) (onset_marks x y title before now)
+unfolding onset_marks
+good-onsets lanes x y title before now few left right high low = elim (cases_Bool (is_onset before now)) [
+  | inl met ↦ subst (AllByRecursion (Good lanes)) (sym (cond-true (is_onset before now) (onset_mark x y title (advised now)) [] met)) (good-onset lanes x y title (advised now) few left right high low)
+  | inr unmet ↦ subst (AllByRecursion (Good lanes)) (sym (cond-false (is_onset before now) (onset_mark x y title (advised now)) [] unmet)) tt
+]
+
+depth-most : (composite : Composite) → band_depth composite ≤ 150
+depth-most composite = elim (cases_Bool composite.corrective) [
+  | inl met ↦ subst (λ (n : ℕ). n ≤ 150) (sym (cond-true composite.corrective 150 75 met)) (omega arith)
+  | inr unmet ↦ subst (λ (n : ℕ). n ≤ 150) (sym (cond-false composite.corrective 150 75 unmet)) (omega arith)
+]
+
+good-row-band : (e : Parts) (lanes own : ℕ) (row : Row) (title : List ℕ) (before now : Composite) → lanes ≤ 16 → own < length e.crafts → IsIn e.cycles row →
+    AllByRecursion (Good lanes) (row_band e own row title before now)
+unfolding row_band
+good-row-band e lanes own row title before now few within it =
+    let begun = it.begun in
+    let order = it.in_order in
+    let run = it.in_run in
+    let last : row.first ≤ e.cycles = omega arith in
+    let x = begins-within e.cycles row.first (in-run e.cycles row it) (omega arith) in
+    all-append (Good lanes) (sided_band e own row title (advised now) (band_depth now)) (onset_marks (begin_of e.cycles row.first) (course_y e own row.first) title before now)
+    (good-sided e lanes own row title (advised now) (band_depth now) few (depth-most now) it)
+    (good-onsets lanes (begin_of e.cycles row.first) (course_y e own row.first) title before now few (omega arith) x (y-least e own row.first within begun last) (y-most e own row.first))
+
+good-bands-of : (air : Air) (e : Parts) (J : List Entry) → IsLegal air J → (lanes own address : ℕ) → lanes ≤ 16 → own < length e.crafts → AllByRecursion (Good lanes) (bands_of e J own address)
+unfolding bands_of band_of_row
+good-bands-of air e J l lanes own address few within =
+    all-over (IsLongest (is_shown J own) (goes_on J own) e.cycles) (Good lanes) (band_of_row e J own address)
+    (λ row it.
+    good-row-band e lanes own row (bar_title address row (shown_in J own row.first)) (shown_in J own (row.first - 1)) (shown_in J own row.first) few within
+    (record { begun = it.begun; in_order = it.in_order; in_run = it.in_run }))
+    (shown_rows J e.cycles own) (are-rows (is_shown J own) (goes_on J own) e.cycles (is-run air J l own)).longest
+
+good-bands : (air : Air) (e : Parts) (J : List Entry) → IsLegal air J → (lanes : ℕ) → lanes ≤ 16 → AllByRecursion (Good lanes) (bands_marks e J)
+unfolding craft_bands
+good-bands air e J l lanes few =
+    all-range (Good lanes) (craft_bands e J) 0 (length e.crafts) (λ own first last. good-bands-of air e J l lanes own (address_of e own) few (omega arith))
 
 -- ---- bars
 
@@ -246,7 +425,7 @@ between cycles row first order last =
 pub record Stands (lanes : ℕ) (bar : Bar) : Type 0 where
   pub right : bar.left + bar.width ≤ 17800
   pub top : 5700 ≤ bar.base
-  pub bottom : bar.base ≤ 5700 + 700 * lanes
+  pub bottom : bar.base ≤ 5700 + 960 * lanes
   pub height : bar.height ≤ 400
 
 good-word : (lanes : ℕ) (bar : Bar) (word title : List ℕ) → lanes ≤ 16 → Stands lanes bar → AllByRecursion (Good lanes) (word_marks bar word title)
@@ -346,12 +525,124 @@ good-craft air e J l few own = by (slice_get e.crafts own)
           | inr unmet ↦ subst (AllByRecursion (Good (lanes_of e))) (sym (cond-false (is_active_kind craft.kind) (lane_marks e J own lane craft.address) [] unmet)) tt
         ]
 
+-- ---- messages
+
+-- What happens in the run stands in the box of the lanes.
+record IsInPlot (x : ℕ) : Type 0 where
+  left : 2000 ≤ x
+  right : x ≤ 17800
+
+event-within : (cycles commits : ℕ) → commits ≤ cycles → IsInPlot (event_x cycles commits)
+unfolding event_x
+event-within cycles commits few = elim (cases_eq commits 0) [
+  | inl none ↦ subst IsInPlot (sym (cond-true (eqb commits 0) axis_begin (middle_of cycles commits) (eq-eqb commits 0 none))) (record { left = omega arith; right = omega arith })
+  | inr some ↦
+      (let one = begins-within cycles commits (omega arith) (omega arith) in
+      let two = begins-within cycles (commits + 1) (omega arith) (omega arith) in
+      subst IsInPlot (sym (cond-false (eqb commits 0) axis_begin (middle_of cycles commits) (ne_eqb commits 0 some))) (record { left = omega arith; right = omega (arith, one, two) }))
+]
+
+record IsNear (lanes : ℕ) (shaft : Shaft) : Type 0 where
+  tail : shaft.tail_x ≤ 17870
+  tip : shaft.tip_x ≤ 17870
+  left : 1930 ≤ shaft.tip_x
+  begins : shaft.tail_y ≤ page_height lanes
+  neck : shaft.neck_y ≤ page_height lanes
+  ends : shaft.tip_y ≤ page_height lanes
+
+near : (lanes from to sender receiver : ℕ) → IsInPlot from → IsInPlot to → sender ≤ lanes → receiver ≤ lanes → IsNear lanes (shaft_of from to sender receiver)
+unfolding shaft_of
+near lanes from to sender receiver f t a b =
+    let one = f.left in
+    let two = f.right in
+    let three = t.left in
+    let four = t.right in
+    elim (cases_Bool (nat_lt sender receiver)) [
+      | inl met ↦
+          subst (IsNear lanes) (sym (cond-true (nat_lt sender receiver) (down_shaft from to sender receiver) (up_shaft from to sender receiver) met))
+          (record { tail = omega arith; tip = omega arith; left = omega arith; begins = omega arith; neck = omega arith; ends = omega arith })
+      | inr unmet ↦
+          subst (IsNear lanes) (sym (cond-false (nat_lt sender receiver) (down_shaft from to sender receiver) (up_shaft from to sender receiver) unmet))
+          (record { tail = omega arith; tip = omega arith; left = omega arith; begins = omega arith; neck = omega arith; ends = omega arith })
+    ]
+
+good-shaft : (lanes : ℕ) (shaft : Shaft) (color : Color) (title : List ℕ) → lanes ≤ 16 → IsNear lanes shaft → AllByRecursion (Good lanes) (shaft_marks shaft color title)
+good-shaft lanes shaft color title few n =
+    let tail = n.tail in
+    let tip = n.tip in
+    let wide : shaft.tip_x + 90 ≤ 20000 = omega (arith, tip) in
+    let slim : shaft.tip_x - 90 ≤ 20000 = omega (arith, tip) in
+    let there : shaft.tip_x ≤ 20000 = omega (arith, tip) in
+    let line = good-line lanes shaft.tail_x shaft.tail_y shaft.tip_x shaft.neck_y (line_paint color 40) title (omega arith) few (omega (arith, tail)) n.begins there n.neck in
+    let one = a-point lanes (shaft.tip_x - 90) shaft.neck_y few slim n.neck in
+    let two = a-point lanes (shaft.tip_x + 90) shaft.neck_y few wide n.neck in
+    let three = a-point lanes shaft.tip_x shaft.tip_y few there n.ends in
+    (line, (good-traced lanes outlines.Closed (head_points shaft) (filled color color 30) title (omega arith) (one, (two, (three, tt))), tt))
+
+good-arrow : (e : Parts) (arrow : Arrow) → lanes_of e ≤ 16 → IsTimely e arrow → AllByRecursion (Good (lanes_of e)) (arrow_marks e arrow)
+unfolding arrow_marks
+good-arrow e arrow few t =
+    let from = event-within e.cycles arrow.sent_after t.sent in
+    let to = event-within e.cycles arrow.taking.taken_after t.taken in
+    let stands = near (lanes_of e) (event_x e.cycles arrow.sent_after) (event_x e.cycles arrow.taking.taken_after) (lane_of e.crafts arrow.taking.sender) (lane_of e.crafts arrow.taking.receiver) from to
+    (filter-front is_active arrow.taking.sender e.crafts) (filter-front is_active arrow.taking.receiver e.crafts) in
+    good-shaft (lanes_of e) (arrow_shaft e arrow) (color_of arrow.after) (arrow_title (address_of e arrow.taking.sender) (address_of e arrow.taking.receiver) arrow) few stands
+  where
+    is_active : CraftSpec → Bool
+    is_active craft = is_active_kind craft.kind
+
+good-messages : (e : Parts) (J : List Entry) → IsLegal (air_of e) J → lanes_of e ≤ 16 → AllByRecursion (Good (lanes_of e)) (messages_marks e J)
+good-messages e J l few = all-over (IsTimely e) (Good (lanes_of e)) (arrow_marks e) (λ arrow timely. good-arrow e arrow few timely) (arrows e J) (arrows-timely e J J l l)
+
+-- ---- the panels of a pair
+
+-- A mark lies within the whole page, and its numbers fit.
+abbrev GoodPage : ℕ → ℕ → Mark → Type 0
+GoodPage lanes below mark = IsMarkWithin (page_bounds lanes below) mark × FitsMark mark
+
+lifted : (inner outer : Bounds) → AreInside inner outer → (marks : List Mark) → AllByRecursion (λ mark. IsMarkWithin inner mark × FitsMark mark) marks → AllByRecursion (λ mark. IsMarkWithin outer mark × FitsMark mark) marks
+lifted inner outer inside [] good = tt
+lifted inner outer inside (mark ∷ marks) good = ((wider inner outer inside mark good.0.0, good.0.1), lifted inner outer inside marks good.1)
+
+above : (lanes below : ℕ) (marks : List Mark) → AllByRecursion (Good lanes) marks → AllByRecursion (GoodPage lanes below) marks
+above lanes below marks good = lifted (bounds_of lanes) (page_bounds lanes below) (record { left = omega arith; top = omega arith; right = omega arith; bottom = omega arith }) marks good
+
+good-panel : (e : Parts) (lanes top : ℕ) (distance : Distance) (pair : NearPair) → lanes ≤ 16 → page_height lanes ≤ top → top + 3400 ≤ page_height lanes + 6800 → IsPair e pair → AllByRecursion (GoodPage lanes 6800) (distance_marks top e distance pair)
+good-panel e lanes top distance pair few low high is =
+    lifted (bounds_from top) (page_bounds lanes 6800) (record { left = omega arith; top = omega arith; right = omega arith; bottom = omega arith }) (distance_marks top e distance pair) (are-within top e distance pair (omega arith) is)
+
+good-panels : (e : Parts) (lanes : ℕ) → lanes ≤ 16 → (pair : Option NearPair) → IsNearest e pair → AllByRecursion (GoodPage lanes (panels_height pair)) (panel_marks (page_height lanes) e pair)
+good-panels e lanes few None nearest = tt
+good-panels e lanes few (Some pair) nearest =
+    let is = is-pair e pair nearest in
+    let top = page_height lanes in
+    all-append (GoodPage lanes 6800) (distance_marks top e Slant pair) (distance_marks (top + 3400) e Vertical pair)
+    (good-panel e lanes top Slant pair few (omega arith) (omega arith) is) (good-panel e lanes (top + 3400) Vertical pair few (omega arith) (omega arith) is)
+
 -- ---- all of it
 
-pub are-good : (air : Air) (e : Parts) (J : List Entry) → IsLegal air J → lanes_of e ≤ 16 → AllByRecursion (λ (s : Section). AllByRecursion (Good (lanes_of e)) s.marks) (sections e J)
-are-good air e J l few =
-    let lanes = all-range (Good (lanes_of e)) (craft_marks e J) 0 (length e.crafts) (λ own first last. good-craft air e J l few own) in
-    (good-head e J (lanes_of e) few, (good-time (lanes_of e) e.cycles few, (good-altitude e (lanes_of e) few, (lanes, (good-legend (lanes_of e) few, tt)))))
+abbrev below_of : Parts → ℕ
+below_of e = panels_height (nearest_pair e)
+
+pub are-good : (e : Parts) (J : List Entry) → IsEncounter e → IsLegal (air_of e) J → lanes_of e ≤ 16 → AllByRecursion (λ (s : Section). AllByRecursion (GoodPage (lanes_of e) (below_of e)) s.marks) (sections e J)
+are-good e J valid l few =
+    let n = lanes_of e in
+    let below = below_of e in
+    let lanes = all-range (Good n) (craft_marks e J) 0 (length e.crafts) (λ own first last. good-craft (air_of e) e J l few own) in
+    let bands = good-bands (air_of e) e J l n few in
+    let panels = good-panels e n few (nearest_pair e) (nearest-is e valid) in (
+      above n below (head_marks e J) (good-head e J n few),
+      (
+        above n below (time_marks e.cycles n) (good-time n e.cycles few),
+        (
+          above n below (bands_marks e J) bands,
+          (
+            above n below (altitude_marks e) (good-altitude e n few),
+            (above n below (messages_marks e J) (good-messages e J l few), (above n below (lanes_marks e J) lanes, (above n below (legend_marks n) (good-legend n few), (panels, tt)))),
+          ),
+        ),
+      ),
+    )
 
 each-section : (P Q : Mark → Type 0) (sections : List Section) → AllByRecursion (λ (s : Section). AllByRecursion (λ m. P m × Q m) s.marks) sections →
     AllByRecursion (λ (s : Section). AllByRecursion P s.marks) sections × AllByRecursion (λ (s : Section). AllByRecursion Q s.marks) sections
@@ -360,21 +651,25 @@ each-section P Q (s ∷ rest) h =
     let more = each-section P Q rest h.1 in
     ((all-left P Q s.marks h.0, more.0), (all-right P Q s.marks h.0, more.1))
 
-fits-frame : (lanes : ℕ) → lanes ≤ 16 → FitsFrame (frame_of lanes)
-fits-frame lanes few = record {
+fits-page : (lanes below : ℕ) → lanes ≤ 16 → below ≤ 6800 → FitsFrame (frame_of lanes below)
+fits-page lanes below few small_below = record {
   width = omega arith;
   height = omega arith;
-  window = record { corner = is-point lanes 2000 5100 few (omega arith) (omega arith); width = omega arith; height = omega arith };
+  window = record { corner = is-point (bounds_of lanes) 2000 5100 (small lanes few) (place lanes 2000 5100 (omega arith) (omega arith)); width = omega arith; height = omega arith };
 }
 
-pub is-sound : (air : Air) (e : Parts) (J : List Entry) → length e.crafts ≤ 16 → IsLegal air J → IsSound e J
+fits-frame : (lanes : ℕ) (pair : Option NearPair) → lanes ≤ 16 → FitsFrame (frame_of lanes (panels_height pair))
+fits-frame lanes None few = fits-page lanes 0 few (omega arith)
+fits-frame lanes (Some pair) few = fits-page lanes 6800 few (omega arith)
+
+pub is-sound : (e : Parts) (J : List Entry) → IsEncounter e → length e.crafts ≤ 16 → IsLegal (air_of e) J → IsSound e J
 unfolding picture_lines
-is-sound air e J most l =
+is-sound e J valid most l =
     let few : lanes_of e ≤ 16 = (let it = filter-few is_active e.crafts in omega (arith, it)) in
-    let both = each-section (IsMarkWithin (page e)) FitsMark (sections e J) (are-good air e J l few) in
+    let both = each-section (IsMarkWithin (page_bounds (lanes_of e) (below_of e))) FitsMark (sections e J) (are-good e J valid l few) in
     record {
       within = both.0;
-      formed = form (page e) (title_text e) description (sections e J) (fits-frame (lanes_of e) few) both.1;
+      formed = form (page e) (title_text e) description (sections e J) (fits-frame (lanes_of e) (nearest_pair e) few) both.1;
     }
   where
     is_active : CraftSpec → Bool

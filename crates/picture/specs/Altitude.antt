@@ -6,8 +6,9 @@ use Rattle.acas_base.specs.Encounter.{Parts}
 use Rattle.acas_text.specs.Hex.{hex}
 use Rattle.air_journal.specs.Airs.{address_of}
 use Rattle.picture.specs.Heights.{axis_of, height_in, height_of}
-use Rattle.picture.specs.Layout.{course_area, course_bottom, course_height, point_at}
-use Rattle.picture.specs.Paints.{ink, letters, line_paint}
+use Rattle.picture.specs.Layout.{course_area, course_bottom, course_height}
+use Rattle.page_marks.specs.Places.{point_at}
+use Rattle.page_marks.specs.Paints.{ink, letters, line_paint}
 use Rattle.picture.specs.declared.span.Span.{Span}
 use Rattle.plot_axes.specs.Scale.{along}
 use Rattle.plot_axes.specs.Time.{begin_of}

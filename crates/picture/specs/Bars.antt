@@ -12,12 +12,13 @@ use Rattle.advisory_report.specs.Composite.{word_of}
 use Rattle.advisory_report.specs.Phrases.{has_advice}
 use Rattle.advisory_report.specs.declared.composite.Composite.{Composite}
 use Rattle.equal_rows.specs.declared.row.Row.{Row}
-use Rattle.picture.specs.Layout.{area_at, lane_base, lane_of, point_at}
-use Rattle.picture.specs.Paints.{box_marks, grid, halo, letters, line_paint}
+use Rattle.picture.specs.Layout.{lane_base, lane_of}
+use Rattle.page_marks.specs.Places.{area_at, point_at}
+use Rattle.page_marks.specs.Paints.{box_marks, grid, halo, letters, line_paint}
 use Rattle.picture.specs.Shown.{shown_in, shown_rows}
 use Rattle.picture.specs.declared.bar.Bar.{Bar}
-use Rattle.picture.specs.declared.paints.Advised.{Advised}
-use Rattle.picture.specs.declared.paints.Advised.TheVariants as kinds
+use Rattle.page_marks.specs.declared.paints.Advised.{Advised}
+use Rattle.page_marks.specs.declared.paints.Advised.TheVariants as kinds
 use Rattle.plot_axes.specs.Time.{begin_of}
 use Rattle.svg_text.specs.Marks.{Mark, figure, worded}
 use Rattle.svg_text.specs.declared.shapes.Anchor.TheVariants as anchors
@@ -71,7 +72,7 @@ pub record IsPlaced (bar : Bar) : Type 0 where
   pub left : 2000 ≤ bar.left
   pub right : bar.left + bar.width ≤ 17800
   pub top : 5700 ≤ bar.base
-  pub bottom : bar.base ≤ 16900
+  pub bottom : bar.base ≤ 21060
   pub height : bar.height ≤ tall
 
 abbrev pub bar_area : Bar → Area

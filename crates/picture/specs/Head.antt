@@ -7,8 +7,8 @@ use Rattle.acas_base.specs.declared.craft.Kind.{Kind}
 use Rattle.acas_base.specs.declared.craft.Kind.TheVariants.{Ra, Ta, Xpdr}
 use Rattle.acas_base.specs.declared.entry.Entry.{Entry}
 use Rattle.air_rules.specs.Journal.{as_sent, count_of as count_where}
-use Rattle.picture.specs.Layout.{point_at}
-use Rattle.picture.specs.Paints.{letters}
+use Rattle.page_marks.specs.Places.{point_at}
+use Rattle.page_marks.specs.Paints.{letters}
 use Rattle.svg_text.specs.Marks.{Mark, worded}
 use Rattle.svg_text.specs.declared.shapes.Anchor.TheVariants as anchors
 use Rattle.svg_text.specs.declared.shapes.Weight.TheVariants as weights

@@ -1,17 +1,28 @@
 -- What the picture says of a recording, and what holds of its text.
-use Rattle.std.specs.Prelude.{◌≡◌, ℕ, ◌+◌, ◌-◌, ◌<◌, ◌≤◌, false, List, ℤ, ◌≤ℤ◌}
+use Rattle.std.specs.Prelude.{◌≡◌, ◌≢◌, ◌⊎◌, ℕ, ◌+◌, ◌-◌, ◌<◌, ◌≤◌, true, false, List, [], ◌∷◌, Some, length, ℤ, ◌≤ℤ◌}
 use Rattle.std.specs.List.{AllByRecursion}
 use Rattle.acas_base.specs.Encounter.{Parts}
+use Rattle.acas_base.specs.declared.advisory.Vrc.{Vrc}
 use Rattle.acas_base.specs.declared.entry.Entry.{Entry}
+use Rattle.acas_base.specs.declared.entry.Entry.TheVariants.{Take}
 use Rattle.advisory_report.specs.Composite.{word_of}
 use Rattle.advisory_report.specs.Phrases.{is_clear}
+use Rattle.air_journal.specs.Airs.{air_of}
+use Rattle.air_rules.specs.Journal.{Begins, Sent, commits, sent_at}
+use Rattle.air_rules.specs.Takes.{complement_from}
 use Rattle.equal_rows.specs.Rows.{AreInOrder, IsCovered}
 use Rattle.equal_rows.specs.declared.row.Row.{Row}
 use Rattle.picture.specs.Altitude.{altitude_y}
 use Rattle.picture.specs.Heights.{HoldsAll, IsOn, axis_of}
-use Rattle.picture.specs.Picture.{page, picture_text, sections}
+use Rattle.pair_panels.specs.Nearest.{nearest_pair}
+use Rattle.journal_reader.specs.Reading.{read_of}
+use Rattle.picture.specs.Layout.{page_bounds}
+use Rattle.picture.specs.Messages.{arrows}
+use Rattle.picture.specs.Panels.{panels_height}
+use Rattle.picture.specs.declared.messages_read.Arrow.{Arrow}
+use Rattle.picture.specs.Picture.{lanes_of, picture_text, sections}
 use Rattle.picture.specs.Shown.{is_alike, shown_in}
-use Rattle.picture.specs.Within.{IsSectionWithin}
+use Rattle.page_marks.specs.Within.{IsSectionWithin}
 use Rattle.svg_text.specs.Xml.{IsDocument}
 
 -- In all cycles of a row the aircraft has one word, which isn't CLEAR, and one corrective mark. The cycles before it
@@ -37,7 +48,52 @@ pub record AreCourses (e : Parts) : Type 0 where
   pub holds : HoldsAll e
   pub in_order : (low high : ℤ) → IsOn (axis_of e) low → IsOn (axis_of e) high → low ≤ℤ high → altitude_y (axis_of e) high ≤ altitude_y (axis_of e) low
 
+-- An arrow stands for a take of a good copy after which another complement is in force on the taker from the sender
+-- than before it. It names the message, where it was sent and taken, and the complement after the take.
+pub record IsArrowOf (e : Parts) (journal : List Entry) (arrow : Arrow) : Type 0 where
+  pub earlier : List Entry
+  pub copy : ℕ
+  pub sent : Sent
+  pub there : Begins (Take arrow.taking.receiver arrow.taking.send copy true ∷ earlier) journal
+  pub found : sent_at earlier arrow.taking.send ≡ Some sent
+  pub sender : arrow.taking.sender ≡ sent.sender
+  pub number : arrow.taking.number ≡ sent.number
+  pub position : arrow.taking.take ≡ length earlier
+  pub sent_after : arrow.sent_after ≡ commits (read_of journal arrow.taking.send) sent.sender
+  pub taken_after : arrow.taking.taken_after ≡ commits earlier arrow.taking.receiver
+  pub before : arrow.taking.before ≡ complement_from (air_of e) earlier arrow.taking.receiver sent.sender
+  pub after : arrow.after ≡ complement_from (air_of e) (Take arrow.taking.receiver arrow.taking.send copy true ∷ earlier) arrow.taking.receiver sent.sender
+  pub changes : arrow.taking.before ≢ arrow.after
+
+-- The takes of the arrows come one after the other, from a position on.
+abbrev pub AreRising : ℕ → List Arrow → Type 0
+AreRising from [] = Unit {0}
+AreRising from (arrow ∷ rest) = (from ≤ arrow.taking.take) × AreRising (arrow.taking.take + 1) rest
+
+-- One of the arrows sets this complement on an aircraft from another one, by a take from one position on and before
+-- another one.
+pub record Sets (arrow : Arrow) (own other from to : ℕ) (vrc : Vrc) : Type 0 where
+  pub receiver : arrow.taking.receiver ≡ own
+  pub sender : arrow.taking.sender ≡ other
+  pub low : from ≤ arrow.taking.take
+  pub high : arrow.taking.take < to
+  pub after : arrow.after ≡ vrc
+
+abbrev pub SomeSets : List Arrow → ℕ → ℕ → ℕ → ℕ → Vrc → Type 0
+SomeSets [] own other from to vrc = ⊥
+SomeSets (arrow ∷ rest) own other from to vrc = Sets arrow own other from to vrc ⊎ SomeSets rest own other from to vrc
+
+-- Each arrow stands for a take that changes what is in force, and no take has two. Where what is in force on an
+-- aircraft from another one changes from one place of the journal to a later one, and it commits nothing between them,
+-- an arrow between them sets what is in force at the later one. So each take that changes it has its arrow; and where an
+-- aircraft obeys a complement that wasn't in force at its last commit, an arrow between the two commits sets it.
+pub record AreArrows (e : Parts) (journal : List Entry) : Type 0 where
+  pub each : AllByRecursion (IsArrowOf e journal) (arrows e journal)
+  pub in_order : AreRising 0 (arrows e journal)
+  pub all : (earlier later : List Entry) (own other : ℕ) → Begins earlier later → Begins later journal → commits earlier own ≡ commits later own →
+      complement_from (air_of e) earlier own other ≢ complement_from (air_of e) later own other → SomeSets (arrows e journal) own other (length earlier) (length later) (complement_from (air_of e) later own other)
+
 -- All marks lie within the page, and the text is well formed.
 pub record IsSound (e : Parts) (journal : List Entry) : Type 0 where
-  pub within : AllByRecursion (IsSectionWithin (page e)) (sections e journal)
+  pub within : AllByRecursion (IsSectionWithin (page_bounds (lanes_of e) (panels_height (nearest_pair e)))) (sections e journal)
   pub formed : IsDocument (picture_text e journal)

@@ -1,16 +1,11 @@
 -- Where things stand, in units of the drawing, to the right and downward.
-use Rattle.std.specs.Prelude.{ℕ, ◌+◌, ◌*◌, pos, List, filter, length, take}
+use Rattle.std.specs.Prelude.{ℕ, ◌+◌, ◌*◌, List, filter, length, take}
 use Rattle.acas_base.specs.Encounter.{is_active_kind}
 use Rattle.acas_base.specs.declared.craft.CraftSpec.{CraftSpec}
+use Rattle.page_marks.specs.Places.{area_at}
+use Rattle.page_marks.specs.Within.{Bounds}
 use Rattle.svg_text.specs.declared.document.Frame.{Frame}
 use Rattle.svg_text.specs.declared.shapes.Area.{Area}
-use Rattle.svg_text.specs.declared.shapes.Point.{Point}
-
-abbrev pub point_at : ℕ → ℕ → Point
-point_at x y = record { x = pos x; y = pos y }
-
-abbrev pub area_at : ℕ → ℕ → ℕ → ℕ → Area
-area_at x y width height = record { corner = point_at x y; width = width; height = height }
 
 -- ---- lanes
 
@@ -24,7 +19,7 @@ lane_of crafts own = active_among (take own crafts)
 
 -- All bars of a lane end here.
 abbrev pub lane_base : ℕ → ℕ
-lane_base lane = 5700 + 700 * lane
+lane_base lane = 5700 + 960 * lane
 
 -- ---- the page
 
@@ -49,17 +44,26 @@ abbrev pub plot_top : ℕ
 plot_top = 5100
 
 abbrev pub plot_bottom : ℕ → ℕ
-plot_bottom lanes = 5200 + 700 * lanes
+plot_bottom lanes = 5200 + 960 * lanes
 
 abbrev pub plot_height : ℕ → ℕ
-plot_height lanes = 100 + 700 * lanes
+plot_height lanes = 100 + 960 * lanes
 
 abbrev pub page_height : ℕ → ℕ
-page_height lanes = 7400 + 700 * lanes
+page_height lanes = 7750 + 960 * lanes
 
 -- The box in which the lanes stand.
 abbrev pub plot_area : ℕ → Area
 plot_area lanes = area_at 2000 plot_top 15800 (plot_height lanes)
 
-abbrev pub frame_of : ℕ → Frame
-frame_of lanes = record { width = page_width; height = page_height lanes; window = plot_area lanes }
+-- The page, with so much below it for panels.
+abbrev pub frame_of : ℕ → ℕ → Frame
+frame_of lanes below = record { width = page_width; height = page_height lanes + below; window = plot_area lanes }
+
+-- What is above the panels.
+abbrev pub bounds_of : ℕ → Bounds
+bounds_of lanes = record { left = 0; top = 0; right = page_width; bottom = page_height lanes }
+
+-- The whole page.
+abbrev pub page_bounds : ℕ → ℕ → Bounds
+page_bounds lanes below = record { left = 0; top = 0; right = page_width; bottom = page_height lanes + below }

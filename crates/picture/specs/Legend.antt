@@ -1,9 +1,10 @@
--- What the boxes mean.
+-- What the boxes and the arrows mean.
 use Rattle.std.specs.Prelude.{ℕ, ◌+◌, List, [], ◌∷◌, ◌++◌, codes}
-use Rattle.picture.specs.Layout.{area_at, plot_bottom, point_at}
-use Rattle.picture.specs.Paints.{box_marks, letters}
-use Rattle.picture.specs.declared.paints.Advised.{Advised}
-use Rattle.picture.specs.declared.paints.Advised.TheVariants as kinds
+use Rattle.picture.specs.Layout.{plot_bottom}
+use Rattle.page_marks.specs.Places.{area_at, point_at}
+use Rattle.page_marks.specs.Paints.{box_marks, letters}
+use Rattle.page_marks.specs.declared.paints.Advised.{Advised}
+use Rattle.page_marks.specs.declared.paints.Advised.TheVariants as kinds
 use Rattle.svg_text.specs.Marks.{Mark, worded}
 use Rattle.svg_text.specs.declared.shapes.Anchor.TheVariants as anchors
 use Rattle.svg_text.specs.declared.shapes.Weight.TheVariants as weights
@@ -17,10 +18,14 @@ item_marks bottom x advised words =
 abbrev pub height_words : List ℕ
 height_words = codes "A tall bar: corrective advice. A low bar: preventive advice, or traffic alone."
 
+abbrev pub arrow_words : List ℕ
+arrow_words = codes "An arrow: a message that changes what is in force, in the colour of the sense that it leaves."
+
 abbrev pub legend_marks : ℕ → List Mark
 legend_marks lanes =
     item_marks (plot_bottom lanes) 2000 kinds.Traffic (codes "traffic")
     ++ (item_marks (plot_bottom lanes) 5200 kinds.Up (codes "up")
     ++ (item_marks (plot_bottom lanes) 8400 kinds.Down (codes "down")
     ++ (item_marks (plot_bottom lanes) 11600 kinds.Both (codes "up and down")
-    ++ worded (letters (point_at 2000 (plot_bottom lanes + 1850)) 260 anchors.Start weights.Regular) height_words [] ∷ [])))
+    ++ worded (letters (point_at 2000 (plot_bottom lanes + 1850)) 260 anchors.Start weights.Regular) height_words []
+    ∷ worded (letters (point_at 2000 (plot_bottom lanes + 2200)) 260 anchors.Start weights.Regular) arrow_words [] ∷ [])))

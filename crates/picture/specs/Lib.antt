@@ -1,12 +1,15 @@
 pub mod Layout
-pub mod Paints
 pub mod Shown
 pub mod Head
 pub mod Heights
 pub mod Altitude
 pub mod Time
 pub mod Bars
+pub mod Bands
+pub mod Onsets
 pub mod Legend
+pub mod Messages
+pub mod MessagesDrawn
+pub mod Panels
 pub mod Picture
-pub mod Within
 pub mod Laws

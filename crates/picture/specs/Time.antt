@@ -2,8 +2,9 @@
 use Rattle.std.specs.Prelude.{ℕ, ◌+◌, if◌then◌else◌, List, [], ◌∷◌, ◌++◌, codes, None}
 use Rattle.std.specs.Fmt.{decimal}
 use Rattle.std.specs.List.{flat_map, range_with_len}
-use Rattle.picture.specs.Layout.{plot_area, plot_bottom, course_top, point_at}
-use Rattle.picture.specs.Paints.{grid, ink, letters, line_paint}
+use Rattle.picture.specs.Layout.{plot_area, plot_bottom, course_top}
+use Rattle.page_marks.specs.Places.{point_at}
+use Rattle.page_marks.specs.Paints.{grid, ink, letters, line_paint}
 use Rattle.plot_axes.specs.Time.{begin_of, is_tick}
 use Rattle.svg_text.specs.Marks.{Mark, figure, worded}
 use Rattle.svg_text.specs.declared.shapes.Anchor.TheVariants as anchors

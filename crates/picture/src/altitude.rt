@@ -12,11 +12,11 @@ ghost use Rattle.svg_text.specs.declared.shapes.Outline.TheVariants as outlines;
 
 use crate::heights::{axis_law, axis_of, height_in, height_of};
 use crate::lanes::address_text;
-use crate::layout::{COURSE_BOTTOM, COURSE_HEIGHT, course_area, point_at};
-use crate::paints::{ink, put_line, put_words};
+use crate::layout::{COURSE_BOTTOM, COURSE_HEIGHT, course_area};
 use crate::span::Span;
 use acas_base::{Address, Encounter};
 use acas_text::Line;
+use page_marks::{ink, point_at, put_line, put_words};
 use plot_axes::{Scale, TimeAxis};
 use svg_text::{Anchor, Dash, Drawing, Fill, Outline, Paint, Point, Shape, Stroke, Weight};
 
@@ -27,6 +27,7 @@ fn altitude_y(axis: Span, height: i64) -> u32
     requires high { unsigned_abs axis.high ≤ 401 }
     requires on { IsOn axis height }
     ensures value { result ≡ altitude_y axis height }
+    ensures least { 1500 ≤ result }
     ensures most { result ≤ 4700 }
 {
     let scale = Scale {
@@ -37,9 +38,9 @@ fn altitude_y(axis: Span, height: i64) -> u32
     COURSE_BOTTOM - scale.along(height)
 }
 
-// How far down an aircraft stands in a cycle.
+/// How far down an aircraft stands in a cycle.
 #[tactic(auto, unfolding(crate::specs::Altitude::course_y))]
-fn course_y(encounter: &Encounter, axis: Span, own: u8, cycle: u16) -> u32
+pub(crate) fn course_y(encounter: &Encounter, axis: Span, own: u8, cycle: u16) -> u32
     requires axis { axis ≡ axis_of encounter.now }
     requires low { unsigned_abs axis.low ≤ 401 }
     requires high { unsigned_abs axis.high ≤ 401 }
@@ -47,6 +48,7 @@ fn course_y(encounter: &Encounter, axis: Span, own: u8, cycle: u16) -> u32
     requires first { 1 ≤ cycle }
     requires last { cycle ≤ encounter.now.cycles }
     ensures value { result ≡ course_y encounter.now own cycle }
+    ensures least { 1500 ≤ result }
     ensures most { result ≤ 4700 }
 {
     encounter.valid_law();
@@ -54,9 +56,15 @@ fn course_y(encounter: &Encounter, axis: Span, own: u8, cycle: u16) -> u32
     altitude_y(axis, height_in(encounter, own, cycle))
 }
 
-// Where it stands.
+/// Where it stands.
 #[tactic(auto, unfolding(crate::specs::Altitude::course_point))]
-fn course_point(encounter: &Encounter, axis: Span, time: TimeAxis, own: u8, cycle: u16) -> Point
+pub(crate) fn course_point(
+    encounter: &Encounter,
+    axis: Span,
+    time: TimeAxis,
+    own: u8,
+    cycle: u16,
+) -> Point
     requires axis { axis ≡ axis_of encounter.now }
     requires low { unsigned_abs axis.low ≤ 401 }
     requires high { unsigned_abs axis.high ≤ 401 }
@@ -147,8 +155,8 @@ fn put_line_of<D: Drawing>(
     drawing.end_points(Outline::Open, course_paint(own), address);
 }
 
-// The address of an aircraft.
-fn address_of(encounter: &Encounter, own: u8) -> Address
+/// The address of an aircraft.
+pub(crate) fn address_of(encounter: &Encounter, own: u8) -> Address
     requires { own < length encounter.now.crafts }
     ensures { result ≡ address_of encounter.now own }
 {

@@ -5,13 +5,13 @@ ghost use Rattle.picture.specs.Layout.{lane_base};
 ghost use Rattle.svg_text.specs.declared.drawing.TheConstants.{LABEL_BYTES};
 
 use crate::bar::Bar;
-use crate::layout::{area_at, lane_base, point_at};
-use crate::paints::{Advised, put_box, put_over};
+use crate::layout::lane_base;
 use acas_base::Address;
 use acas_lines::fixed_line;
 use acas_text::Line;
 use advisory_report::{Composite, has_advice, word};
 use equal_rows::Row;
+use page_marks::{Advised, area_at, point_at, put_box, put_over};
 use plot_axes::TimeAxis;
 use svg_text::{Area, Drawing};
 
@@ -23,7 +23,8 @@ const SIZE: u16 = 220;
 
 // ---- what it says
 
-fn advised(composite: &Composite) -> Advised
+/// In which sense there is advice.
+pub(crate) fn advised(composite: &Composite) -> Advised
     ensures { result ≡ advised composite.now }
 {
     match (composite.up, composite.down) {
@@ -48,8 +49,9 @@ fn mark_text(composite: &Composite) -> &'static str
     }
 }
 
+/// What a viewer shows of a row under the pointer.
 #[tactic(auto, unfolding(crate::specs::Bars::bar_title))]
-fn bar_title(address: Address, row: Row, composite: &Composite) -> Line
+pub(crate) fn bar_title(address: Address, row: Row, composite: &Composite) -> Line
     ensures text { result ≡ bar_title address row composite.now }
     ensures short { length result ≤ LABEL_BYTES }
 {
@@ -119,7 +121,7 @@ fn word_x(bar: Bar) -> u32
 fn word_y(bar: Bar) -> u32
     requires { IsPlaced bar }
     ensures value { result ≡ word_y bar }
-    ensures most { result ≤ 16980 }
+    ensures most { result ≤ 21140 }
 {
     bar.base - bar.height / 2 + 80
 }

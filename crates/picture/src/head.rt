@@ -4,12 +4,11 @@ ghost use Rattle.air_journal.specs.EntryRefs.{entry_of};
 ghost use Rattle.picture.specs.Head.{count_of, counted, crafts_text, description, head_marks, is_same_kind, is_send, number_text, sent_in, sent_text, title_text};
 ghost use Rattle.svg_text.specs.declared.drawing.TheConstants.{LABEL_BYTES};
 
-use crate::layout::point_at;
-use crate::paints::put_words;
 use acas_base::{CraftSpec, Encounter, Kind};
 use acas_lines::fixed_line;
 use acas_text::Line;
 use air_journal::{AirState, EntryRef};
+use page_marks::{point_at, put_words};
 use svg_text::{Anchor, Drawing, Weight};
 
 fn is_same_kind(kind: Kind, other: Kind) -> bool

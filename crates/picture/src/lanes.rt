@@ -9,13 +9,13 @@ ghost use Rattle.picture.specs.Shown.{goes_on, is_shown};
 ghost use Rattle.svg_text.specs.declared.drawing.TheConstants.{LABEL_BYTES};
 
 use crate::bars::put_bar;
-use crate::layout::{lane_base, lane_of, point_at};
-use crate::paints::{grid, put_line, put_words};
+use crate::layout::{lane_base, lane_of};
 use crate::shown::{begins, last_from, shown_in};
 use acas_base::Address;
 use acas_text::Line;
 use air_journal::AirState;
 use equal_rows::Row;
+use page_marks::{grid, point_at, put_line, put_words};
 use plot_axes::TimeAxis;
 use svg_text::{Anchor, Drawing, Shape, Weight};
 

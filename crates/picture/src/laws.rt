@@ -4,7 +4,7 @@ ghost use Rattle.acas_base.specs.Encounter.{IsEncounter, Parts};
 ghost use Rattle.acas_base.specs.declared.entry.Entry.{Entry};
 ghost use Rattle.air_journal.specs.Airs.{air_of};
 ghost use Rattle.air_rules.specs.Rules.{IsLegal};
-ghost use Rattle.picture.specs.Laws.{AreBars, AreCourses, IsSound};
+ghost use Rattle.picture.specs.Laws.{AreArrows, AreBars, AreCourses, IsSound};
 ghost use Rattle.picture.specs.Shown.{shown_rows};
 
 /// A law: the bars of an aircraft are exactly the longest rows of its cycles with one word of the report, which isn't
@@ -17,6 +17,13 @@ pub fn bars_law()
 /// one.
 pub fn courses_law()
     ensures { (e : Parts) → AreCourses e }
+{}
+
+/// A law: an arrow stands exactly for each take of a good copy that changes the complement in force on the taker from
+/// the sender. Where that changes from one place of the journal to a later one, and the taker commits nothing between
+/// them, an arrow between them sets it.
+pub fn arrows_law()
+    ensures { (e : Parts) (journal : List Entry) → IsEncounter e → IsLegal (air_of e) journal → AreArrows e journal }
 {}
 
 /// A law: everything in the picture lies within its page, and its text is well formed.

@@ -1,9 +1,10 @@
 // Where things stand on the page.
 ghost use Rattle.std.specs.Prelude.{◌≡◌, ◌<◌, ◌≤◌, ◌^◌, length};
-ghost use Rattle.picture.specs.Layout.{active_among, area_at, course_area, frame_of, lane_base, lane_of, plot_area, plot_bottom, point_at};
+ghost use Rattle.picture.specs.Layout.{active_among, course_area, frame_of, lane_base, lane_of, page_height, plot_area, plot_bottom};
 
 use acas_base::CraftSpec;
-use svg_text::{Area, Frame, Point};
+use page_marks::area_at;
+use svg_text::{Area, Frame};
 
 /// How wide the page is.
 const PAGE_WIDTH: u32 = 20_000;
@@ -21,30 +22,7 @@ pub(crate) const COURSE_HEIGHT: u32 = 3_200;
 pub(crate) const COURSE_BOTTOM: u32 = 4_700;
 
 // How far it is from one lane to the next one.
-const LANE: u32 = 700;
-
-pub(crate) fn point_at(x: u32, y: u32) -> Point
-    requires x { x < 2 ^ 16 }
-    requires y { y < 2 ^ 16 }
-    ensures { result ≡ point_at x y }
-{
-    Point {
-        x: x as i32,
-        y: y as i32,
-    }
-}
-
-pub(crate) fn area_at(x: u32, y: u32, width: u32, height: u32) -> Area
-    requires x { x < 2 ^ 16 }
-    requires y { y < 2 ^ 16 }
-    ensures { result ≡ area_at x y width height }
-{
-    Area {
-        corner: point_at(x, y),
-        width,
-        height,
-    }
-}
+const LANE: u32 = 960;
 
 /// How many aircraft of a list advise.
 pub(crate) fn active_among(crafts: &[CraftSpec]) -> u32
@@ -70,7 +48,7 @@ pub(crate) fn lane_base(lane: u32) -> u32
     requires { lane ≤ 16 }
     ensures value { result ≡ lane_base lane }
     ensures least { 5700 ≤ result }
-    ensures most { result ≤ 16900 }
+    ensures most { result ≤ 21060 }
 {
     5_700 + LANE * lane
 }
@@ -79,7 +57,7 @@ pub(crate) fn lane_base(lane: u32) -> u32
 pub(crate) fn plot_bottom(lanes: u32) -> u32
     requires { lanes ≤ 16 }
     ensures value { result ≡ plot_bottom lanes }
-    ensures most { result ≤ 16400 }
+    ensures most { result ≤ 20560 }
 {
     5_200 + LANE * lanes
 }
@@ -99,14 +77,24 @@ pub(crate) fn course_area() -> Area
     area_at(2_000, COURSE_TOP, 15_800, COURSE_HEIGHT)
 }
 
-/// The page.
-pub(crate) fn frame_of(lanes: u32) -> Frame
+/// Where the panels of a pair begin.
+pub(crate) fn page_height(lanes: u32) -> u32
     requires { lanes ≤ 16 }
-    ensures { result ≡ frame_of lanes }
+    ensures value { result ≡ page_height lanes }
+    ensures most { result ≤ 23110 }
+{
+    7_750 + LANE * lanes
+}
+
+/// The page, with so much below it for panels.
+pub(crate) fn frame_of(lanes: u32, below: u32) -> Frame
+    requires lanes { lanes ≤ 16 }
+    requires below { below ≤ 20000 }
+    ensures { result ≡ frame_of lanes below }
 {
     Frame {
         width: PAGE_WIDTH,
-        height: 7_400 + LANE * lanes,
+        height: page_height(lanes) + below,
         window: plot_area(lanes),
     }
 }

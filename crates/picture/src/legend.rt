@@ -1,18 +1,18 @@
-// What the boxes mean.
+// What the boxes and the arrows mean.
 ghost use Rattle.std.specs.Prelude.{◌≡◌, ◌<◌, ◌≤◌, ◌^◌, length};
 ghost use Rattle.picture.specs.Layout.{plot_bottom};
-ghost use Rattle.picture.specs.Legend.{height_words, item_marks, legend_marks};
+ghost use Rattle.picture.specs.Legend.{arrow_words, height_words, item_marks, legend_marks};
 ghost use Rattle.svg_text.specs.declared.drawing.TheConstants.{LABEL_BYTES};
 
-use crate::layout::{area_at, plot_bottom, point_at};
-use crate::paints::{Advised, put_box, put_words};
+use crate::layout::plot_bottom;
 use acas_lines::fixed_line;
 use acas_text::Line;
+use page_marks::{Advised, area_at, point_at, put_box, put_words};
 use svg_text::{Anchor, Drawing, Weight};
 
 // Puts a box and what it means.
 fn put_item<D: Drawing>(bottom: u32, x: u32, advised: Advised, words: &str, drawing: &mut D)
-    requires bottom { bottom ≤ 16400 }
+    requires bottom { bottom ≤ 20560 }
     requires x { x ≤ 20000 }
     requires words { length words.now ≤ LABEL_BYTES }
     ensures { D.drew drawing.old drawing.new (item_marks bottom x advised words.now) }
@@ -50,6 +50,16 @@ pub(crate) fn put_legend<D: Drawing>(lanes: u32, drawing: &mut D)
         Weight::Regular,
         &fixed_line(
             "A tall bar: corrective advice. A low bar: preventive advice, or traffic alone.",
+        ),
+        drawing,
+    );
+    put_words(
+        point_at(2_000, bottom + 2_200),
+        260,
+        Anchor::Start,
+        Weight::Regular,
+        &fixed_line(
+            "An arrow: a message that changes what is in force, in the colour of the sense that it leaves.",
         ),
         drawing,
     );

@@ -16,7 +16,8 @@ pub(crate) fn shown_in(state: &AirState, own: u8, cycle: u16) -> Composite
     shown(state.cells(own, cycle))
 }
 
-fn is_clear(composite: &Composite) -> bool
+/// Whether an aircraft shows neither traffic nor advice.
+pub(crate) fn is_clear(composite: &Composite) -> bool
     ensures { result ≡ is_clear composite.now }
 {
     !has_advice(composite) && !composite.traffic

@@ -5,10 +5,10 @@ ghost use Rattle.std.specs.List.{flat_map, range_with_len};
 ghost use Rattle.picture.specs.Layout.{plot_bottom};
 ghost use Rattle.picture.specs.Time.{box_and_name, tick_at, tick_marks, time_marks};
 
-use crate::layout::{COURSE_TOP, plot_area, plot_bottom, point_at};
-use crate::paints::{grid, ink, put_line, put_words};
+use crate::layout::{COURSE_TOP, plot_area, plot_bottom};
 use acas_lines::fixed_line;
 use acas_text::Line;
+use page_marks::{grid, ink, point_at, put_line, put_words};
 use plot_axes::TimeAxis;
 use svg_text::{Anchor, Drawing, Shape, Weight};
 

@@ -19,3 +19,5 @@ pub mod Activity
 pub mod AllowedCommit
 pub mod Telling
 pub mod Texts
+pub mod Spellings
+pub mod Rightly

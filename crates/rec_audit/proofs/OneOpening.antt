@@ -23,10 +23,10 @@ IsSaid = (e : Parts) → IsEncounter e → IsInside e → Says (canonical_text e
 
 -- ---- a text says one encounter
 
-says-once : (text : List ℕ) (e f : Parts) → Says text e → Says text f → e ≡ f
+pub says-once : (text : List ℕ) (e f : Parts) → Says text e → Says text f → e ≡ f
 says-once text e f h k = let both = sym h ∙ k in cc
 
-says-refused : (text : List ℕ) (e : Parts) (refusal : Refusal) → Says text e → reading_of text ≡ Err refusal → ⊥
+pub says-refused : (text : List ℕ) (e : Parts) (refusal : Refusal) → Says text e → reading_of text ≡ Err refusal → ⊥
 says-refused text e refusal h k = let both = sym h ∙ k in cc
 
 refused-once : (text : List ℕ) (a b : Refusal) → reading_of text ≡ Err a → reading_of text ≡ Err b → a ≡ b
@@ -42,19 +42,19 @@ has-end (l ∷ front) rest h = has-end front rest h.1
 cut-at : (lines part rest : List (List ℕ)) → (c : IsCut lines part rest) → lines ≡ c.front ++ end_line ∷ rest
 cut-at lines part rest c = c.all ∙ ap (λ p. p ++ rest) c.part_is ∙ append_assoc c.front (end_line ∷ []) rest
 
-cut-ends : (lines part rest : List (List ℕ)) → IsCut lines part rest → HasNoEnd lines → ⊥
+pub cut-ends : (lines part rest : List (List ℕ)) → IsCut lines part rest → HasNoEnd lines → ⊥
 cut-ends lines part rest c h = has-end c.front rest (subst HasNoEnd (cut-at lines part rest c) h)
 
 pub record SameCut (p q r s : List (List ℕ)) : Type 0 where
   pub part : p ≡ q
   pub rest : r ≡ s
 
-cut-once : (lines p q r s : List (List ℕ)) → IsCut lines p r → IsCut lines q s → SameCut p q r s
+pub cut-once : (lines p q r s : List (List ℕ)) → IsCut lines p r → IsCut lines q s → SameCut p q r s
 cut-once lines p q r s a b =
     let both = first-end a.front b.front r s a.none b.none (sym (cut-at lines p r a) ∙ cut-at lines q s b) in
     record { part = a.part_is ∙ ap (λ f. f ++ end_line ∷ []) both.0 ∙ sym b.part_is; rest = both.1 }
 
-canonical-cut : (e : Parts) (lines rest : List (List ℕ)) → lines ≡ canonical_lines e ++ rest → IsCut lines (canonical_lines e) rest
+pub canonical-cut : (e : Parts) (lines rest : List (List ℕ)) → lines ≡ canonical_lines e ++ rest → IsCut lines (canonical_lines e) rest
 canonical-cut e lines rest is = let ends = canonical-ends e in record { front = ends.front; none = ends.others; part_is = ends.is; all = is }
 
 -- ---- the number of entries

@@ -1,6 +1,6 @@
 -- What is told of a line by its text.
 use Rattle.std.proofs.Common.{◌≡◌, ◌≢◌, ℕ, ◌+◌, ◌-◌, ◌≤◌, zero, suc, Bool, true, false, List, [], ◌∷◌, ◌++◌, length, take, Option, Some, None, slice_get, sym, refl, ap, ◌∙◌, subst, arith, inl, inr}
-use Rattle.std.specs.Prelude.{MatchBool, ◌==◌, option_map}
+use Rattle.std.specs.Prelude.{MatchBool, option_map}
 use Rattle.std.proofs.lemmas.List.{append-nil}
 use Rattle.acas_base.specs.Encounter.{Parts}
 use Rattle.acas_base.specs.declared.entry.Entry.{Entry}
@@ -15,7 +15,7 @@ use Rattle.air_rules.specs.Air.{Air}
 use Rattle.air_rules.specs.Rules.{IsComplete}
 use Rattle.rec_audit.proofs.Telling.{LoadsOnce, StandsAfter, first-split, first_lines, stands-after}
 use Rattle.rec_audit.specs.Cursors.{Cursor, Took}
-use Rattle.rec_audit.specs.Explaining.{IsFound, IsOtherSentence, IsToldBy, IsWhole, TellsClosing, TellsLater, TellsReport, TellsReturn, TellsShown, TellsSpelled, TellsSpelling, fault_of, has_return_in, line_at}
+use Rattle.rec_audit.specs.Explaining.{IsFound, IsOtherSentence, IsToldBy, IsWhole, TellsClosing, TellsReport, TellsReturn, TellsShown, fault_of, has_return_in, line_at}
 use Rattle.rec_audit.specs.Judging.{IsBeginningOf, IsPartLoaded, IsWrong, IsWrongAfter, after_opening, after_opening_of_part, at_opening, incomplete, other_end, too_few, too_many, wrong_entry}
 use Rattle.rec_audit.specs.Opening.{IsWrongAfterHead, IsWrongOpening, IsWrongPart, Opens, first_entry, no_count, no_end, no_head, not_canonical, refused, wrong_after_head, wrong_part}
 use Rattle.rec_audit.specs.Replays.{IsWrongLine, Replays, changed, forbidden, misspelled}
@@ -45,23 +45,6 @@ whole-text text front b is yes-flag = (front, is ∙ ap (λ x. front ++ flag x (
 
 pub other-told : (line : ℕ) (here : Option (List ℕ)) (wanted : List ℕ) (f : Found) (told : List ℕ) → IsFound here f → IsOtherSentence line wanted f told → IsToldBy line (TellsShown here wanted) told
 other-told line here wanted f told found s = record { why = why.OtherLine s.0 f; fitting = (s.1, found); told_is = s.2 }
-
-pub second-told : (line : ℕ) (here : Option (List ℕ)) (text told : List ℕ) → here ≡ Some text → line ≡ 2 → told ≡ sentence (fault_of line why.OtherText) → IsToldBy line (TellsSpelled line here) told
-second-told line here text told is two said =
-    subst (λ (o : Option (List ℕ)). IsToldBy line (TellsSpelled line o) told) (sym is) (record {
-      why = why.OtherText;
-      fitting = subst (λ n. MatchBool (n == 2) (why.OtherText ≡ why.OtherText) (TellsLater text why.OtherText)) (sym two) refl;
-      told_is = said;
-    })
-
-pub missing-told : (line : ℕ) (here : Option (List ℕ)) (told : List ℕ) → here ≡ None → told ≡ sentence (fault_of line why.Missing) → IsToldBy line (TellsSpelled line here) told
-missing-told line here told is said = subst (λ (o : Option (List ℕ)). IsToldBy line (TellsSpelled line o) told) (sym is) (record { why = why.Missing; fitting = refl; told_is = said })
-
-pub first-told : (line : ℕ) (here : Option (List ℕ)) (wanted told : List ℕ) → line ≡ 1 → wanted ≡ take WANTED_BYTES head_line → IsToldBy line (TellsShown here wanted) told → IsToldBy line (TellsSpelling line here) told
-first-told line here wanted told one is h = record { why = h.why; fitting = inl (one, subst (λ x. TellsShown here x h.why) is h.fitting); told_is = h.told_is }
-
-pub later-told : (line : ℕ) (here : Option (List ℕ)) (told : List ℕ) → line ≢ 1 → IsToldBy line (TellsSpelled line here) told → IsToldBy line (TellsSpelling line here) told
-later-told line here told other h = record { why = h.why; fitting = inr (other, h.fitting); told_is = h.told_is }
 
 -- ---- carriage returns
 

@@ -1,6 +1,7 @@
 -- What is told of a recording.
-use Rattle.std.specs.Prelude.{◌≡◌, ◌≢◌, ◌⊎◌, ℕ, ◌+◌, ◌-◌, ◌==◌, ◌||◌, Bool, true, false, MatchBool, List, [], ◌∷◌, ◌++◌, Option, Some, None, take, drop, slice_get}
+use Rattle.std.specs.Prelude.{◌≡◌, ◌≢◌, ◌⊎◌, ℕ, ◌+◌, ◌-◌, ◌<◌, ◌==◌, ◌||◌, if◌then◌else◌, Bool, true, false, MatchBool, List, [], ◌∷◌, ◌++◌, length, Option, Some, None, Err, take, drop, slice_get}
 use Rattle.std.specs.Borrow.{Bor}
+use Rattle.acas_base.specs.Encounter.{Parts}
 use Rattle.acas_base.specs.declared.entry.Entry.{Entry}
 use Rattle.acas_lines.specs.Differing.{DifferAt}
 use Rattle.acas_lines.specs.Lines.{joined}
@@ -10,10 +11,16 @@ use Rattle.air_journal.specs.Ranges.{IsEntry}
 use Rattle.air_journal.specs.States.{State}
 use Rattle.air_rules.specs.Air.{Air}
 use Rattle.air_rules.specs.Rules.{IsComplete}
-use Rattle.enc_file.specs.Codes.{code_number}
+use Rattle.enc_file.specs.Canonical.{canonical_lines}
+use Rattle.enc_file.specs.Reading.{Says, reading_of}
+use Rattle.enc_file.specs.declared.refusal.Refusal.{Refusal}
+use Rattle.fault_text.specs.Told as faults
 use Rattle.rec_audit.specs.Allowing.{IsAllowedLine}
+use Rattle.rec_audit.specs.Faulty.{TellsForm}
+use Rattle.rec_audit.specs.Fields.{fields_of}
 use Rattle.rec_audit.specs.Judging.{IsBeginningOf, IsRecordingOf, Judged}
 use Rattle.rec_audit.specs.Keys.{key}
+use Rattle.rec_audit.specs.Opening.{HasNoEnd, IsCut, NoCount, Opens, first_entry}
 use Rattle.rec_audit.specs.Replays.{IsWrongLine}
 use Rattle.rec_audit.specs.declared.explaining.Explained.{Explained}
 use Rattle.rec_audit.specs.declared.explaining.Explained.TheVariants as explained
@@ -119,20 +126,6 @@ TellsShown here wanted other = ⊥
 abbrev pub TellsOther : Option (List ℕ) → List ℕ → Why → Type 0
 TellsOther here wanted w = TellsShown here (take WANTED_BYTES wanted) w
 
--- A line behind the second one is no line that can stand there, or it isn't finished.
-abbrev pub TellsLater : List ℕ → Why → Type 0
-TellsLater text why.Misspelled = IsWhole text
-TellsLater text (why.Unfinished f) = (f.now ≡ text) × (IsWhole text → ⊥)
-TellsLater text other = ⊥
-
-abbrev pub TellsSpelled : ℕ → Option (List ℕ) → Why → Type 0
-TellsSpelled line None w = w ≡ why.Missing
-TellsSpelled line (Some text) w = MatchBool (line == 2) (w ≡ why.OtherText) (TellsLater text w)
-
--- What is told of the spelling of a line.
-abbrev pub TellsSpelling : ℕ → Option (List ℕ) → Why → Type 0
-TellsSpelling line here w = ((line ≡ 1) × TellsOther here head_line w) ⊎ ((line ≢ 1) × TellsSpelled line here w)
-
 -- The line of the report and the close that has to stand there, or that none has to.
 abbrev pub TellsClosing : Option (List ℕ) → Option (List ℕ) → Why → Type 0
 TellsClosing here None w = w ≡ why.TooMany
@@ -149,15 +142,6 @@ pub record TellsReport (bytes : List ℕ) (line : ℕ) (w : Why) : Type 0 where
   pub line_is : line ≡ end + same
   pub differ : DifferAt same (drop (end - 1) (lines_of bytes)) (closing_lines state.encounter state.journal)
   pub tells : TellsClosing (line_at bytes line) (slice_get (closing_lines state.encounter state.journal) same) w
-
--- Why a line is wrong, by its reason.
-abbrev pub Tells : List ℕ → ℕ → Reason → Why → Type 0
-Tells bytes line (reason.Encounter code) w = w ≡ why.Refused (code_number code)
-Tells bytes line reason.Spelling w = TellsReturn (line_at bytes line) (TellsSpelling line (line_at bytes line)) w
-Tells bytes line reason.NotAllowed w = TellsAfter bytes line reason.NotAllowed w
-Tells bytes line reason.OtherContent w = TellsAfter bytes line reason.OtherContent w
-Tells bytes line reason.Incomplete w = TellsAfter bytes line reason.Incomplete w
-Tells bytes line reason.Report w = TellsReturn (line_at bytes line) (TellsReport bytes line) w
 
 -- ---- sentences
 
@@ -177,9 +161,111 @@ IsContentSentence line wanted told = (shown : Bor (List ℕ)) × (shown.now ≡ 
 abbrev pub IsOtherSentence : ℕ → List ℕ → Found → List ℕ → Type 0
 IsOtherSentence line wanted found told = (shown : Bor (List ℕ)) × (shown.now ≡ wanted) × (told ≡ sentence (fault_of line (why.OtherLine shown found)))
 
--- The sentence that tells why a line is wrong.
+abbrev pub IsCanonicalSentence : ℕ → List ℕ → List ℕ → Type 0
+IsCanonicalSentence line wanted told = (shown : Bor (List ℕ)) × (shown.now ≡ wanted) × (told ≡ sentence (fault_of line (why.NotCanonical shown)))
+
+-- ---- the encounter of a recording
+
+-- These lines begin with those of an encounter, up to the first `end`. The text has the bytes of these.
+pub record IsPart (lines : List (List ℕ)) (text : List ℕ) : Type 0 where
+  pub part : List (List ℕ)
+  pub rest : List (List ℕ)
+  pub cut : IsCut lines part rest
+  pub text_is : text ≡ joined part
+
+-- The number of the first line in which a carriage return stands. The first of the lines has the number `at`.
+abbrev pub first_return : ℕ → List (List ℕ) → Option ℕ
+first_return at [] = None
+first_return at (line ∷ lines) = if has_return line then Some at else first_return (at + 1) lines
+
+-- The first carriage return is told before anything else.
+abbrev pub TellsFirstReturn : Option ℕ → (List ℕ → Type 0) → List ℕ → Type 0
+TellsFirstReturn None tells told = tells told
+TellsFirstReturn (Some line) tells told = told ≡ sentence (fault_of line why.CarriageReturn)
+
+-- A byte order mark stands in front of a text.
+abbrev pub IsMarked : List ℕ → Type 0
+IsMarked text = (rest : List ℕ) × (text ≡ 0xEF ∷ 0xBB ∷ 0xBF ∷ rest)
+
+-- The lines from the second one of a recording on differ from the canonical ones of an encounter. Told is the first of
+-- these that differs, as far as it is shown.
+pub record TellsCanonical (lines : List (List ℕ)) (e : Parts) (told : List ℕ) : Type 0 where
+  pub same : ℕ
+  pub differ : DifferAt same lines (canonical_lines e)
+  pub line : List ℕ
+  pub there : slice_get (canonical_lines e) same ≡ Some line
+  pub sentence_is : IsCanonicalSentence (same + 2) (take WANTED_BYTES line) told
+
+-- What is told of an encounter in a recording, whose lines are these, from the second one on. Either a mark stands in
+-- front of its text. Or the text is refused: then the sentence of its refusal is told. There an empty line stands before
+-- the text, in the place of the recording's first line; so all lines that are named are those of the recording. Or it
+-- isn't in its canonical text.
+pub data TellsText (lines : List (List ℕ)) (text told : List ℕ) : Type 0 where
+  marked : IsMarked text → told ≡ sentence (fault_of 2 why.Mark) → TellsText lines text told
+  refused_text : (refusal : Refusal) → (IsMarked text → ⊥) → reading_of text ≡ Err refusal → faults.IsExplained (10 ∷ text) refusal told → TellsText lines text told
+  other_text : (e : Parts) → (IsMarked text → ⊥) → Says text e → TellsCanonical lines e told → TellsText lines text told
+
+pub record TellsPart (lines : List (List ℕ)) (told : List ℕ) : Type 0 where
+  pub text : List ℕ
+  pub is_part : IsPart lines text
+  pub tells : TellsFirstReturn (first_return 2 (lines_of text)) (TellsText lines text) told
+
+-- ---- the spelling of other lines
+
+-- The number of entries has to stand there.
+abbrev pub TellsCount : Option (List ℕ) → Why → Type 0
+TellsCount here (why.NoCount f) = IsFound here f
+TellsCount here other = ⊥
+
+-- A line with its line feed. What is wrong with its fields is told.
+pub record TellsFields (crafts : ℕ) (text : List ℕ) (w : Why) : Type 0 where
+  pub body : List ℕ
+  pub whole : text ≡ body ++ 10 ∷ []
+  pub tells : TellsForm crafts (fields_of body) w
+
+-- A line without a line feed.
+abbrev pub TellsUnfinished : List ℕ → Why → Type 0
+TellsUnfinished text (why.Unfinished f) = (f.now ≡ text) × (IsWhole text → ⊥)
+TellsUnfinished text other = ⊥
+
+-- What is wrong with the line of an entry: its fields, or it isn't finished.
+abbrev pub TellsLater : ℕ → List ℕ → Why → Type 0
+TellsLater crafts text w = TellsFields crafts text w ⊎ TellsUnfinished text w
+
+-- The line of an entry is missing, or it is misspelled. So many entries are announced, and so many stand before it.
+abbrev pub TellsEntryLine : ℕ → ℕ → ℕ → Option (List ℕ) → Why → Type 0
+TellsEntryLine crafts announced entries None w = w ≡ why.NoEntry announced entries
+TellsEntryLine crafts announced entries (Some text) w = TellsLater crafts text w
+
+-- The line stands behind the number of entries and so many entries.
+pub record TellsSpelledEntry (bytes : List ℕ) (line : ℕ) (w : Why) : Type 0 where
+  pub encounter : Parts
+  pub announced : ℕ
+  pub rest : List (List ℕ)
+  pub opens : Opens encounter announced (lines_of bytes) rest
+  pub entries : ℕ
+  pub line_is : line ≡ first_entry encounter + entries
+  pub tells : TellsEntryLine (length encounter.crafts) announced entries (line_at bytes line) w
+
+-- What is told of the spelling of a line, by the first step that fails.
+pub data TellsSpelling (bytes : List ℕ) (line : ℕ) (told : List ℕ) : Type 0 where
+  of_head : line ≡ 1 → IsToldBy line (TellsReturn (line_at bytes line) (TellsOther (line_at bytes line) head_line)) told → TellsSpelling bytes line told
+  of_end : HasNoEnd (drop 1 (lines_of bytes)) → TellsFirstReturn (first_return 2 (drop 1 (lines_of bytes))) (λ t. t ≡ sentence (fault_of line why.NoEnd)) told → TellsSpelling bytes line told
+  of_part : line ≡ 2 → TellsPart (drop 1 (lines_of bytes)) told → TellsSpelling bytes line told
+  of_count : (part rest : List (List ℕ)) → IsCut (drop 1 (lines_of bytes)) part rest → NoCount rest →
+      IsToldBy line (TellsReturn (line_at bytes line) (TellsCount (line_at bytes line))) told → TellsSpelling bytes line told
+  of_entry : IsToldBy line (TellsReturn (line_at bytes line) (TellsSpelledEntry bytes line)) told → TellsSpelling bytes line told
+
+-- ---- all
+
+-- The sentence that tells why a line is wrong, by its reason.
 abbrev pub TellsSomething : List ℕ → ℕ → Reason → List ℕ → Type 0
-TellsSomething bytes line r told = IsToldBy line (Tells bytes line r) told
+TellsSomething bytes line (reason.Encounter code) told = TellsPart (drop 1 (lines_of bytes)) told
+TellsSomething bytes line reason.Spelling told = TellsSpelling bytes line told
+TellsSomething bytes line reason.NotAllowed told = IsToldBy line (TellsAfter bytes line reason.NotAllowed) told
+TellsSomething bytes line reason.OtherContent told = IsToldBy line (TellsAfter bytes line reason.OtherContent) told
+TellsSomething bytes line reason.Incomplete told = IsToldBy line (TellsAfter bytes line reason.Incomplete) told
+TellsSomething bytes line reason.Report told = IsToldBy line (TellsReturn (line_at bytes line) (TellsReport bytes line)) told
 
 -- What is explained of these bytes.
 abbrev pub IsExplained : List ℕ → Explained → Type 0
@@ -205,3 +291,24 @@ IsWrongHere air journal left reason.NotAllowed = StartsWrong air journal left re
 IsWrongHere air journal left reason.OtherContent = StartsWrong air journal left reason.OtherContent
 IsWrongHere air journal left reason.Incomplete = IsComplete air journal → ⊥
 IsWrongHere air journal left other = ⊥
+
+-- An encounter that these lines say up to the first `end` isn't in its canonical text.
+abbrev pub IsNoCanonical : List (List ℕ) → Type 0
+IsNoCanonical lines = (part rest : List (List ℕ)) → IsCut lines part rest → (e : Parts) → Says (joined part) e → part ≢ canonical_lines e
+
+-- Other lines than the canonical ones of an encounter come first.
+abbrev pub ComeOther : List (List ℕ) → Parts → Type 0
+ComeOther lines e = (rest : List (List ℕ)) → lines ≢ canonical_lines e ++ rest
+
+-- The line behind the first ones of a recording.
+abbrev pub IsHeaded : List (List ℕ) → Type 0
+IsHeaded lines = (rest : List (List ℕ)) × (lines ≡ head_line ∷ rest)
+
+-- No entry has this line. The line is no longer than a recording can be.
+pub record IsUnspelled (count : ℕ) (text : List ℕ) : Type 0 where
+  pub few : length text < 4294967295
+  pub none : (entry : Entry) → IsEntry count entry → entry_line count entry ≢ text
+
+abbrev pub IsUnspelledIn : ℕ → Option (List ℕ) → Type 0
+IsUnspelledIn count None = Unit {0}
+IsUnspelledIn count (Some text) = IsUnspelled count text

@@ -12,3 +12,4 @@ pub mod Compared
 pub mod Allowing
 pub mod Explaining
 pub mod Picking
+pub mod Faulty

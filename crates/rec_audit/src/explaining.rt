@@ -1,7 +1,7 @@
 // Recordings explained.
-ghost use Rattle.std.specs.Prelude.{◌≡◌, ◌-◌, ◌<◌, ◌^◌, IfOk, length, true};
+ghost use Rattle.std.specs.Prelude.{◌≡◌, ◌-◌, ◌<◌, ◌^◌, IfOk, drop, length, true};
 ghost use Rattle.acas_lines.specs.Split.{lines_of};
-ghost use Rattle.rec_audit.specs.Explaining.{IsExplained, TellsSomething, is_after_entries};
+ghost use Rattle.rec_audit.specs.Explaining.{IsExplained, TellsPart, TellsSomething, is_after_entries};
 ghost use Rattle.rec_audit.specs.Judging.{IsWrong};
 ghost use Rattle.rec_audit.specs.declared.verdict.Reason.{Reason};
 
@@ -9,11 +9,15 @@ use crate::closing::tell_report;
 use crate::here::tell_here;
 use crate::judging::{load, load_part};
 use crate::laws::verdict_law;
+use crate::misspelled::tell_misspelled;
+use crate::opening::part_in;
+use crate::part::{behind_head, tell_part};
 use crate::sentences::sentence_of;
-use crate::spelled::{has_return_in, lines_from, tell_spelling};
+use crate::spelled::{has_return_in, lines_from};
 use crate::verdict::{Loaded, Reason};
 use acas_text::Line;
 use air_journal::AirState;
+use enc_file::Code;
 use std::alloc::{AllocError, Global};
 use verdict_text::Why;
 
@@ -43,17 +47,17 @@ fn tell_after(alloc: Global, bytes: &[u8], line: u32, reason: Reason) -> Result<
     }
 }
 
-// Tells what is wrong with the spelling of a line.
-fn tell_misspelled(bytes: &[u8], line: u32) -> Line
+// Tells what is wrong with the encounter of a recording, which is refused.
+fn tell_encounter(alloc: Global, bytes: &[u8], line: u32, code: Code) -> Result<Line, AllocError>
     requires small { length bytes.now < 2 ^ 32 - 1 }
-    requires wrong { IsWrong (lines_of bytes.now) line Reason.Spelling }
-    ensures { TellsSomething bytes.now line Reason.Spelling result }
+    requires wrong { IsWrong (lines_of bytes.now) line (Reason.Encounter code) }
+    ensures { IfOk result (TellsPart (drop 1 (lines_of bytes.now))) }
 {
-    let lines = lines_from(bytes, line);
-    if has_return_in(&lines) {
-        return sentence_of(line, Why::CarriageReturn);
+    let lines = behind_head(bytes);
+    match part_in(&lines) {
+        Some(text) => tell_part(alloc, bytes, &lines, text),
+        None => unreachable!(),
     }
-    tell_spelling(&lines, line)
 }
 
 // Tells what is wrong with a line of the report or the close.
@@ -77,13 +81,8 @@ fn tell(alloc: Global, bytes: &[u8], line: u32, reason: Reason) -> Result<Line, 
     ensures { IfOk result (TellsSomething bytes.now line reason) }
 {
     match reason {
-        Reason::Encounter(code) => Ok(sentence_of(
-            line,
-            Why::Refused {
-                code: code.number(),
-            },
-        )),
-        Reason::Spelling => Ok(tell_misspelled(bytes, line)),
+        Reason::Encounter(code) => tell_encounter(alloc, bytes, line, code),
+        Reason::Spelling => tell_misspelled(alloc, bytes, line),
         Reason::NotAllowed => tell_after(alloc, bytes, line, reason),
         Reason::OtherContent => tell_after(alloc, bytes, line, reason),
         Reason::Incomplete => tell_after(alloc, bytes, line, reason),

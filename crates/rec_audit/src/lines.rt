@@ -39,6 +39,18 @@ impl<'a> TextLines<'a> {
         }
     }
 
+    /// The lines of a text that stands behind one other line.
+    pub fn second(text: &'a [u8]) -> TextLines<'a>
+        requires { length text.now < 2 ^ 32 - 2 }
+        ensures left { result.left ≡ lines_of text.now }
+        ensures taken { result.taken ≡ 1 }
+    {
+        TextLines {
+            rest: text,
+            taken: 1,
+        }
+    }
+
     /// The same lines, to be read again.
     pub fn again(&self) -> TextLines<'a>
         ensures { result ≡ self.now }

@@ -5,6 +5,7 @@ ghost use Rattle.acas_lines.specs.Split.{lines_of};
 ghost use Rattle.acas_lines.specs.Lines.{joined};
 ghost use Rattle.rec_audit.specs.Engine.{IsOpened, ReadPart, SkippedPart};
 ghost use Rattle.rec_audit.specs.Cursors.{Took};
+ghost use Rattle.rec_audit.specs.Explaining.{IsPart};
 ghost use Rattle.rec_audit.specs.Opening.{HasNoEnd, IsWrongAfterHead, IsWrongOpening, NoCount};
 ghost use Rattle.rec_audit.specs.declared.opening.TheConstants.{MOST_TOLD};
 ghost use Rattle.rec_text.specs.Recording.{journal_line};
@@ -73,6 +74,18 @@ fn skip_part(lines: &mut TextLines<'_>) -> bool
         }
     }
     false
+}
+
+/// The bytes of the lines up to the first end; none where no line is an end.
+pub(crate) fn part_in<'a>(lines: &TextLines<'a>) -> Option<&'a [u8]>
+    ensures { MatchOption result (HasNoEnd lines.now.left) (λ text. IsPart lines.now.left text.now) }
+{
+    let text = lines.rest();
+    let mut after = lines.again();
+    if !skip_part(&mut after) {
+        return None;
+    }
+    Some(&text[..text.len() - after.rest().len()])
 }
 
 // The number of entries that the next line spells.

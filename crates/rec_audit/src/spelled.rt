@@ -1,8 +1,7 @@
-// What is told of the spelling of a line.
-ghost use Rattle.std.specs.Prelude.{◌≡◌, ◌-◌, ◌<◌, ◌≤◌, ◌^◌, Some, drop, length, slice_get};
+// Lines that are looked at again.
+ghost use Rattle.std.specs.Prelude.{◌≡◌, ◌+◌, ◌-◌, ◌<◌, ◌≤◌, ◌^◌, Some, drop, length, slice_get};
 ghost use Rattle.acas_lines.specs.Split.{lines_of};
-ghost use Rattle.rec_audit.specs.Explaining.{IsFound, IsOtherSentence, IsToldBy, TellsLater, TellsShown, TellsSpelled, TellsSpelling, has_return, has_return_in};
-ghost use Rattle.rec_text.specs.Recording.{head_line};
+ghost use Rattle.rec_audit.specs.Explaining.{IsFound, IsOtherSentence, IsToldBy, TellsShown, first_return, has_return, has_return_in};
 
 use crate::lines::TextLines;
 use crate::sentences::sentence_of;
@@ -52,8 +51,8 @@ pub(crate) fn has_return_in(lines: &TextLines<'_>) -> bool
     }
 }
 
-// What stands in a line.
-fn found_in(text: &[u8]) -> Found<'_>
+/// What stands in a line.
+pub(crate) fn found_in(text: &[u8]) -> Found<'_>
     ensures { IsFound (Some text.now) result }
 {
     let (body, is_whole) = before_flag(text, b'\n');
@@ -80,47 +79,17 @@ pub(crate) fn tell_other(lines: &TextLines<'_>, line: u32, wanted: &Wanted) -> L
     }
 }
 
-// Tells what is wrong with a line behind the second one.
-fn tell_later(line: u32, text: &[u8]) -> Line
-    ensures { IsToldBy line (TellsLater text.now) result }
+/// The number of the first of these lines in which a carriage return stands.
+pub(crate) fn first_return(lines: &TextLines<'_>) -> Option<u32>
+    ensures { result ≡ first_return (lines.now.taken + 1) lines.now.left }
 {
-    let (_, is_whole) = before_flag(text, b'\n');
-    if is_whole {
-        return sentence_of(line, Why::Misspelled);
-    }
-    sentence_of(line, Why::Unfinished { found: text })
-}
-
-// Tells what is wrong with the spelling of a line behind the first one.
-fn tell_spelled(lines: &TextLines<'_>, line: u32) -> Line
-    ensures { IsToldBy line (TellsSpelled line (slice_get lines.now.left 0)) result }
-{
-    match lines.again().next() {
-        Some(text) => {
-            if line == 2 {
-                return sentence_of(line, Why::OtherText);
-            }
-            tell_later(line, text)
+    let mut left = lines.again();
+    let mut number = left.number();
+    while let Some(line) = left.next() {
+        if has_return(line) {
+            return Some(number);
         }
-        None => sentence_of(line, Why::Missing),
+        number = left.number();
     }
-}
-
-// The first line of each recording.
-fn head() -> Line
-    ensures { result ≡ head_line }
-{
-    let mut line = Line::new();
-    line.text("recording,1\n");
-    line
-}
-
-/// Tells what is wrong with the spelling of the next line, which has this number.
-pub(crate) fn tell_spelling(lines: &TextLines<'_>, line: u32) -> Line
-    ensures { IsToldBy line (TellsSpelling line (slice_get lines.now.left 0)) result }
-{
-    if line == 1 {
-        return tell_other(lines, line, &Wanted::of(&head()));
-    }
-    tell_spelled(lines, line)
+    None
 }

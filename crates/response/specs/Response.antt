@@ -1,6 +1,6 @@
 -- The text of the modelled response: for each pair of aircraft of which one has a resolution advisory against the
 -- other, how near they come as planned and as flown (this project's profile).
-use Rattle.std.specs.Prelude.{ℕ, ◌+◌, ◌-◌, ◌/◌, Bool, true, false, ◌||◌, if◌then◌else◌, ◌-ℤ◌, unsigned_abs, List, [], ◌∷◌, codes, length, Option, Some, None}
+use Rattle.std.specs.Prelude.{ℕ, ◌+◌, ◌-◌, ◌/◌, Bool, false, ◌||◌, if◌then◌else◌, ◌-ℤ◌, unsigned_abs, List, [], ◌∷◌, codes, length, Option, Some, None}
 use Rattle.std.specs.Fmt.{decimal}
 use Rattle.std.specs.List.{flat_map, list_any, range_with_len}
 use Rattle.acas_base.specs.Encounter.{Parts}

@@ -7,6 +7,7 @@ ghost use Rattle.response.specs.Flying.{IsMotion, begun, flight_in, flying, high
 
 use crate::advice::{Advised, response_to};
 use crate::motion::Motion;
+use acas_base::Encounter;
 use acas_num::floor_div;
 use advisory_report::{Composite, has_advice, shown};
 use air_journal::{AirState, is_ra};
@@ -32,13 +33,13 @@ fn rate_units(rate: i64) -> i64
 }
 
 // Where an aircraft is planned to be, in 1/60 ft.
-fn planned_z(state: &AirState, own: u8, cycle: u16) -> i64
-    requires own { own < length state.now.encounter.crafts }
+fn planned_z(plan: &Encounter, own: u8, cycle: u16) -> i64
+    requires own { own < length plan.now.crafts }
     requires cycle { IsCycle cycle }
-    ensures value { result ≡ (position state.now.encounter own cycle).z }
+    ensures value { result ≡ (position plan.now own cycle).z }
     ensures bound { unsigned_abs result ≤ 9590000 }
 {
-    position(state.enc(), own, cycle).z
+    position(plan, own, cycle).z
 }
 
 // The rate from one cycle to the next. In ft/min it is what an altitude in 1/60 ft changes by in a second.
@@ -100,9 +101,11 @@ fn moved_on(
     }
 }
 
-// An aircraft at the beginning of a cycle. It flies as planned as long as nothing is advised.
+// An aircraft at the beginning of a cycle. It flies as planned as long as nothing is advised. The plan is that of an
+// encounter, and the advice that of a state, which may be one of another encounter.
 #[derive(Drop)]
 pub(crate) struct Flier<'a> {
+    plan: &'a Encounter,
     state: &'a AirState,
     own: u8,
     // It is of kind RA. Any other aircraft flies as planned, whatever it shows.
@@ -119,24 +122,26 @@ impl<'a> Model for Flier<'a> {
 
     ghost Value = { Flying };
 
-    ghost view = { λ f. flying f.state.now.encounter f.state.now.journal f.own f.cycle };
+    ghost view = { λ f. flying f.plan.now f.state.now.journal f.own f.cycle };
 
-    ghost invariant = { λ f. IsFlier (flying f.state.now.encounter f.state.now.journal f.own f.cycle) f.responds f.planned f.advised f.motion };
+    ghost invariant = { λ f. IsFlier (flying f.plan.now f.state.now.journal f.own f.cycle) f.responds f.planned f.advised f.motion };
 }
 
 impl<'a> Flier<'a> {
     // In cycle 1.
-    pub fn new(state: &'a AirState, own: u8) -> Flier<'a>
-        requires { own < length state.now.encounter.crafts }
-        ensures { result ≡ flying state.now.encounter state.now.journal own 1 }
+    pub fn new(plan: &'a Encounter, state: &'a AirState, own: u8) -> Flier<'a>
+        requires { own < length plan.now.crafts }
+        ensures { result ≡ flying plan.now state.now.journal own 1 }
     {
         state.legal_law();
+        plan.valid_law();
         Flier {
+            plan,
             state,
             own,
-            responds: is_ra(state.enc(), own),
+            responds: is_ra(plan, own),
             cycle: 1,
-            planned: planned_z(state, own, 1),
+            planned: planned_z(plan, own, 1),
             advised: Advised::nothing(),
             motion: None,
         }
@@ -147,10 +152,10 @@ impl<'a> Flier<'a> {
         requires { self.old.cycle < self.old.encounter.cycles }
         ensures { self.new ≡ flying self.old.encounter self.old.journal self.old.own (self.old.cycle + 1) }
     {
-        self.state.legal_law();
+        self.plan.valid_law();
         let cycle = self.cycle;
         let now = shown(self.state.cells(self.own, cycle));
-        let next = planned_z(self.state, self.own, cycle + 1);
+        let next = planned_z(self.plan, self.own, cycle + 1);
         let rate = rate_between(self.planned, next);
         let altitude = altitude_units(self.planned);
         self.advised = self.advised.with(cycle, now);
@@ -176,7 +181,7 @@ impl<'a> Flier<'a> {
         ensures value { result ≡ flown_from (flight_in self.now) self.now.cycle (first_advised (flight_in self.now) self.now.encounter.cycles) }
         ensures bound { unsigned_abs result ≤ 2 ^ 30 }
     {
-        self.state.legal_law();
+        self.plan.valid_law();
         match self.motion {
             Some(motion) => motion.altitude,
             None => altitude_units(self.planned),

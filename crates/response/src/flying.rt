@@ -19,7 +19,7 @@ pub fn flown(state: &AirState, craft: u8, cycle: u16) -> i64
     ensures value { result ≡ flown state.now.encounter state.now.journal craft cycle }
     ensures bound { unsigned_abs result ≤ 2 ^ 30 }
 {
-    let mut flier = Flier::new(state, craft);
+    let mut flier = Flier::new(state.enc(), state, craft);
     for done in 1..cycle {
         flier.fly();
     }

@@ -4,6 +4,7 @@ ghost use Rattle.response.specs.Flying.{Flying, flying};
 ghost use Rattle.response.specs.Modelled.{FlightTold, IsNextAltitude};
 
 use crate::flier::Flier;
+use acas_base::Encounter;
 use air_journal::AirState;
 use std::marker::Model;
 
@@ -38,7 +39,23 @@ fn fly_to_next(flier: &mut Flier<'_>, told: u16)
 }
 
 impl<'a> ModelledFlight<'a> {
-    /// No cycle is told yet.
+    /// With the plan of another encounter. What it plans is responded from, in the cycles of its run, to what the
+    /// commits of the state say. No cycle is told yet.
+    pub fn with_plan(plan: &'a Encounter, state: &'a AirState, craft: u8) -> ModelledFlight<'a>
+        requires { craft < length plan.now.crafts }
+        ensures plan { result.encounter ≡ plan.now }
+        ensures journal { result.journal ≡ state.now.journal }
+        ensures craft { result.craft ≡ craft }
+        ensures told { result.told ≡ 0 }
+    {
+        ModelledFlight {
+            flier: Flier::new(plan, state, craft),
+            cycles: plan.cycles(),
+            told: 0,
+        }
+    }
+
+    /// With the plan of the state's own encounter. No cycle is told yet.
     pub fn new(state: &'a AirState, craft: u8) -> ModelledFlight<'a>
         requires { craft < length state.now.encounter.crafts }
         ensures encounter { result.encounter ≡ state.now.encounter }
@@ -46,11 +63,7 @@ impl<'a> ModelledFlight<'a> {
         ensures craft { result.craft ≡ craft }
         ensures told { result.told ≡ 0 }
     {
-        ModelledFlight {
-            flier: Flier::new(state, craft),
-            cycles: state.enc().cycles(),
-            told: 0,
-        }
+        ModelledFlight::with_plan(state.enc(), state, craft)
     }
 
     /// The altitude in the next cycle, in 1/2048 ft; none after the last cycle of the run.

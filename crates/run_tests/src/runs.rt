@@ -2,6 +2,7 @@
 mod answered;
 mod compared;
 mod faults;
+mod followed;
 mod judged;
 mod pages;
 mod played;
@@ -10,6 +11,7 @@ mod summaries;
 mod swept;
 mod threaded;
 mod told;
+mod varied;
 mod why;
 
 use acas_io::{MemSink, MemSource};

@@ -12,10 +12,16 @@ mod enc_gen_tests;
 #[cfg(test)]
 mod fault_text_tests;
 #[cfg(test)]
+mod misspelled_recordings_tests;
+#[cfg(test)]
 mod rec_audit_tests;
 #[cfg(test)]
 mod rec_text_tests;
 #[cfg(test)]
+mod track_sentences_tests;
+#[cfg(test)]
 mod track_text_tests;
 #[cfg(test)]
 mod verdict_sentences_tests;
+#[cfg(test)]
+mod wrong_recordings;

@@ -208,44 +208,8 @@ fn faults_of_tracks_name_the_aircraft(rt: HostRuntime) -> Result<(), Fail> {
     Ok(())
 }
 
-// A text of tracks that is refused, and the sentence that tells why.
-const EXPLAINED: [Told; 11] = [
-    (
-        b"tracks,2\n",
-        b"line 1: the first record has to be \"tracks,1\", and is \"tracks,2\"\n",
-    ),
-    (
-        b"tracks,1\nleg,400A01,1,0,0,0\n",
-        b"line 2: \"leg\" is no kind of record of tracks (run, gains, craft, climb, at, miss, plan, fate, end)\n",
-    ),
-    (
-        b"tracks,1\r\n\r\nat,400A01,0,0,0\r\n",
-        b"line 3: \"at,400A01,0,0,0\" has more or fewer fields than a record of its kind\n",
-    ),
-    (
-        b"tracks,1\nrun,0,0\n",
-        b"line 2: \"run,0,0\" has a number that is no whole number of its range, a KIND or a MASK that is none, or a TO below its FROM\n",
-    ),
-    (
-        b"tracks,1\ncraft,400a01,RA\n",
-        b"line 2: \"craft,400a01,RA\" has an address that isn't six digits 0-9A-F, or is 000000 or FFFFFF\n",
-    ),
-    (
-        b"tracks,1\nrun,3,0\nrun,3,0\n",
-        b"line 3: \"run,3,0\" gives again what a record before it gives, or doesn't come after the last one of its aircraft or pair\n",
-    ),
-    (
-        b"tracks,1\nat,400A01,0,0,0,0\n",
-        b"line 2: \"at,400A01,0,0,0,0\" has an address that no craft record before it has, or the same address twice\n",
-    ),
-    (
-        b"tracks,1\nend\n",
-        b"line 2: \"end\" is one aircraft too many, or comes where there is no run record, or no aircraft of kind RA or TA\n",
-    ),
-    (
-        b"tracks,1\nrun,3,0\n",
-        b"line 3: the last record has to be \"end\", and there is none; was the text cut off?\n",
-    ),
+// Of tracks that can't be flown, the sentence names the aircraft, and the cycle.
+const EXPLAINED: [Told; 2] = [
     (
         FAST,
         b"line 10: the track of 400B02 is too fast for a leg from cycle 2 to the next one: at most 2000 ft/s in x and in y, and 10000 ft/min\n",

@@ -4,6 +4,8 @@
 #[cfg(test)]
 mod deliveries_tests;
 #[cfg(test)]
+mod followed_advice_tests;
+#[cfg(test)]
 mod idle_notes_tests;
 #[cfg(test)]
 mod journal_tables_tests;

@@ -12,6 +12,8 @@ struct Digits {
 impl Job for Digits {
     ghost use Rattle.std.specs.Prelude.{◌≡◌};
 
+    type Given = Counts;
+
     ghost means = { λ job number counts. counts.commits ≡ number };
 
     fn one(&self, number: u32) -> Result<Counts, AllocError> {

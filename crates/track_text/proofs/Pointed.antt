@@ -52,7 +52,7 @@ pub point-late : (earlier : List TrackRecord) (address craft : ℕ) (p : Point) 
     → fault_of earlier (At address p) ≡ (if b then Some code.Repeat else None)
 point-late earlier address craft p b is late = point-fault earlier address p (Some craft) is ∙ ap (λ b. if b then Some code.Repeat else None) late
 
-track-more : (earlier : List TrackRecord) (address craft k : ℕ) (p : Point) (b : Bool) → index_of (crafts_of (shared_of earlier)) address ≡ Some craft → (craft == k) ≡ b
+pub track-more : (earlier : List TrackRecord) (address craft k : ℕ) (p : Point) (b : Bool) → index_of (crafts_of (shared_of earlier)) address ≡ Some craft → (craft == k) ≡ b
     → track_of k (At address p ∷ earlier) ≡ track_of k earlier ++ (if b then p ∷ [] else [])
 track-more earlier address craft k p b is e =
     ap (λ o. track_of k earlier ++ (if is_index k o then p ∷ [] else [])) is ∙ ap (λ b. track_of k earlier ++ (if b then p ∷ [] else [])) e

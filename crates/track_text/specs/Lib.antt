@@ -2,6 +2,10 @@ pub mod Codes
 pub mod Saying
 pub mod Earlier
 pub mod Conditions
+pub mod Kinds
+pub mod Points
 pub mod Reading
 pub mod Tables
+pub mod Sentences
+pub mod Told
 pub mod Telling

@@ -2,13 +2,17 @@
 //! none.
 #![tactic(auto)]
 
+mod against;
+mod kinds;
 mod laws;
 mod reading;
 mod record;
 mod refusal;
 mod saying;
 mod tables;
+mod telling;
 mod told;
+mod why;
 
 pub use laws::{once_law, only_law};
 pub use reading::read;

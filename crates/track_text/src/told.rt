@@ -2,63 +2,15 @@
 ghost use Rattle.std.specs.Prelude.{◌≡◌, ◌+◌, ◌-◌, ◌<◌, ◌≤◌, ◌^◌, ◌++◌, length};
 ghost use Rattle.enc_file.specs.Records.{records_of};
 ghost use Rattle.track_text.specs.Conditions.{IsRefused};
-ghost use Rattle.track_text.specs.Telling.{IsExplained, address_text, code_words, fault_words, text_fault, track_fault};
+ghost use Rattle.track_text.specs.Sentences.{address_text, no_kind_text, not_above_text, track_fault, track_why_text};
+ghost use Rattle.track_text.specs.Telling.{IsExplained};
 
-use crate::refusal::{Fault, Refusal};
+use crate::refusal::Refusal;
+use crate::telling::why_of;
+use crate::why::TrackWhy;
 use acas_text::{LINE_BYTES, Line};
-use enc_file::Code;
-use fault_text::{add_shown, field, place_of};
+use fault_text::{add_field_count, add_shown, add_why, place_of};
 use track_file::TrackFault;
-
-fn code_words(code: Code) -> &'static str
-    ensures text { result.now ≡ code_words code }
-    ensures short { length result.now ≤ 110 }
-{
-    match code {
-        Code::Fields => " has more or fewer fields than a record of its kind",
-        Code::Number =>
-            " has a number that is no whole number of its range, a KIND or a MASK that is none, or a TO below its FROM",
-        Code::Address => " has an address that isn't six digits 0-9A-F, or is 000000 or FFFFFF",
-        Code::Repeat =>
-            " gives again what a record before it gives, or doesn't come after the last one of its aircraft or pair",
-        Code::Unknown =>
-            " has an address that no craft record before it has, or the same address twice",
-        Code::Count =>
-            " is one aircraft too many, or comes where there is no run record, or no aircraft of kind RA or TA",
-        Code::Mask => " has a mask with more than three bits that are 1",
-        Code::After => " stands behind the record \"end\"",
-        Code::Header | Code::Kind | Code::Box | Code::NoEnd => "",
-    }
-}
-
-// Adds what is wrong with a record, where an encounter's text can have the fault, too.
-fn add_text_fault(line: &mut Line, code: Code, found: &[u8])
-    requires { length line.old + 300 ≤ LINE_BYTES }
-    ensures added { line.new ≡ line.old ++ text_fault code found.now }
-    ensures short { length line.new ≤ length line.old + 300 }
-{
-    match code {
-        Code::Header => {
-            line.text("the first record has to be \"tracks,1\", and is ");
-            add_shown(line, found);
-        }
-        Code::Kind => {
-            add_shown(line, field(found, 0));
-            line.text(
-                " is no kind of record of tracks (run, gains, craft, climb, at, miss, plan, fate, end)",
-            );
-        }
-        Code::NoEnd => {
-            line.text(
-                "the last record has to be \"end\", and there is none; was the text cut off?",
-            );
-        }
-        _ => {
-            add_shown(line, found);
-            line.text(code_words(code));
-        }
-    }
-}
 
 // Adds the six digits of an address.
 fn add_address(line: &mut Line, address: u32)
@@ -95,31 +47,78 @@ fn add_track_fault(line: &mut Line, fault: TrackFault, address: u32)
     }
 }
 
+// What is said of a word that names no kind of record of tracks.
+fn no_kind_text(found: &[u8]) -> &'static str
+    ensures text { result.now ≡ no_kind_text found.now }
+    ensures short { length result.now ≤ 100 }
+{
+    if found == b"tracks".as_slice() {
+        return " can only be the first record";
+    }
+    " is no kind of record of tracks (run, gains, craft, climb, at, miss, plan, fate, end)"
+}
+
+// Adds that the time of a point isn't above that of the last point of its aircraft.
+fn add_not_above(line: &mut Line, found: i32, reached: i32, number: u32)
+    requires { length line.old + 90 ≤ LINE_BYTES }
+    ensures added { line.new ≡ line.old ++ not_above_text found reached number }
+    ensures short { length line.new ≤ length line.old + 90 }
+{
+    line.text("MS is ");
+    line.i32(found);
+    line.text(", and has to be above ");
+    line.i32(reached);
+    line.text(", the MS of line ");
+    line.u32(number);
+}
+
 // Adds what is wrong with a record.
-fn add_fault(line: &mut Line, fault: Fault, found: &[u8])
+fn add_track_why(line: &mut Line, why: &TrackWhy<'_>)
     requires { length line.old + 300 ≤ LINE_BYTES }
-    ensures added { line.new ≡ line.old ++ fault_words fault found.now }
+    ensures added { line.new ≡ line.old ++ track_why_text why.now }
     ensures short { length line.new ≤ length line.old + 300 }
 {
-    match fault {
-        Fault::Text(code) => add_text_fault(line, code, found),
-        Fault::Track(fault, address) => add_track_fault(line, fault, address),
+    match *why {
+        TrackWhy::NoRecord => {
+            line.text("there is no record; the first one has to be \"tracks,1\"");
+        }
+        TrackWhy::NoHeader { found } => {
+            line.text("the first record has to be \"tracks,1\", and is ");
+            add_shown(line, found);
+        }
+        TrackWhy::NoKind { found } => {
+            add_shown(line, found);
+            line.text(no_kind_text(found));
+        }
+        TrackWhy::FieldCount { kind, count } => {
+            add_field_count(line, kind.word(), count, kind.form());
+        }
+        TrackWhy::NotAbove {
+            found,
+            reached,
+            line: number,
+        } => add_not_above(line, found, reached, number),
+        TrackWhy::ManyCrafts => line.text("one aircraft too many: tracks have at most 16"),
+        TrackWhy::Shared(shared) => add_why(line, &shared),
+        TrackWhy::Track(fault, address) => add_track_fault(line, fault, address),
     }
 }
 
-/// The sentence that says why a text of tracks is refused, as a line. It names the line of the file, and shows what
-/// stands there. Where an aircraft can't fly along its track, it names the aircraft, and the cycle.
+/// The sentence that says why a text of tracks is refused, as a line. It names the line of the file and, of the faulty
+/// fields of the record there, the leftmost one. Where an aircraft can't fly along its track, it names the aircraft, and
+/// the cycle.
 pub fn explained(text: &[u8], refusal: Refusal) -> Line
     requires few { length text.now < 2 ^ 32 - 1 }
     requires refused { IsRefused (records_of text.now) refusal }
     ensures { IsExplained text.now refusal result }
 {
     let place = place_of(text, refusal.at);
+    let why = why_of(text, refusal, place.line);
     let mut line = Line::new();
     line.text("line ");
     line.u32(place.number);
     line.text(": ");
-    add_fault(&mut line, refusal.fault, place.line);
+    add_track_why(&mut line, &why);
     line.text("\n");
     line
 }

@@ -141,7 +141,7 @@ const EXPLAINED: [Explained; 8] = [
     (
         b"tracks,1\nrun,2,0\ncraft,400A01,RA,0\n",
         Status::Refused,
-        b"refused,3,3\nline 3: \"craft,400A01,RA,0\" has more or fewer fields than a record of its kind\n",
+        b"refused,3,3\nline 3: craft has 4 fields here, and has to be craft,ADDRESS,KIND\n",
     ),
 ];
 

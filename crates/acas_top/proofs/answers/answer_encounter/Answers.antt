@@ -1,7 +1,8 @@
 use Rattle.std.proofs.Common.{◌≡◌, ◌∙◌, ◌++◌, [], List, ℕ, ap, ap₂, subst, sym}
 use Rattle.std.proofs.lemmas.List.{append-nil}
 use Rattle.acas_lines.specs.Lines.{joined}
-use Rattle.acas_top.specs.Answers.{IsFaulty, IsRight, refused_line}
+use Rattle.acas_top.specs.Refusing.{refused_line}
+use Rattle.acas_top.specs.Answers.{IsFaulty, IsRight}
 use Rattle.acas_top.specs.Explaining.{EncounterFile, right_encounter_lines}
 use Rattle.acas_top.specs.declared.explaining.Subject.{Subject}
 use Rattle.enc_file.specs.Reading.{Explains, reading_of}

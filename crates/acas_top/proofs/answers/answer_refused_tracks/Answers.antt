@@ -1,6 +1,7 @@
 use Rattle.std.proofs.Common.{◌++◌, [], List, ℕ, ap₂, subst, sym}
 use Rattle.std.proofs.lemmas.List.{append-nil}
-use Rattle.acas_top.specs.Answers.{IsFaulty, refused_line}
+use Rattle.acas_top.specs.Refusing.{refused_line}
+use Rattle.acas_top.specs.Answers.{IsFaulty}
 use Rattle.acas_top.specs.declared.explaining.Subject.{Subject}
 use Rattle.acas_top.proofs.answers.answer_refused_tracks.Goals as goal
 

@@ -1,7 +1,7 @@
 use Rattle.std.proofs.Common.{◌∙◌, ap, ap₂, subst}
 use Rattle.std.proofs.lemmas.List.{append-nil}
 use Rattle.acas_top.proofs.answers.answer_serial.Goals as goal
-use Rattle.acas_top.specs.Answers.{refused_line}
+use Rattle.acas_top.specs.Refusing.{refused_line}
 use Rattle.enc_file.specs.Codes.{code_number}
 use Rattle.enc_file.specs.Reading.{Explains, reading_of}
 use Rattle.enc_file.specs.declared.refusal.ReadError.{ReadError}

@@ -3,11 +3,12 @@ use Rattle.fault_text.specs.Lines.{file_lines}
 use Rattle.fault_text.proofs.FirstLine.{is-blank, is-no-blank, moved, passed-blank, passed-record}
 use Rattle.fault_text.proofs.LastLine.{blank-line, kept-last, new-last, other-line}
 use Rattle.fault_text.proofs.earlier.last_before.Goals as goal
-use Rattle.fault_text.proofs.earlier.last_before.Goals.{then-not-is_empty, then-is_in, else-is_in, else-not-is_empty}
+use Rattle.fault_text.proofs.earlier.last_before.Goals.{then-not-is_empty, then-is_passed, else-is_passed, else-not-is_empty}
 
 pub loop-left-preserved : goal.loop-left-preserved
-loop-left-preserved c =
+loop-left-preserved g c =
     let inv = c.loop-left.invariant in
+    let holds = g.T.LineTest.holds c.args.test.now in
     let line = c.cut.result.0.now in
     let whole = moved (file_lines c.args.text.now) inv.before line c.loop-left.rest.now c.cut.result.1.now inv.whole c.cut.ensures.first in
     elim c.if-not-is_empty.branch [
@@ -21,9 +22,9 @@ loop-left-preserved c =
             left = omega (arith, w.left-is, inv.left, p.records-now, c.loop-left-test.true);
             some = omega (arith, w.left-is, c.loop-left-test.true);
             room = omega (arith, inv.room, p.size, c.cut.ensures.shorter);
-            found = rw w.found-is (elim w.if-is_in.branch [
-              | then-is_in v ↦ rw v.found-is (new-last c.args.sought inv.before (record { number = c.loop-left.number; line = c.cut.result.0 }) full (sym w.is_in.ensures ∙ v.if-is_in.true) inv.number)
-              | else-is_in v ↦ rw v.found-is (kept-last c.args.sought inv.before line c.loop-left.found inv.found (other-line c.args.sought line full (sym w.is_in.ensures ∙ v.if-is_in.false)))
+            found = rw w.found-is (elim w.if-is_passed.branch [
+              | then-is_passed v ↦ rw v.found-is (new-last holds inv.before (record { number = c.loop-left.number; line = c.cut.result.0 }) full (sym w.is_passed.ensures ∙ v.if-is_passed.true) inv.number)
+              | else-is_passed v ↦ rw v.found-is (kept-last holds inv.before line c.loop-left.found inv.found (other-line holds line full (sym w.is_passed.ensures ∙ v.if-is_passed.false)))
             ]);
           }
       | else-not-is_empty w ↦
@@ -36,6 +37,6 @@ loop-left-preserved c =
             left = omega (arith, w.left-is, inv.left, p.records-now);
             some = omega (arith, w.left-is, inv.some);
             room = omega (arith, inv.room, p.size, c.cut.ensures.shorter);
-            found = rw w.found-is (kept-last c.args.sought inv.before line c.loop-left.found inv.found (blank-line c.args.sought line blank));
+            found = rw w.found-is (kept-last holds inv.before line c.loop-left.found inv.found (blank-line holds line blank));
           }
     ]

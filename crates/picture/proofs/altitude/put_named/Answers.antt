@@ -1,6 +1,6 @@
 use Rattle.std.proofs.Common.{ℕ, ◌+◌, ap, ap₂, ◌∙◌}
 use Rattle.picture.specs.Altitude.{course_y}
-use Rattle.picture.specs.Layout.{point_at}
+use Rattle.page_marks.specs.Places.{point_at}
 use Rattle.picture.proofs.altitude.put_named.Goals as goal
 
 pub returns : goal.returns

@@ -1,5 +1,5 @@
 use Rattle.std.proofs.Common.{ap, ◌∙◌}
-use Rattle.picture.specs.Layout.{point_at}
+use Rattle.page_marks.specs.Places.{point_at}
 use Rattle.picture.proofs.lanes.put_lane_head.Goals as goal
 
 pub returns : goal.returns

@@ -1,5 +1,5 @@
 use Rattle.std.proofs.Common.{ℕ, ◌+◌, ap, ◌∙◌}
-use Rattle.picture.specs.Layout.{point_at}
+use Rattle.page_marks.specs.Places.{point_at}
 use Rattle.picture.proofs.legend.put_legend.Goals as goal
 
 pub returns : goal.returns
@@ -12,4 +12,7 @@ returns g c =
     let four = rw bottom at c.put_item-4.ensures in
     let words = rw at at c.put_words.ensures in
     let last = rw c.fixed_line.ensures at words in
-    g.met.D.Drawing.then _ _ _ _ _ one (g.met.D.Drawing.then _ _ _ _ _ two (g.met.D.Drawing.then _ _ _ _ _ three (g.met.D.Drawing.then _ _ _ _ _ four last)))
+    let below = c.point_at-2.ensures ∙ ap (λ (n : ℕ). point_at 2000 (n + 2200)) bottom in
+    let more = rw below at c.put_words-2.ensures in
+    let arrow = rw c.fixed_line-2.ensures at more in
+    g.met.D.Drawing.then _ _ _ _ _ one (g.met.D.Drawing.then _ _ _ _ _ two (g.met.D.Drawing.then _ _ _ _ _ three (g.met.D.Drawing.then _ _ _ _ _ four (g.met.D.Drawing.then _ _ _ _ _ last arrow))))

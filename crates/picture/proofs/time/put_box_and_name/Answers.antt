@@ -1,5 +1,5 @@
 use Rattle.std.proofs.Common.{ℕ, ◌+◌, ap, ◌∙◌}
-use Rattle.picture.specs.Layout.{point_at}
+use Rattle.page_marks.specs.Places.{point_at}
 use Rattle.picture.proofs.time.put_box_and_name.Goals as goal
 
 pub returns : goal.returns

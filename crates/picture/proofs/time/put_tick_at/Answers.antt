@@ -1,5 +1,5 @@
 use Rattle.std.proofs.Common.{ℕ, ◌+◌, ap, ◌∙◌}
-use Rattle.picture.specs.Layout.{point_at}
+use Rattle.page_marks.specs.Places.{point_at}
 use Rattle.picture.proofs.time.put_tick_at.Goals as goal
 
 pub returns : goal.returns

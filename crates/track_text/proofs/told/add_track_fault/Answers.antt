@@ -1,6 +1,6 @@
 use Rattle.std.proofs.Common.{◌++◌, ◌∙◌, ap, sym}
 use Rattle.fault_text.proofs.Pieces.{four, three, two}
-use Rattle.track_text.specs.Telling.{track_fault}
+use Rattle.track_text.specs.Sentences.{track_fault}
 use Rattle.track_text.proofs.told.add_track_fault.Goals as goal
 
 pub returns-in-Cover-clause-added : goal.returns-in-Cover-clause-added

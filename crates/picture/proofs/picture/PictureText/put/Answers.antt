@@ -1,7 +1,9 @@
-use Rattle.std.proofs.Common.{ap, ◌∙◌}
+use Rattle.std.proofs.Common.{ap, ap₂, ◌∙◌}
 use Rattle.acas_base.specs.Encounter.{Parts}
 use Rattle.picture.specs.Head.{title_text}
-use Rattle.picture.specs.Layout.{active_among, frame_of}
+use Rattle.picture.specs.Layout.{active_among, frame_of, page_height}
+use Rattle.pair_panels.specs.Nearest.{nearest_pair}
+use Rattle.picture.specs.Panels.{panels_height}
 use Rattle.picture.specs.Picture.{picture_lines}
 use Rattle.picture.proofs.picture.PictureText.put.Goals as goal
 
@@ -10,7 +12,9 @@ unfolding picture_lines
 returns g c =
     let enc = c.enc-encounter.ensures in
     let lanes = c.active_among-lanes.ensures.value ∙ ap active_among (c.crafts.ensures.value ∙ ap (λ (p : Parts). p.crafts) enc) in
-    let frame = c.frame_of.ensures ∙ ap frame_of lanes in
+    let pair = c.nearest_pair-pair.ensures.value ∙ ap nearest_pair enc in
+    let below = c.panels_height.ensures.value ∙ ap panels_height pair in
+    let frame = c.frame_of-frame.ensures ∙ ap₂ frame_of lanes below in
     let title = c.title_text-title.ensures.text ∙ ap title_text enc in
     let cycles = c.cycles.ensures.value ∙ ap (λ (p : Parts). p.cycles) enc in
     let begun = rw frame at c.begin_drawing.ensures.head in
@@ -20,6 +24,10 @@ returns g c =
     let time = rw lanes at axis in
     let altitude = rw enc at c.put_altitude_section.ensures in
     let legend = rw lanes at c.put_legend_section.ensures in
-    let last = g.met.S.LineSink.then _ _ _ _ _ legend (g.met.S.LineSink.nothing _) in
-    let marks = g.met.S.LineSink.then _ _ _ _ _ c.put_head_section.ensures (g.met.S.LineSink.then _ _ _ _ _ time (g.met.S.LineSink.then _ _ _ _ _ altitude (g.met.S.LineSink.then _ _ _ _ _ c.put_lanes_section.ensures last))) in
+    let top = c.page_height.ensures.value ∙ ap page_height lanes in
+    let at_top = rw top at c.put_panels_section.ensures in
+    let of_pair = rw pair at at_top in
+    let panels = rw enc at of_pair in
+    let last = g.met.S.LineSink.then _ _ _ _ _ legend (g.met.S.LineSink.then _ _ _ _ _ panels (g.met.S.LineSink.nothing _)) in
+    let marks = g.met.S.LineSink.then _ _ _ _ _ c.put_head_section.ensures (g.met.S.LineSink.then _ _ _ _ _ time (g.met.S.LineSink.then _ _ _ _ _ c.put_bands_section.ensures (g.met.S.LineSink.then _ _ _ _ _ altitude (g.met.S.LineSink.then _ _ _ _ _ c.put_messages_section.ensures (g.met.S.LineSink.then _ _ _ _ _ c.put_lanes_section.ensures last))))) in
     g.met.S.LineSink.then _ _ _ _ _ head (g.met.S.LineSink.then _ _ _ _ _ marks c.end_drawing.ensures)

@@ -16,7 +16,7 @@ unfolding flown
 returns-then-self-clause-value c =
     let i = c.self.inside in
     let v = c.self.invariant in
-    let it = flying i.state.now.encounter i.state.now.journal i.own i.cycle in
+    let it = flying i.plan.now i.state.now.journal i.own i.cycle in
     let now = c.args.self.now in
     let here : is_ra (air_of it.encounter) it.own ≡ true = sym v.responds_is ∙ c.if-self.true in
     let ra = subst (λ (x : Flying). is_ra (air_of x.encounter) x.own ≡ true) c.self.view_is here in
@@ -28,7 +28,7 @@ unfolding flown
 returns-clause-value c =
     let i = c.self.inside in
     let v = c.self.invariant in
-    let it = flying i.state.now.encounter i.state.now.journal i.own i.cycle in
+    let it = flying i.plan.now i.state.now.journal i.own i.cycle in
     let z = to_z-of_z w64 i.planned (search rules) in
     let planned : c.altitude_units.result ≡ (flight_in it).altitude i.cycle = c.altitude_units.ensures.value ∙ ap altitude_units (z ∙ v.planned_is) in
     let ra : is_ra (air_of it.encounter) it.own ≡ false = sym v.responds_is ∙ c.if-self.false in

@@ -13,17 +13,17 @@ pub rate_between-rate-requires-clause-rate : goal.rate_between-rate-requires-cla
 rate_between-rate-requires-clause-rate c =
     let i = c.self.inside in
     let v = c.self.invariant in
-    let e = i.state.now.encounter in
+    let e = i.plan.now in
     let next = to_z-of_z w64 c.planned_z-next.result (search rules) ∙ c.planned_z-next.ensures.value in
     let here = to_z-of_z w64 i.planned (search rules) ∙ v.planned_is in
     let rate = ap₂ (λ (a b : ℤ). a -ℤ b) next here ∙ vertical e i.own i.cycle v.own v.begun in
-    subst (IsWithin 10000) (sym rate) (rate-small e i.own i.cycle c.legal_law.ensures.valid)
+    subst (IsWithin 10000) (sym rate) (rate-small e i.own i.cycle c.valid_law.ensures)
 
 pub moved_on-self-inside-requires-clause-changed : goal.moved_on-self-inside-requires-clause-changed
 moved_on-self-inside-requires-clause-changed c =
     let i = c.self.inside in
     let v = c.self.invariant in
-    let flight = flight_of i.state.now.encounter i.state.now.journal i.own in
+    let flight = flight_of i.plan.now i.state.now.journal i.own in
     let next : i.cycle ≡ i.cycle - 1 + 1 = (let b = v.begun in omega arith) in
     let advised = c.with-self-inside.ensures flight (i.cycle - 1) v.advised_is next (c.shown-now.ensures ∙ ap shown c.cells.ensures) in
     let before = changed-before flight i.cycle in
@@ -33,7 +33,7 @@ pub invariant_of-self : goal.invariant_of-self
 invariant_of-self c =
     let i = c.self.inside in
     let v = c.self.invariant in
-    let e = i.state.now.encounter in
+    let e = i.plan.now in
     let flight = flight_of e i.state.now.journal i.own in
     let next = to_z-of_z w64 c.planned_z-next.result (search rules) in
     let here = to_z-of_z w64 i.planned (search rules) in

@@ -1,0 +1,80 @@
+// Times of day.
+ghost use Rattle.std.specs.Prelude.{◌≡◌, ◌≤◌, ◌<◌, ◌+◌, ◌-◌, ◌++◌, get_or, length, IfSome};
+ghost use Rattle.labels.specs.Clock.{clock_in, clock_text, pair, pair_at, told};
+
+use acas_text::Line;
+
+// The seconds of a day.
+const DAY: u32 = 86_400;
+
+// A digit of a number.
+fn digit(value: u32) -> u8
+    requires { value < 10 }
+    ensures { result ≡ 48 + value }
+{
+    b'0' + value as u8
+}
+
+// Adds two digits.
+fn add_pair(line: &mut Line, value: u32)
+    requires { length line.old ≤ 100 }
+    ensures added { line.new ≡ line.old ++ pair value }
+    ensures longer { length line.new ≡ length line.old + 2 }
+{
+    line.byte(digit(value / 10 % 10));
+    line.byte(digit(value % 10));
+}
+
+/// A second of the day as hh:mm:ss.
+#[tactic(auto, unfolding(crate::specs::Clock::clock_text))]
+pub fn clock_text(second: u32) -> Line
+    ensures text { result ≡ clock_text second }
+    ensures short { length result ≤ 8 }
+{
+    let mut line = Line::new();
+    add_pair(&mut line, second / 3_600);
+    line.text(":");
+    add_pair(&mut line, second / 60 % 60);
+    line.text(":");
+    add_pair(&mut line, second % 60);
+    line
+}
+
+// The value of a digit at a place.
+fn digit_at(bytes: &[u8], place: usize) -> u32
+    ensures value { result ≡ get_or bytes.now place 0 - 48 }
+    ensures few { result ≤ 207 }
+{
+    match bytes.get(place) {
+        Some(byte) => u32::from(byte.saturating_sub(b'0')),
+        None => 0,
+    }
+}
+
+// The number that two digits tell.
+fn pair_at(bytes: &[u8], place: usize) -> u32
+    requires { place ≤ 6 }
+    ensures value { result ≡ pair_at bytes.now place }
+    ensures few { result ≤ 2277 }
+{
+    10 * digit_at(bytes, place) + digit_at(bytes, place + 1)
+}
+
+fn told(bytes: &[u8]) -> u32
+    ensures { result ≡ told bytes.now }
+{
+    3_600 * pair_at(bytes, 0) + 60 * pair_at(bytes, 3) + pair_at(bytes, 6)
+}
+
+/// The second of the day that a text of the form hh:mm:ss tells.
+#[tactic(auto, unfolding(crate::specs::Clock::clock_in))]
+pub(crate) fn clock_in(bytes: &[u8]) -> Option<u32>
+    ensures value { result ≡ clock_in bytes.now }
+    ensures day { IfSome result (λ second. second < 86400) }
+{
+    let second = told(bytes);
+    if second < DAY && clock_text(second).bytes() == bytes {
+        return Some(second);
+    }
+    None
+}

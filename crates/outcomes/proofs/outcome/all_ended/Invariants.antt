@@ -1,0 +1,7 @@
+use Rattle.outcomes.specs.Advised.{ended}
+use Rattle.outcomes.specs.Outcomes.{AreSenses}
+use Rattle.outcomes.proofs.outcome.all_ended.Given as goal
+
+-- Those of the aircraft so far are kept.
+abbrev pub invariant-loop-own : goal.invariant-loop-own
+invariant-loop-own l = AreSenses (ended l.state.encounter l.state.journal) l.own l.list

@@ -1,0 +1,5 @@
+pub mod Far
+pub mod Best
+pub mod Axis
+pub mod Mapping
+pub mod Placing

@@ -1,0 +1,12 @@
+use Rattle.pair_panels.proofs.panel.put_closest.Goals as goal
+
+pub returns : goal.returns
+returns g c =
+    let from = rw c.point_at.ensures at c.figure.ensures in
+    let to = rw c.point_at-2.ensures at from in
+    let paint = rw c.dashed_paint.ensures at to in
+    let one = rw c.ink.ensures at paint in
+    let center = rw c.point_at-3.ensures at c.figure-2.ensures in
+    let edge = rw c.line_paint.ensures at center in
+    let two = rw c.ink-2.ensures at edge in
+    g.met.D.Drawing.then _ _ _ _ _ one two

@@ -1,0 +1,4 @@
+pub mod Nearest
+pub mod Distances
+pub mod Panel
+pub mod Laws

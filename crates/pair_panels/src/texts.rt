@@ -1,0 +1,123 @@
+// What the panels say.
+ghost use Rattle.std.specs.Prelude.{◌≡◌, ◌+◌, ◌++◌, ◌<◌, ◌≤◌, ◌^◌, length};
+ghost use Rattle.acas_text.specs.declared.line.TheConstants.{LINE_BYTES};
+ghost use Rattle.pair_panels.specs.Panel.{aim_text, closest_text, feet_text, heading_text, miles_text, name_of, quarters_text, tick_text, value_text};
+ghost use Rattle.svg_text.specs.declared.drawing.TheConstants.{LABEL_BYTES};
+
+use crate::distance::Distance;
+use acas_base::Address;
+use acas_text::Line;
+
+fn name_of(distance: Distance) -> &'static str
+    ensures text { result.now ≡ name_of distance }
+    ensures short { length result.now ≤ 17 }
+{
+    match distance {
+        Distance::Slant => "slant range",
+        Distance::Vertical => "vertical distance",
+    }
+}
+
+/// What a panel shows.
+#[tactic(auto, unfolding(crate::specs::Panel::heading_text))]
+pub(crate) fn heading_text(one: Address, other: Address, distance: Distance) -> Line
+    ensures text { result ≡ heading_text one other distance }
+    ensures short { length result ≤ LABEL_BYTES }
+{
+    let mut line = Line::new();
+    line.address(one.value());
+    line.text(" and ");
+    line.address(other.value());
+    line.text(": ");
+    line.text(name_of(distance));
+    line
+}
+
+// Adds what a distance is in a cycle.
+#[tactic(auto, unfolding(crate::specs::Panel::value_text))]
+fn add_value(line: &mut Line, distance: Distance, cycle: u16, value: u32)
+    requires room { length line.old + 60 ≤ LINE_BYTES }
+    ensures added { line.new ≡ line.old ++ value_text distance cycle value }
+    ensures short { length line.new ≤ length line.old + 60 }
+{
+    line.text("cycle ");
+    line.u16(cycle);
+    line.text(", ");
+    line.text(name_of(distance));
+    line.text(" ");
+    line.u32(value);
+    line.text(" ft");
+}
+
+/// Where two aircraft are nearest.
+#[tactic(auto, unfolding(crate::specs::Panel::closest_text))]
+pub(crate) fn closest_text(distance: Distance, cycle: u16, value: u32) -> Line
+    ensures text { result ≡ closest_text distance cycle value }
+    ensures short { length result ≤ LABEL_BYTES }
+{
+    let mut line = Line::new();
+    line.text("closest approach: ");
+    add_value(&mut line, distance, cycle, value);
+    line
+}
+
+/// What a vertical distance is held against.
+#[tactic(auto, unfolding(crate::specs::Panel::aim_text))]
+pub(crate) fn aim_text(aim: u32) -> Line
+    ensures text { result ≡ aim_text aim }
+    ensures short { length result ≤ LABEL_BYTES }
+{
+    let mut line = Line::new();
+    line.text("ALIM ");
+    line.u32(aim);
+    line.text(" ft");
+    line
+}
+
+// Adds quarters of a nautical mile.
+fn add_quarters(line: &mut Line, quarters: u32)
+    requires few { quarters < 4 }
+    requires room { length line.old + 11 ≤ LINE_BYTES }
+    ensures added { line.new ≡ line.old ++ quarters_text quarters }
+    ensures short { length line.new ≤ length line.old + 11 }
+{
+    if quarters == 0 {
+        return;
+    }
+    line.text(".");
+    line.u32(25 * quarters);
+}
+
+#[tactic(auto, unfolding(crate::specs::Panel::miles_text))]
+fn miles_text(quarters: u32) -> Line
+    ensures text { result ≡ miles_text quarters }
+    ensures short { length result ≤ LABEL_BYTES }
+{
+    let mut line = Line::new();
+    line.u32(quarters / 4);
+    add_quarters(&mut line, quarters % 4);
+    line.text(" NM");
+    line
+}
+
+#[tactic(auto, unfolding(crate::specs::Panel::feet_text))]
+fn feet_text(feet: u32) -> Line
+    ensures text { result ≡ feet_text feet }
+    ensures short { length result ≤ LABEL_BYTES }
+{
+    let mut line = Line::new();
+    line.u32(feet);
+    line.text(" ft");
+    line
+}
+
+/// The distance of a tick.
+pub(crate) fn tick_text(distance: Distance, feet: u32) -> Line
+    ensures text { result ≡ tick_text distance feet }
+    ensures short { length result ≤ LABEL_BYTES }
+{
+    match distance {
+        Distance::Slant => miles_text(feet / 1_519),
+        Distance::Vertical => feet_text(feet),
+    }
+}

@@ -1,0 +1,4 @@
+pub mod Reading
+pub mod Noting
+pub mod Adding
+pub mod Each

@@ -1,0 +1,4 @@
+pub mod Losses
+pub mod Laws
+pub mod Parts
+pub mod Counted

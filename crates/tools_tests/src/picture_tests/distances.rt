@@ -1,0 +1,188 @@
+// Expected values: as in picture_tests.rt. The two panels of the nearest pair: its slant range, and its vertical
+// distance.
+use super::frame::{FIFTHS, ONE, Tick, add_ticks};
+use super::marks::{BLACK, FRAME, GRID, Page, drawn, edged};
+use std::alloc::AllocError;
+
+// A line across a panel: where it stands on a page with two lanes, and what it says.
+type Level = (u32, &'static str);
+
+const MILES: [Level; 5] = [
+    (12470, "0 NM"),
+    (11895, "5 NM"),
+    (11320, "10 NM"),
+    (10745, "15 NM"),
+    (10170, "20 NM"),
+];
+
+const FEET: [Level; 5] = [
+    (15870, "0 ft"),
+    (15295, "200 ft"),
+    (14720, "400 ft"),
+    (14145, "600 ft"),
+    (13570, "800 ft"),
+];
+
+// A panel: its top, its name, the levels that it names, the level of ALIM, what it says of the closest approach, and
+// where that is. All as on a page with two lanes.
+struct Panel {
+    top: u32,
+    name: &'static str,
+    levels: [Level; 5],
+    alim: Option<u32>,
+    closest: &'static str,
+    x: u32,
+    y: u32,
+}
+
+const RANGE: &str = "400A01 and 400B02: slant range";
+
+const VERTICAL: &str = "400A01 and 400B02: vertical distance";
+
+// Both aircraft fly towards each other to the end.
+const RANGES: [u32; 31] = [
+    10744, 10773, 10802, 10831, 10859, 10888, 10917, 10946, 10975, 11003, 11032, 11061, 11090,
+    11118, 11147, 11176, 11205, 11233, 11262, 11291, 11320, 11349, 11377, 11406, 11435, 11464,
+    11492, 11521, 11550, 11579, 11607,
+];
+
+// They are at one altitude until one of them climbs.
+const HEIGHTS: [u32; 31] = [
+    15870, 15870, 15870, 15870, 15870, 15870, 15870, 15870, 15870, 15870, 15870, 15870, 15870,
+    15870, 15870, 15870, 15870, 15870, 15870, 15870, 15870, 15870, 15870, 15870, 15870, 15870,
+    15870, 15583, 15295, 15008, 14720,
+];
+
+fn add_levels(page: &mut Page, levels: &[Level]) -> Result<(), AllocError> {
+    let style = "font-size=\"240\" text-anchor=\"end\" fill=\"#222222\"";
+    for place in 0..levels.len() {
+        let (y, words) = levels[place];
+        let y = page.low(y);
+        page.line((2000, y), (17800, y), GRID, "")?;
+        page.words((1880, y.saturating_add(80)), style, "", words)?;
+    }
+    Ok(())
+}
+
+// The words above a panel.
+fn add_names(page: &mut Page, panel: &Panel) -> Result<(), AllocError> {
+    let y = page.low(panel.top).saturating_sub(150);
+    page.words(
+        (2000, y),
+        "font-size=\"260\" font-weight=\"bold\" fill=\"#222222\"",
+        "",
+        panel.name,
+    )?;
+    page.words(
+        (17800, y),
+        "font-size=\"240\" text-anchor=\"end\" fill=\"#222222\"",
+        "",
+        panel.closest,
+    )
+}
+
+fn add_alim(page: &mut Page, alim: Option<u32>) -> Result<(), AllocError> {
+    let Some(y) = alim else {
+        return Ok(());
+    };
+    let y = page.low(y);
+    page.line(
+        (2000, y),
+        (17800, y),
+        drawn(BLACK, 20, "260 100"),
+        "ALIM 600 ft",
+    )?;
+    page.words(
+        (17900, y.saturating_add(80)),
+        "font-size=\"240\" fill=\"#222222\"",
+        "",
+        "ALIM 600 ft",
+    )
+}
+
+// A panel without the line of its distances.
+fn add_panel(page: &mut Page, panel: &Panel, ticks: &[Tick]) -> Result<(), AllocError> {
+    let top = page.low(panel.top);
+    let foot = top.saturating_add(2300);
+    let y = page.low(panel.y);
+    add_levels(page, &panel.levels)?;
+    add_ticks(
+        page,
+        ticks,
+        top,
+        foot,
+        "font-size=\"240\" text-anchor=\"middle\" fill=\"#222222\"",
+    )?;
+    add_names(page, panel)?;
+    page.rect((2000, top), (15800, 2300), FRAME, "")?;
+    add_alim(page, panel.alim)?;
+    page.line(
+        (panel.x, top),
+        (panel.x, foot),
+        drawn(BLACK, 15, "20 50"),
+        panel.closest,
+    )?;
+    page.circle((panel.x, y), 80, edged("none", BLACK, 25), panel.closest)
+}
+
+const ONE_RANGE: Panel = Panel {
+    top: 10170,
+    name: RANGE,
+    levels: MILES,
+    alim: None,
+    closest: "closest approach: cycle 1, slant range 91200 ft",
+    x: 2000,
+    y: 10744,
+};
+
+const ONE_HEIGHT: Panel = Panel {
+    top: 13570,
+    name: VERTICAL,
+    levels: FEET,
+    alim: Some(14145),
+    closest: "closest approach: cycle 1, vertical distance 300 ft",
+    x: 2000,
+    y: 15008,
+};
+
+const LAST_RANGE: Panel = Panel {
+    top: 10170,
+    name: RANGE,
+    levels: MILES,
+    alim: None,
+    closest: "closest approach: cycle 31, slant range 45601 ft",
+    x: 17290,
+    y: 11607,
+};
+
+const LAST_HEIGHT: Panel = Panel {
+    top: 13570,
+    name: VERTICAL,
+    levels: FEET,
+    alim: Some(14145),
+    closest: "closest approach: cycle 31, vertical distance 400 ft",
+    x: 17290,
+    y: 14720,
+};
+
+// One cycle, 91,200 ft and 300 ft apart.
+pub fn add_one_cycle(page: &mut Page) -> Result<(), AllocError> {
+    let paint = drawn(BLACK, 30, "");
+    page.lines("<g>\n")?;
+    add_panel(page, &ONE_RANGE, &ONE)?;
+    page.polyline(1, &[10744], paint, RANGE)?;
+    add_panel(page, &ONE_HEIGHT, &ONE)?;
+    page.polyline(1, &[15008], paint, VERTICAL)?;
+    page.lines("</g>\n</svg>\n")
+}
+
+// Both pictures of 31 cycles have the same distances.
+pub fn add_meeting(page: &mut Page) -> Result<(), AllocError> {
+    let paint = drawn(BLACK, 30, "");
+    page.lines("<g>\n")?;
+    add_panel(page, &LAST_RANGE, &FIFTHS)?;
+    page.low_polyline(&RANGES, paint, RANGE)?;
+    add_panel(page, &LAST_HEIGHT, &FIFTHS)?;
+    page.low_polyline(&HEIGHTS, paint, VERTICAL)?;
+    page.lines("</g>\n</svg>\n")
+}

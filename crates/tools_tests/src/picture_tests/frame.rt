@@ -1,0 +1,125 @@
+// Expected values: as in picture_tests.rt. What stands around the panels: the head, the axis of time, and the legend.
+use super::marks::{BLACK, DOWN, FRAME, GRID, HATCHED, Page, Paint, TRAFFIC, UP, edged, filled};
+use std::alloc::AllocError;
+
+const PATTERN: &str =
+    "<desc>The traffic and resolution advisories of each aircraft against time, a row for each aircraft.</desc>
+<defs>
+<pattern id=\"hatching\" width=\"120\" height=\"120\" patternUnits=\"userSpaceOnUse\" patternTransform=\"rotate(45)\">
+<rect width=\"30\" height=\"120\" fill=\"#FFFFFF\" fill-opacity=\"0.55\">
+</rect>
+</pattern>
+<clipPath id=\"window\">
+";
+
+// The head: how high the page is in pixels, what is drawn, and how many messages were sent.
+pub fn add_head(
+    page: &mut Page,
+    pixels: u32,
+    title: &str,
+    messages: &str,
+) -> Result<(), AllocError> {
+    let height = page.low(16470);
+    let lanes = page.low(2020);
+    page.opening(pixels)?;
+    page.title(title)?;
+    page.lines(PATTERN)?;
+    page.window((2000, 5100), (15800, lanes))?;
+    page.lines("</clipPath>\n</defs>\n")?;
+    page.rect((0, 0), (20000, height), filled("#FFFFFF"), "")?;
+    page.lines("<g>\n")?;
+    page.words(
+        (400, 700),
+        "font-size=\"440\" font-weight=\"bold\" fill=\"#222222\"",
+        "",
+        title,
+    )?;
+    page.words(
+        (400, 1150),
+        "font-size=\"280\" fill=\"#222222\"",
+        "",
+        messages,
+    )?;
+    page.lines("</g>\n")
+}
+
+// A cycle that an axis of time names: where it stands, and its number.
+pub type Tick = (u32, &'static str);
+
+pub const ONE: [Tick; 1] = [(2000, "1")];
+
+pub const FIFTHS: [Tick; 6] = [
+    (4038, "5"),
+    (6587, "10"),
+    (9135, "15"),
+    (11683, "20"),
+    (14232, "25"),
+    (16780, "30"),
+];
+
+// Lines for these cycles through a panel, and their numbers below it.
+pub fn add_ticks(
+    page: &mut Page,
+    ticks: &[Tick],
+    top: u32,
+    foot: u32,
+    style: &str,
+) -> Result<(), AllocError> {
+    for place in 0..ticks.len() {
+        let (x, number) = ticks[place];
+        page.line((x, top), (x, foot), GRID, "")?;
+        page.words((x, foot.saturating_add(300)), style, "", number)?;
+    }
+    Ok(())
+}
+
+// The axis of time below the lanes.
+pub fn add_time(page: &mut Page, ticks: &[Tick]) -> Result<(), AllocError> {
+    let style = "font-size=\"260\" text-anchor=\"middle\" fill=\"#222222\"";
+    let lanes = page.low(2020);
+    let foot = page.low(7220);
+    let below = page.low(7900);
+    page.lines("<g>\n")?;
+    add_ticks(page, ticks, 1500, foot, style)?;
+    page.rect((2000, 5100), (15800, lanes), FRAME, "")?;
+    page.words((9900, below), style, "", "cycle")?;
+    page.lines("</g>\n")
+}
+
+// A bar of the legend.
+fn add_sample(page: &mut Page, x: u32, paint: Paint) -> Result<(), AllocError> {
+    let y = page.low(8270);
+    page.rect((x, y), (700, 280), paint, "")
+}
+
+// Words of the legend.
+fn add_remark(page: &mut Page, x: u32, y: u32, words: &str) -> Result<(), AllocError> {
+    let y = page.low(y);
+    page.words((x, y), "font-size=\"260\" fill=\"#222222\"", "", words)
+}
+
+pub fn add_legend(page: &mut Page) -> Result<(), AllocError> {
+    page.lines("<g>\n")?;
+    add_sample(page, 2000, edged(TRAFFIC, BLACK, 12))?;
+    add_remark(page, 2850, 8500, "traffic")?;
+    add_sample(page, 5200, edged(UP, BLACK, 12))?;
+    add_remark(page, 6050, 8500, "up")?;
+    add_sample(page, 8400, edged(DOWN, BLACK, 12))?;
+    add_sample(page, 8400, HATCHED)?;
+    add_remark(page, 9250, 8500, "down")?;
+    add_sample(page, 11600, edged("#F3E6F1", "#8E4585", 50))?;
+    add_remark(page, 12450, 8500, "up and down")?;
+    add_remark(
+        page,
+        2000,
+        8970,
+        "A tall bar: corrective advice. A low bar: preventive advice, or traffic alone.",
+    )?;
+    add_remark(
+        page,
+        2000,
+        9320,
+        "An arrow: a message that changes what is in force, in the colour of the sense that it leaves.",
+    )?;
+    page.lines("</g>\n")
+}

@@ -1,0 +1,27 @@
+use Rattle.std.proofs.Common.{◌∙◌, ap}
+use Rattle.enc_file.specs.declared.refusal.Code.TheVariants as code
+use Rattle.fault_text.specs.declared.fault.Why.TheVariants as shared
+use Rattle.track_text.specs.Conditions.{kind_named}
+use Rattle.track_text.specs.declared.refusal.Fault.TheVariants.{Text}
+use Rattle.track_text.specs.declared.why.TrackWhy.TheVariants as why
+use Rattle.track_text.proofs.RefusedTracks.{after-at, after-counted, no-box, tells-by, unnamed-line}
+use Rattle.enc_file.specs.Records.{records_of}
+use Rattle.track_text.proofs.telling.text_why.Goals as goal
+
+pub unreachable-requires : goal.unreachable-requires
+unreachable-requires c = no-box (records_of c.args.text.now) c.args.refusal c.requires.refused (c.requires.code ∙ ap Text c.in-Box.is)
+
+pub place_of-requires-clause-counted : goal.place_of-requires-clause-counted
+place_of-requires-clause-counted c = after-counted (records_of c.args.text.now) c.args.refusal c.requires.refused (c.requires.code ∙ ap Text c.in-After.is)
+
+pub returns-in-Kind : goal.returns-in-Kind
+returns-in-Kind c =
+    let is = c.requires.code ∙ ap Text c.in-Kind.is in
+    tells-by c.args.text.now c.args.refusal c.requires.refused c.args.line.now (why.NoKind c.field.result) (Text code.Kind) is
+    (c.field.ensures, ap kind_named c.field.ensures ∙ unnamed-line c.args.text.now c.args.refusal c.requires.refused c.args.line.now is c.requires.place)
+
+pub returns-in-After : goal.returns-in-After
+returns-in-After c =
+    let is = c.requires.code ∙ ap Text c.in-After.is in
+    let at = after-at c.args.text.now c.args.refusal c.requires.refused c.place_of.result.number c.place_of.result.line.now is c.place_of.ensures.place in
+    tells-by c.args.text.now c.args.refusal c.requires.refused c.args.line.now (why.Shared (shared.After c.place_of.result.number)) (Text code.After) is (c.place_of.result.line.now, at.0, at.1)

@@ -1,0 +1,10 @@
+pub mod Delay
+pub mod Flown
+pub mod Onward
+pub mod Pairs
+pub mod Kept
+pub mod Later
+pub mod Lost
+pub mod One
+pub mod Few
+pub mod Sizes
