@@ -79,7 +79,7 @@ fn is_pointed(found: &[u8]) -> bool
 }
 
 /// What may be said of a field that is no number of its range.
-pub(crate) fn number_hint(found: &[u8]) -> &'static str
+pub fn number_hint(found: &[u8]) -> &'static str
     ensures text { result.now ≡ number_hint found.now }
     ensures short { length result.now ≤ 44 }
 {

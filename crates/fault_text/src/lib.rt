@@ -22,6 +22,7 @@ pub use earlier::{LineTest, last_before};
 pub use fault::{Fault, Why, explain, explained, field_why};
 pub use faultless::faultless_line;
 pub use fields::{count, field, kind_of};
+pub use hints::number_hint;
 pub use leaving::Axis;
 pub use lines::{FileLines, Place, begins_recording, begins_tracks, place_of, records_law};
 pub use names::{FieldName, RecordKind};

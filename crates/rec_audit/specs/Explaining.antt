@@ -1,6 +1,7 @@
 -- What is told of a recording.
-use Rattle.std.specs.Prelude.{◌≡◌, ◌≢◌, ◌⊎◌, ℕ, ◌+◌, ◌-◌, ◌<◌, ◌==◌, ◌||◌, if◌then◌else◌, Bool, true, false, MatchBool, List, [], ◌∷◌, ◌++◌, length, Option, Some, None, Err, take, drop, slice_get}
+use Rattle.std.specs.Prelude.{◌≡◌, ◌≢◌, ◌⊎◌, ℕ, ◌+◌, ◌-◌, ◌<◌, ◌==◌, ◌||◌, if◌then◌else◌, Bool, true, false, MatchBool, List, [], ◌∷◌, ◌++◌, length, Option, Some, None, Err, take, drop, slice_get, codes, nat_eq}
 use Rattle.std.specs.Borrow.{Bor}
+use Rattle.std.specs.List.{starts_with}
 use Rattle.acas_base.specs.Encounter.{Parts}
 use Rattle.acas_base.specs.declared.entry.Entry.{Entry}
 use Rattle.acas_lines.specs.Differing.{DifferAt}
@@ -232,10 +233,19 @@ TellsUnfinished text other = ⊥
 abbrev pub TellsLater : ℕ → List ℕ → Why → Type 0
 TellsLater crafts text w = TellsFields crafts text w ⊎ TellsUnfinished text w
 
--- The line of an entry is missing, or it is misspelled. So many entries are announced, and so many stand before it.
+-- A line begins as the first one of a report.
+abbrev pub begins_report : List ℕ → Bool
+begins_report text = starts_with nat_eq text (codes "report,")
+
+-- Where the line of an entry has to stand, the report begins, or the line is misspelled. So many entries are announced,
+-- and so many stand before it.
+abbrev pub TellsThisEntry : ℕ → ℕ → ℕ → List ℕ → Why → Type 0
+TellsThisEntry crafts announced entries text w = MatchBool (begins_report text) (w ≡ why.EarlyReport announced entries) (TellsLater crafts text w)
+
+-- The line of an entry is missing, or it is another one.
 abbrev pub TellsEntryLine : ℕ → ℕ → ℕ → Option (List ℕ) → Why → Type 0
 TellsEntryLine crafts announced entries None w = w ≡ why.NoEntry announced entries
-TellsEntryLine crafts announced entries (Some text) w = TellsLater crafts text w
+TellsEntryLine crafts announced entries (Some text) w = TellsThisEntry crafts announced entries text w
 
 -- The line stands behind the number of entries and so many entries.
 pub record TellsSpelledEntry (bytes : List ℕ) (line : ℕ) (w : Why) : Type 0 where

@@ -3,7 +3,7 @@ ghost use Rattle.std.specs.Prelude.{◌≡◌, ◌≢◌, ◌-◌, ◌+◌, ◌<
 ghost use Rattle.acas_base.specs.declared.TheConstants.{CRAFTS};
 ghost use Rattle.acas_lines.specs.Split.{lines_of};
 ghost use Rattle.rec_audit.specs.Engine.{IsOpened};
-ghost use Rattle.rec_audit.specs.Explaining.{IsHeaded, IsToldBy, IsUnspelled, IsUnspelledIn, TellsCount, TellsEntryLine, TellsFirstReturn, TellsLater, TellsOther, TellsPart, TellsReturn, TellsSpelledEntry, TellsSpelling, fault_of, first_return, line_at};
+ghost use Rattle.rec_audit.specs.Explaining.{IsHeaded, IsToldBy, IsUnspelled, IsUnspelledIn, TellsCount, TellsEntryLine, TellsFirstReturn, TellsLater, TellsOther, TellsPart, TellsReturn, TellsSpelledEntry, TellsSpelling, TellsThisEntry, begins_report, fault_of, first_return, line_at};
 ghost use Rattle.rec_audit.specs.Judging.{IsWrong, IsWrongAfter};
 ghost use Rattle.rec_audit.specs.Opening.{IsWrongOpening};
 ghost use Rattle.rec_audit.specs.declared.verdict.Reason.{Reason};
@@ -117,8 +117,27 @@ fn tell_later(line: u32, crafts: u8, text: &[u8]) -> Line
     sentence_of(line, Why::Unfinished { found: text })
 }
 
-// Tells what is wrong with the next line, which has to be that of an entry. So many entries are announced, and so many
+// Whether a line begins as the first one of a report.
+fn begins_report(text: &[u8]) -> bool
+    ensures { result ≡ begins_report text.now }
+{
+    text.starts_with(b"report,")
+}
+
+// Tells what is wrong with this line, which has to be that of an entry. So many entries are announced, and so many
 // stand before it.
+fn tell_this_entry(line: u32, crafts: u8, announced: u32, entries: u32, text: &[u8]) -> Line
+    requires crafts { (0 < crafts) × (crafts ≤ CRAFTS) }
+    requires unspelled { IsUnspelled crafts text.now }
+    ensures { IsToldBy line (TellsThisEntry crafts announced entries text.now) result }
+{
+    if begins_report(text) {
+        return sentence_of(line, Why::EarlyReport { announced, entries });
+    }
+    tell_later(line, crafts, text)
+}
+
+// The same of the next line.
 fn tell_entry_line(
     lines: &TextLines<'_>,
     line: u32,
@@ -131,7 +150,7 @@ fn tell_entry_line(
     ensures { IsToldBy line (TellsEntryLine crafts announced entries (slice_get lines.now.left 0)) result }
 {
     match lines.again().next() {
-        Some(text) => tell_later(line, crafts, text),
+        Some(text) => tell_this_entry(line, crafts, announced, entries, text),
         None => sentence_of(line, Why::NoEntry { announced, entries }),
     }
 }

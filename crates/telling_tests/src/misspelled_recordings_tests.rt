@@ -3,7 +3,7 @@
 use crate::wrong_recordings::{ENCOUNTER, FIRST, FOURTEEN, Row, SECOND, SENDS, first_other};
 use std::test::Fail;
 
-const ROWS: [Row; 29] = [
+const ROWS: [Row; 32] = [
     (
         &[ENCOUNTER, b"journal,014\n"],
         b"line 10: this line has to be \"journal,\" and a number from 0 to 999999999, and is \"journal,014\"\n",
@@ -62,7 +62,7 @@ const ROWS: [Row; 29] = [
     ),
     (
         &[ENCOUNTER, FOURTEEN, FIRST, b"s,0,1,01,30080007400A01\n"],
-        b"line 14: NUMBER is \"01\", and has to be a whole number from 1 to 600\n",
+        b"line 14: NUMBER is \"01\", and has to be a whole number from 1 to 600, without a space, a sign or a zero too many\n",
     ),
     (
         &[ENCOUNTER, FOURTEEN, FIRST, b"s,0,1,1,30080007400a01\n"],
@@ -75,6 +75,18 @@ const ROWS: [Row; 29] = [
     (
         &[ENCOUNTER, FOURTEEN, FIRST, b"t,0,4294967296,3,g\n"],
         b"line 14: POSITION is \"4294967296\", and has to be a whole number from 0 to 4294967295\n",
+    ),
+    (
+        &[ENCOUNTER, FOURTEEN, FIRST, b"t,0,05,0,g\n"],
+        b"line 14: POSITION is \"05\", and has to be a whole number from 0 to 4294967295, without a space, a sign or a zero too many\n",
+    ),
+    (
+        &[ENCOUNTER, FOURTEEN, FIRST, b"report,0"],
+        b"line 14: the report begins too early: 14 entries are announced, and 3 stand here\n",
+    ),
+    (
+        &[ENCOUNTER, FOURTEEN, FIRST, b"reports,0\n"],
+        b"line 14: \"reports\" is no kind of entry (c, s, t)\n",
     ),
     (
         &[ENCOUNTER, FOURTEEN, FIRST, b"t,0,5,3,x\n"],

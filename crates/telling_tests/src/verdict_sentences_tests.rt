@@ -165,7 +165,7 @@ const ROWS: [Row; 37] = [
             b"c,0,1,-,-\n",
             b"report,0\nclose\n",
         ],
-        b"line 10: \"report\" is no kind of entry (c, s, t)\n",
+        b"line 10: the report begins too early: 2 entries are announced, and 1 stands here\n",
     ),
     (
         &[],

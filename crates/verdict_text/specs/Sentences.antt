@@ -2,6 +2,7 @@
 use Rattle.std.specs.Prelude.{ℕ, ◌-◌, ◌==◌, ◌&&◌, nat_le, if◌then◌else◌, List, [], ◌∷◌, ◌++◌, codes}
 use Rattle.std.specs.Fmt.{decimal}
 use Rattle.std.specs.List.{flat_map}
+use Rattle.fault_text.specs.Hints.{number_hint}
 use Rattle.fault_text.specs.Shown.{shown}
 use Rattle.verdict_text.specs.declared.causes.CommitCause.{CommitCause}
 use Rattle.verdict_text.specs.declared.causes.CommitCause.TheVariants as commit
@@ -108,29 +109,32 @@ field_text field.Outcome = codes "RESULT"
 field_text (field.Cell other) = codes "the cell for " ++ craft_text other
 field_text (field.OwnCell own) = codes "the cell for " ++ craft_text own ++ codes " itself"
 
-abbrev pub range_text : ℕ → ℕ → List ℕ
-range_text low high = codes "a whole number from " ++ decimal low ++ codes " to " ++ decimal high
+-- The range of a number, and what may be said of what stands in its place.
+abbrev pub range_text : ℕ → ℕ → List ℕ → List ℕ
+range_text low high found = codes "a whole number from " ++ decimal low ++ codes " to " ++ decimal high ++ number_hint found
 
--- What has to stand in a field, where there are so many aircraft.
-abbrev pub form_of : EntryField → ℕ → List ℕ
-form_of field.Own crafts = range_text 0 (crafts - 1)
-form_of field.Cycle crafts = range_text 1 600
-form_of field.Target crafts = range_text 0 (crafts - 1)
-form_of field.Number crafts = range_text 1 600
-form_of field.Word crafts = codes "fourteen digits 0-9A-F"
-form_of field.Position crafts = range_text 0 4294967295
-form_of field.Copy crafts = range_text 0 2
-form_of field.Outcome crafts = codes "g or b"
-form_of (field.Cell other) crafts = codes "-, t, or U or D, a strength 1 to 6, a point, an age 1 to 600 and letters of c, x, r in this order"
-form_of (field.OwnCell own) crafts = codes "-"
+-- What has to stand in a field in place of what does, where there are so many aircraft.
+abbrev pub form_of : EntryField → ℕ → List ℕ → List ℕ
+form_of field.Own crafts found = range_text 0 (crafts - 1) found
+form_of field.Cycle crafts found = range_text 1 600 found
+form_of field.Target crafts found = range_text 0 (crafts - 1) found
+form_of field.Number crafts found = range_text 1 600 found
+form_of field.Word crafts found = codes "fourteen digits 0-9A-F"
+form_of field.Position crafts found = range_text 0 4294967295 found
+form_of field.Copy crafts found = range_text 0 2 found
+form_of field.Outcome crafts found = codes "g or b"
+form_of (field.Cell other) crafts found = codes "-, t, or U or D, a strength 1 to 6, a point, an age 1 to 600 and letters of c, x, r in this order"
+form_of (field.OwnCell own) crafts found = codes "-"
+
+-- ---- how many entries there are
+
+-- So many entries are announced, and so many stand before a line.
+abbrev pub entries_text : ℕ → ℕ → List ℕ
+entries_text announced entries = counted announced (codes " entry is announced, and ") (codes " entries are announced, and ") ++ counted entries (codes " stands here") (codes " stand here")
 
 -- ---- all
 
 abbrev pub why_text : Why → List ℕ
-why_text (why.Refused code) = codes "the encounter that begins here is refused with code " ++ decimal code
-why_text why.Misspelled = codes "this line isn't spelled as one that can stand here"
-why_text why.Missing = codes "this line is missing: the recording is cut off before it"
-why_text why.OtherText = codes "the encounter that begins here isn't in its canonical text"
 why_text why.Mark = codes "a byte order mark stands in front of this line, and a recording has none"
 why_text why.CarriageReturn = codes "a carriage return stands in this line, and the lines of a recording end with a line feed alone"
 why_text (why.OtherLine wanted found) = codes "this line has to be " ++ quoted wanted.now ++ codes ", and " ++ found_text found
@@ -138,11 +142,12 @@ why_text why.TooMany = codes "this line is one too many: the recording ends with
 why_text why.NoEnd = codes "no line is \"end\": the recording is cut off in its encounter, or is none"
 why_text (why.NotCanonical wanted) = codes "the encounter isn't in its canonical text; there this line would be " ++ quoted wanted.now
 why_text (why.NoCount found) = codes "this line has to be \"journal,\" and a number from 0 to 999999999, and " ++ found_text found
-why_text (why.NoEntry announced entries) = codes "this line is missing: " ++ counted announced (codes " entry is announced, and ") (codes " entries are announced, and ") ++ counted entries (codes " stands here") (codes " stand here")
+why_text (why.NoEntry announced entries) = codes "this line is missing: " ++ entries_text announced entries
+why_text (why.EarlyReport announced entries) = codes "the report begins too early: " ++ entries_text announced entries
 why_text (why.Unfinished text) = shown text.now ++ codes " has no line feed: the recording is cut off here"
 why_text (why.NoKind text) = shown text.now ++ codes " is no kind of entry (c, s, t)"
 why_text (why.FieldCount of crafts fields) = letter_of of ++ codes " has " ++ counted fields (codes " field here") (codes " fields here") ++ codes ", and has to be " ++ form_text of crafts
-why_text (why.NoValue name crafts text) = field_text name ++ codes " is " ++ shown text.now ++ codes ", and has to be " ++ form_of name crafts
+why_text (why.NoValue name crafts text) = field_text name ++ codes " is " ++ shown text.now ++ codes ", and has to be " ++ form_of name crafts text.now
 why_text (why.NoCommit own cycle cause) = commit_text own cycle cause
 why_text (why.NoSend own target cause) = send_text own target cause
 why_text (why.NoTake own position copy cause) = take_text own position copy cause

@@ -27,16 +27,6 @@ pub enum Found<'a> {
 /// their sends.
 #[derive(Clone, Copy)]
 pub enum Why<'a> {
-    /// The encounter is refused with this code.
-    Refused {
-        code: u8,
-    },
-    /// The line isn't spelled as one that can stand there.
-    Misspelled,
-    /// There is no such line.
-    Missing,
-    /// The encounter isn't in its canonical text.
-    OtherText,
     /// A byte order mark stands in front of the line.
     Mark,
     /// A carriage return stands in the line.
@@ -60,6 +50,11 @@ pub enum Why<'a> {
     },
     /// The line of an entry is missing. So many entries are announced, and so many stand here.
     NoEntry {
+        announced: u32,
+        entries: u32,
+    },
+    /// The report begins in place of the line of an entry. So many entries are announced, and so many stand before it.
+    EarlyReport {
         announced: u32,
         entries: u32,
     },

@@ -9,7 +9,7 @@ ghost use Rattle.verdict_text.specs.declared.spelling.EntryKind.TheVariants as k
 use crate::pieces::{add_counted, add_craft, add_few};
 use crate::spelling::{EntryField, EntryKind};
 use acas_text::Line;
-use fault_text::add_shown;
+use fault_text::{add_shown, number_hint};
 
 fn letter_of(kind: EntryKind) -> &'static str
     ensures text { result.now ≡ letter_of kind }
@@ -94,30 +94,33 @@ fn add_field(line: &mut Line, name: EntryField)
     }
 }
 
-fn add_range(line: &mut Line, low: u32, high: u32)
+// Adds the range of a number, and what may be said of what stands in its place.
+fn add_range(line: &mut Line, low: u32, high: u32, found: &[u8])
     requires { length line.old + 100 ≤ LINE_BYTES }
-    ensures added { line.new ≡ line.old ++ range_text low high }
+    ensures added { line.new ≡ line.old ++ range_text low high found.now }
     ensures short { length line.new ≤ length line.old + 100 }
 {
     line.text("a whole number from ");
     line.u32(low);
     line.text(" to ");
     line.u32(high);
+    line.text(number_hint(found));
 }
 
-fn add_form_of(line: &mut Line, name: EntryField, crafts: u8)
+// Adds what has to stand in a field in place of what does.
+fn add_form_of(line: &mut Line, name: EntryField, crafts: u8, found: &[u8])
     requires { length line.old + 100 ≤ LINE_BYTES }
-    ensures added { line.new ≡ line.old ++ form_of name crafts }
+    ensures added { line.new ≡ line.old ++ form_of name crafts found.now }
     ensures short { length line.new ≤ length line.old + 100 }
 {
     match name {
         EntryField::Own | EntryField::Target => {
-            add_range(line, 0, u32::from(crafts).saturating_sub(1));
+            add_range(line, 0, u32::from(crafts).saturating_sub(1), found);
         }
-        EntryField::Cycle | EntryField::Number => add_range(line, 1, 600),
+        EntryField::Cycle | EntryField::Number => add_range(line, 1, 600, found),
         EntryField::Word => line.text("fourteen digits 0-9A-F"),
-        EntryField::Position => add_range(line, 0, u32::MAX),
-        EntryField::Copy => add_range(line, 0, 2),
+        EntryField::Position => add_range(line, 0, u32::MAX, found),
+        EntryField::Copy => add_range(line, 0, 2, found),
         EntryField::Outcome => line.text("g or b"),
         EntryField::Cell { .. } => line.text(
             "-, t, or U or D, a strength 1 to 6, a point, an age 1 to 600 and letters of c, x, r in this order",
@@ -136,5 +139,5 @@ pub(crate) fn add_value(line: &mut Line, name: EntryField, crafts: u8, found: &[
     line.text(" is ");
     add_shown(line, found);
     line.text(", and has to be ");
-    add_form_of(line, name, crafts);
+    add_form_of(line, name, crafts, found);
 }

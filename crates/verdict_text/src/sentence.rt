@@ -1,7 +1,7 @@
 // The sentence of a fault.
 ghost use Rattle.std.specs.Prelude.{◌≡◌, ◌+◌, ◌≤◌, ◌++◌, length};
 ghost use Rattle.acas_text.specs.declared.line.TheConstants.{LINE_BYTES};
-ghost use Rattle.verdict_text.specs.Sentences.{found_text, lack_text, sentence, why_text};
+ghost use Rattle.verdict_text.specs.Sentences.{entries_text, found_text, lack_text, sentence, why_text};
 ghost use Rattle.verdict_text.specs.declared.fault.Why.TheVariants as why;
 ghost use Rattle.verdict_text.specs.declared.sentence.TheConstants.{WHY_BYTES};
 
@@ -37,16 +37,6 @@ fn add_found(line: &mut Line, found: &Found<'_>)
     }
 }
 
-// Adds the code of a refused encounter.
-fn add_refused(line: &mut Line, code: u8)
-    requires { length line.old + WHY_BYTES ≤ LINE_BYTES }
-    ensures added { line.new ≡ line.old ++ why_text (why.Refused code) }
-    ensures short { length line.new ≤ length line.old + WHY_BYTES }
-{
-    line.text("the encounter that begins here is refused with code ");
-    add_small(line, code);
-}
-
 // Adds which line has to stand there, and what does.
 fn add_other_line(line: &mut Line, wanted: &Wanted, found: &Found<'_>)
     requires { length line.old + WHY_BYTES ≤ LINE_BYTES }
@@ -79,13 +69,12 @@ fn add_no_count(line: &mut Line, found: &Found<'_>)
     add_found(line, found);
 }
 
-// Adds how many entries are announced, and how many stand here.
-fn add_no_entry(line: &mut Line, announced: u32, entries: u32)
-    requires { length line.old + WHY_BYTES ≤ LINE_BYTES }
-    ensures added { line.new ≡ line.old ++ why_text (why.NoEntry announced entries) }
-    ensures short { length line.new ≤ length line.old + WHY_BYTES }
+// Adds how many entries are announced, and how many stand before the line.
+fn add_entries(line: &mut Line, announced: u32, entries: u32)
+    requires { length line.old + 100 ≤ LINE_BYTES }
+    ensures added { line.new ≡ line.old ++ entries_text announced entries }
+    ensures short { length line.new ≤ length line.old + 100 }
 {
-    line.text("this line is missing: ");
     add_counted(
         line,
         announced,
@@ -93,6 +82,26 @@ fn add_no_entry(line: &mut Line, announced: u32, entries: u32)
         " entries are announced, and ",
     );
     add_counted(line, entries, " stands here", " stand here");
+}
+
+// Adds that the line of an entry is missing.
+fn add_no_entry(line: &mut Line, announced: u32, entries: u32)
+    requires { length line.old + WHY_BYTES ≤ LINE_BYTES }
+    ensures added { line.new ≡ line.old ++ why_text (why.NoEntry announced entries) }
+    ensures short { length line.new ≤ length line.old + WHY_BYTES }
+{
+    line.text("this line is missing: ");
+    add_entries(line, announced, entries);
+}
+
+// Adds that the report begins in place of the line of an entry.
+fn add_early_report(line: &mut Line, announced: u32, entries: u32)
+    requires { length line.old + WHY_BYTES ≤ LINE_BYTES }
+    ensures added { line.new ≡ line.old ++ why_text (why.EarlyReport announced entries) }
+    ensures short { length line.new ≤ length line.old + WHY_BYTES }
+{
+    line.text("the report begins too early: ");
+    add_entries(line, announced, entries);
 }
 
 // Adds a text that has no line feed.
@@ -182,10 +191,6 @@ fn add_why(line: &mut Line, why: &Why<'_>)
     ensures short { length line.new ≤ length line.old + WHY_BYTES }
 {
     match *why {
-        Why::Refused { code } => add_refused(line, code),
-        Why::Misspelled => line.text("this line isn't spelled as one that can stand here"),
-        Why::Missing => line.text("this line is missing: the recording is cut off before it"),
-        Why::OtherText => line.text("the encounter that begins here isn't in its canonical text"),
         Why::Mark => line.text(
             "a byte order mark stands in front of this line, and a recording has none",
         ),
@@ -200,6 +205,7 @@ fn add_why(line: &mut Line, why: &Why<'_>)
         Why::NotCanonical { wanted } => add_not_canonical(line, wanted),
         Why::NoCount { found } => add_no_count(line, &found),
         Why::NoEntry { announced, entries } => add_no_entry(line, announced, entries),
+        Why::EarlyReport { announced, entries } => add_early_report(line, announced, entries),
         Why::Unfinished { found } => add_unfinished(line, found),
         Why::NoKind { found } => add_no_kind(line, found),
         Why::FieldCount {
