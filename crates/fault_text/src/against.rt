@@ -55,8 +55,8 @@ fn number_at(line: &[u8], place: usize) -> u16
     }
 }
 
-/// Which earlier record a record of this kind repeats, or which number of one it doesn't exceed. The record has the number
-/// `at`, and this line.
+/// Which earlier record a record of this kind repeats, or which number of one it doesn't exceed. The record has the
+/// number `at`, and this line.
 pub fn repeat_why<'a>(text: &[u8], at: u32, kind: RecordKind, line: &'a [u8]) -> Why<'a>
     requires few { length text.now < 2 ^ 32 - 1 }
     requires enough { at ≤ length (written (file_lines text.now)) + 1 }

@@ -191,7 +191,8 @@ fn mask_why(kind: RecordKind, line: &[u8]) -> Why<'_>
     }
 }
 
-/// Which field of a record of this kind is wrong, or that it hasn't so many. The code is Fields, Number, Address or Mask.
+/// Which field of a record of this kind is wrong, or that it hasn't so many. The code is Fields, Number, Address or
+/// Mask.
 pub fn field_why(code: Code, kind: RecordKind, line: &[u8]) -> Why<'_>
     requires few { length line.now < 2 ^ 32 - 1 }
     requires wrong { IsWrong code kind (fields_in line.now) }

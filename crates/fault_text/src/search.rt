@@ -58,8 +58,8 @@ fn fails(code: Code, name: FieldName, found: &[u8]) -> bool
     }
 }
 
-/// Of the fields with these names, which stand behind the first field of a record, the leftmost one that fails its part of
-/// a code's condition, and what stands there. The code is Number, Address or Mask; of other codes there is none.
+/// Of the fields with these names, which stand behind the first field of a record, the leftmost one that fails its part
+/// of a code's condition, and what stands there. The code is Number, Address or Mask; of other codes there is none.
 pub fn leftmost<'a>(
     code: Code,
     names: &[FieldName],

@@ -198,9 +198,9 @@ pub record TellsCanonical (lines : List (List ℕ)) (e : Parts) (told : List ℕ
   pub sentence_is : IsCanonicalSentence (same + 2) (take WANTED_BYTES line) told
 
 -- What is told of an encounter in a recording, whose lines are these, from the second one on. Either a mark stands in
--- front of its text. Or the text is refused: then the sentence of its refusal is told. There an empty line stands before
--- the text, in the place of the recording's first line; so all lines that are named are those of the recording. Or it
--- isn't in its canonical text.
+-- front of its text. Or the text is refused: then the sentence of its refusal is told. There an empty line stands
+-- before the text, in the place of the recording's first line; so all lines that are named are those of the recording.
+-- Or it isn't in its canonical text.
 pub data TellsText (lines : List (List ℕ)) (text told : List ℕ) : Type 0 where
   marked : IsMarked text → told ≡ sentence (fault_of 2 why.Mark) → TellsText lines text told
   refused_text : (refusal : Refusal) → (IsMarked text → ⊥) → reading_of text ≡ Err refusal → faults.IsExplained (10 ∷ text) refusal told → TellsText lines text told
