@@ -1,0 +1,3 @@
+pub mod Joints
+pub mod FirstPiece
+pub mod OneList
