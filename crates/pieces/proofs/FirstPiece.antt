@@ -114,16 +114,18 @@ piece-at bytes line behind some on is =
     let whole : bytes ≡ piece ++ behind = s.whole ∙ ap (λ t. s.mark ++ t) on.bare ∙ sym (append_assoc s.mark full behind) in
     let long : 0 < length full = (let l = length-append on.front on.part in omega (arith, l, on.size)) in
     let cut : EndsLine behind piece = longer-end behind s.mark full long on.ends in
-    let bare : full ≡ strip_bom piece = append_cancel_right full (strip_bom piece) behind (sym on.bare ∙ ap strip_bom whole ∙ strip-joint behind piece cut) in
-    (piece, record {
-      whole = whole;
-      some = (let l = length-append s.mark full in omega (arith, l, long));
-      first = record {
+    let bare : full ≡ strip_bom piece = append_cancel_right full (strip_bom piece) behind (sym on.bare ∙ ap strip_bom whole ∙ strip-joint behind piece cut) in (
+      piece,
+      record {
         whole = whole;
-        cut = cut;
-        ended = inl (record { front = lines_after false on.front; none = on.none; last = line; ends = is; lines_are = ap (lines_after false) (sym bare) ∙ on.lines });
-      };
-    })
+        some = (let l = length-append s.mark full in omega (arith, l, long));
+        first = record {
+          whole = whole;
+          cut = cut;
+          ended = inl (record { front = lines_after false on.front; none = on.none; last = line; ends = is; lines_are = ap (lines_after false) (sym bare) ∙ on.lines });
+        };
+      },
+    )
 
 pub ended-size : (bytes rest line behind : List ℕ) (some : Bool) (size : ℕ) → IsRead bytes rest some → IsFirstLine rest line behind → is_end line ≡ true → size + length behind ≡ length bytes → IsSize bytes size
 ended-size bytes rest line behind some size r f is all =

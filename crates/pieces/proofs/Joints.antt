@@ -39,6 +39,7 @@ last-byte true feed returned b c bs return-is feed-is ends =
   where
     feed-no : (c : ℕ) (feed : Bool) → c ≡ 13 → (c == 10) ≡ feed → feed ≡ false
     feed-no c feed is also = sym also ∙ rw is refl
+
     no-line-feed : (next feed : Bool) → feed ≡ false → (feed || (true && not next)) ≡ true → next ≡ false
     no-line-feed true feed none h = absurd (false≢true (rw none at h))
     no-line-feed false feed none h = refl

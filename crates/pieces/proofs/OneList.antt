@@ -9,11 +9,11 @@ use Rattle.pieces.specs.Pieces.{AreCut, EndsOnce, HasNoEnd, IsFirst, IsUnended, 
 use Rattle.pieces.proofs.Joints.{file-joint, some-line}
 use Rattle.pieces.proofs.FirstPiece.{any-append}
 
-head : List ℕ → List (List ℕ) → List ℕ
+abbrev head : List ℕ → List (List ℕ) → List ℕ
 head other [] = other
 head other (line ∷ lines) = line
 
-tail : List (List ℕ) → List (List ℕ)
+abbrev tail : List (List ℕ) → List (List ℕ)
 tail [] = []
 tail (line ∷ lines) = lines
 
@@ -63,7 +63,7 @@ shorter-by piece behind (n ∷ ns) other rest some cut (inl e) is longer also =
 not-shorter : (bytes piece behind other rest : List ℕ) → IsFirst bytes piece behind → IsFirst bytes other rest → length piece < length other → ⊥
 not-shorter bytes piece behind other rest one two less =
     let front : take (length piece) other ≡ piece =
-          sym (take-append-le (length piece) other rest (omega (arith, less))) ∙ ap (take (length piece)) (sym two.whole ∙ one.whole) ∙ take_at piece behind (length piece) refl in
+    sym (take-append-le (length piece) other rest (omega (arith, less))) ∙ ap (take (length piece)) (sym two.whole ∙ one.whole) ∙ take_at piece behind (length piece) refl in
     let more = drop (length piece) other in
     let longer : other ≡ piece ++ more = sym (take-append-drop (length piece) other) ∙ ap (λ t. t ++ more) front in
     let size : length other ≡ length piece + length more = ap length longer ∙ length-append piece more in
@@ -74,9 +74,9 @@ same-size : (a b : ℕ) → (a < b → ⊥) → (b < a → ⊥) → a ≡ b
 same-size a b up down = elim (cases_lt a b) [
   | inl less ↦ absurd (up less)
   | inr most ↦ elim (cases_lt b a) [
-      | inl less ↦ absurd (down less)
-      | inr least ↦ omega (arith, most, least)
-    ]
+    | inl less ↦ absurd (down less)
+    | inr least ↦ omega (arith, most, least)
+  ]
 ]
 
 one-piece : (bytes piece behind other rest : List ℕ) → IsFirst bytes piece behind → IsFirst bytes other rest → piece ≡ other

@@ -17,5 +17,5 @@ pub record IsRange (text : List ℕ) (range : Range) : Type 0 where
 -- A text of fewer than 2 ^ 32 - 1 bytes, and ranges in it.
 pub record IsHeld (text : List ℕ) (ranges : List Range) : Type 0 where
   pub short : length text < 2 ^ 32 - 1
-  pub ranges : All (IsRange text) ranges
+  pub inside : All (IsRange text) ranges
   pub few : length ranges ≤ length text

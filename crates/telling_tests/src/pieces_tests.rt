@@ -13,15 +13,24 @@ const CUT: [Row; 18] = [
     (b"\xEF\xBB\xBF\n", &[]),
     // Each end of a line belongs to the line before it.
     (b"a\nend\nb\nend\n", &[b"a\nend\n", b"b\nend\n"]),
-    (b"a\r\nend\r\nb\r\nend\r\n", &[b"a\r\nend\r\n", b"b\r\nend\r\n"]),
+    (
+        b"a\r\nend\r\nb\r\nend\r\n",
+        &[b"a\r\nend\r\n", b"b\r\nend\r\n"],
+    ),
     (b"a\rend\rb\rend\r", &[b"a\rend\r", b"b\rend\r"]),
     (b"end\n\rend", &[b"end\n", b"\rend"]),
     // Blank lines belong to the piece behind them.
     (b"end\n\n\nend\n\n", &[b"end\n", b"\n\nend\n"]),
     // One mark at the start of each piece, and no second one.
-    (b"end\n\xEF\xBB\xBFend\nend", &[b"end\n", b"\xEF\xBB\xBFend\n", b"end"]),
+    (
+        b"end\n\xEF\xBB\xBFend\nend",
+        &[b"end\n", b"\xEF\xBB\xBFend\n", b"end"],
+    ),
     (b"\xEF\xBB\xBFend\nend", &[b"\xEF\xBB\xBFend\n", b"end"]),
-    (b"\xEF\xBB\xBF\xEF\xBB\xBFend\nend", &[b"\xEF\xBB\xBF\xEF\xBB\xBFend\nend"]),
+    (
+        b"\xEF\xBB\xBF\xEF\xBB\xBFend\nend",
+        &[b"\xEF\xBB\xBF\xEF\xBB\xBFend\nend"],
+    ),
     // What stands behind the last end.
     (b"a\nend\nb", &[b"a\nend\n", b"b"]),
     (b"a\nend\n\n \n", &[b"a\nend\n", b"\n \n"]),
@@ -30,7 +39,10 @@ const CUT: [Row; 18] = [
     // The first field of an end is `end`, and nothing else.
     (b"end,5\nend,end", &[b"end,5\n", b"end,end"]),
     (b"endx\n end\nEND\nen\n", &[b"endx\n end\nEND\nen\n"]),
-    (b"a,end\n\"end\"\n,end\nend\nb", &[b"a,end\n\"end\"\n,end\nend\n", b"b"]),
+    (
+        b"a,end\n\"end\"\n,end\nend\nb",
+        &[b"a,end\n\"end\"\n,end\nend\n", b"b"],
+    ),
 ];
 
 // Whether a text has these pieces and no more.

@@ -59,13 +59,31 @@ fn plays_no_more_than_it_says(rt: HostRuntime) -> Result<(), Fail> {
     }
     let played = run(&rt, "many", text.as_slice())?;
     assert!(rt; played.status == Status::Done);
-    assert!(rt; played.sink.bytes().starts_with(b"many,4096\nr,1,1,1\nr,2,1,1\n"));
-    assert!(rt; played.sink.bytes().ends_with(b"r,4096,1,1\ntotal,4096,4096,0,0,0,0\n"));
+    assert!(rt;
+        played
+            .sink
+            .bytes()
+            .starts_with(b"many,4096\nr,1,1,1\nr,2,1,1\n")
+    );
+    assert!(rt;
+        played
+            .sink
+            .bytes()
+            .ends_with(b"r,4096,1,1\ntotal,4096,4096,0,0,0,0\n")
+    );
     // A rest without a record is no piece.
     let blank = joined(alloc, text.as_slice(), b"\r\n")?;
     let still = run(&rt, "many", blank.as_slice())?;
     assert!(rt; still.sink.bytes() == played.sink.bytes());
     let more = joined(alloc, text.as_slice(), b"end")?;
-    assert!(rt; answers(&rt, "many", more.as_slice(), Status::Refused, b"pieces,4097\n")?);
+    assert!(rt;
+        answers(
+            &rt,
+            "many",
+            more.as_slice(),
+            Status::Refused,
+            b"pieces,4097\n"
+        )?
+    );
     Ok(())
 }
