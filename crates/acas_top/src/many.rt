@@ -94,7 +94,8 @@ fn run_all<R: Threads + Sync>(
     alloc: Global,
     runs: &PieceRuns,
 ) -> Result<Vec<PieceRun>, AllocError>
-    ensures { IfOk result (λ list. AllZip IsRunOf runs.now list.items) }
+    ensures runs { IfOk result (λ list. AllZip IsRunOf runs.now list.items) }
+    ensures few { IfOk result (λ list. length list.items ≤ 4096) }
 {
     run(rt, alloc, 0, runs.count(), runs)
 }
