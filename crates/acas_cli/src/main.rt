@@ -32,7 +32,7 @@ fn words_of<R: Env + Alloc<A = Global>>(rt: &R) -> io::Result<Vec<String>> {
 fn message(status: Status) -> &'static str {
     match status {
         Status::Usage =>
-            "usage: acas serial | play | tracks | fly ADDRESS .. | vary alt|x|y|late ADDRESS FIRST COUNT STEP | vary lose | vary swap | audit | sum | gen NUMBER CRAFTS CYCLES | reports | sweep NUMBER COUNT CRAFTS CYCLES | response | watch | resume | why | places | messages | summary | picture | compare | explain | decode WORD | --help | --version",
+            "usage: acas serial | play | tracks | fly ADDRESS .. | vary alt|x|y|late ADDRESS FIRST COUNT STEP | vary lose | vary swap | many | audit | sum | gen NUMBER CRAFTS CYCLES | reports | sweep NUMBER COUNT CRAFTS CYCLES | response | watch | resume | why | places | messages | summary | picture | compare | explain | decode WORD | --help | --version",
         Status::ReadFault => "read fault",
         Status::WriteFault => "write fault",
         Status::TooLong => "input too long",

@@ -12,7 +12,7 @@ use Rattle.acas_top.specs.Statuses.{status_number}
 use Rattle.acas_top.specs.Words.{AreNoCommand, AreNoFlight, AreNoPlain, AreNoQuiet, AreNoRun, IsCommand, Say, limit_of, most}
 use Rattle.acas_top.specs.Given.{answer_status, answer_text}
 use Rattle.acas_top.specs.declared.answers.Answer.{Answer}
-use Rattle.acas_top.specs.declared.answers.Answer.TheVariants.{Compared, Decoded, ExplainedRefusal, ExplainedWrong, Faultless, Judged, Made, Recorded, Refused, RightEncounter, RightRecording, Shown, Summed, Swept, Told, Unmet, Varied}
+use Rattle.acas_top.specs.declared.answers.Answer.TheVariants.{Compared, Decoded, ExplainedRefusal, ExplainedWrong, Faultless, Judged, Made, Many as AnswerMany, Recorded, Refused, RightEncounter, RightRecording, Shown, Summed, Swept, Told, Unmet, Varied}
 use Rattle.acas_top.specs.declared.status.Status.{Status}
 use Rattle.acas_top.specs.declared.status.Status.TheVariants as statuses
 use Rattle.rec_audit.specs.declared.verdict.Verdict.TheVariants.{Legal, Wrong}
@@ -22,7 +22,7 @@ use Rattle.acas_top.specs.declared.words.Limit.TheVariants as limits
 use Rattle.acas_top.specs.Commands.{Command}
 use Rattle.acas_top.specs.Commands as commands
 use Rattle.acas_top.specs.declared.words.Page.TheVariants.{Help, Version}
-use Rattle.acas_top.specs.declared.words.Plain.TheVariants.{Audit, Compare, Decode, Explain, Gen, Resume, Serial, Show, Sweep, Tell, Tracks, Vary}
+use Rattle.acas_top.specs.declared.words.Plain.TheVariants.{Audit, Compare, Decode, Explain, Gen, Many, Resume, Serial, Show, Sweep, Tell, Tracks, Vary}
 use Rattle.acas_top.specs.declared.words.Threaded.{Threaded}
 use Rattle.acas_top.specs.declared.words.Threaded.TheVariants.{Play, Sum}
 use Rattle.acas_top.specs.declared.words.Tool.TheVariants.{Messages, Picture, Places, Reports, Response, Summary, Watch, Why}
@@ -76,6 +76,7 @@ limit-said words (commands.OfPlain Resume) said = sym (ap limit-by said)
 limit-said words (commands.OfPlain Tracks) said = sym (ap limit-by said)
 limit-said words (commands.OfPlain (Vary variation)) said = sym (ap limit-by said)
 limit-said words (commands.OfPlain Compare) said = sym (ap limit-by said)
+limit-said words (commands.OfPlain Many) said = sym (ap limit-by said)
 limit-said words (commands.OfPlain (Decode word)) said = sym (ap limit-by said)
 limit-said words (commands.OfPlain Explain) said = sym (ap limit-by said)
 limit-said words (commands.OfPlain (Show Help)) (inl said) = sym (ap limit-by said)
@@ -306,6 +307,7 @@ is-answer (Made encounter) = tt
 is-answer (Told text) = tt
 is-answer (Swept swept) = tt
 is-answer (Varied varied) = tt
+is-answer (AnswerMany list) = tt
 is-answer (Summed commits counts) = tt
 is-answer (Compared one other found) = tt
 is-answer (Decoded word) = tt

@@ -8,3 +8,4 @@ pub mod Limits
 pub mod FlightWords
 pub mod ByChange
 pub mod Variations
+pub mod ManyRuns

@@ -5,6 +5,7 @@ use Rattle.acas_top.specs.declared.explaining.Subject.{Subject}
 use Rattle.acas_top.specs.declared.explaining.Subject.TheVariants as subjects
 use Rattle.acas_top.specs.Answers.{Answers, AnswersPlain, Imports, IsFaulty, IsLegal, IsRight, IsWrong, IsWrongPair, IsWrongPart, IsWrongRecording, Plays, RefusesTracks, Resumes, Runs, read_as}
 use Rattle.acas_top.specs.Flying.{AnswersFlight, Flies, IsNotFlown, named_in, unnamed_in}
+use Rattle.acas_top.specs.Many.{HasManyMore, TellsMany}
 use Rattle.acas_top.specs.Refusing.{Refuses}
 use Rattle.acas_top.specs.Varying.{IsNotVaried, Varies, changes_of, unknown_in}
 use Rattle.air_journal.specs.Airs.{air_of}
@@ -14,6 +15,7 @@ use Rattle.air_rules.specs.Serial.{IsSerial}
 use Rattle.variation_words.specs.declared.variation.Variation.{Variation}
 use Rattle.enc_file.specs.Reading.{Says}
 use Rattle.followed_advice.specs.Following.{Follows, Leaves}
+use Rattle.pieces.specs.Pieces.{AreCut}
 use Rattle.acas_top.specs.Comparing.{Compares, IsWrongOfTwo, in_first, in_second}
 use Rattle.air_journal.specs.States.{State}
 use Rattle.comparison.specs.Splitting.{IsSplit}
@@ -28,7 +30,7 @@ use Rattle.acas_top.specs.declared.status.Status.TheVariants.{Done, Refused, Wro
 use Rattle.acas_top.specs.Commands.{Command}
 use Rattle.acas_top.specs.Commands as commands
 use Rattle.acas_top.specs.declared.words.Plain.{Plain}
-use Rattle.acas_top.specs.declared.words.Plain.TheVariants.{Audit, Compare, Decode, Explain, Gen, Resume, Serial, Show, Sweep, Tell, Tracks, Vary}
+use Rattle.acas_top.specs.declared.words.Plain.TheVariants.{Audit, Compare, Decode, Explain, Gen, Many, Resume, Serial, Show, Sweep, Tell, Tracks, Vary}
 use Rattle.acas_top.specs.declared.words.Threaded.{Threaded}
 use Rattle.acas_top.specs.declared.words.Threaded.TheVariants.{Play, Sum}
 use Rattle.acas_base.specs.Encounter.{Parts}
@@ -262,6 +264,27 @@ one-variation law variation bytes text other Refused Refused is other_is = refl
 one-variation law variation bytes text other Refused also is other_is = absurd other_is
 one-variation law variation bytes text other status also is other_is = absurd is
 
+-- ---- `many`
+
+-- Bytes are cut into one list of pieces at most.
+abbrev pub HasOneCut : Type 0
+HasOneCut = (bytes : List ℕ) (one other : List (List ℕ)) → AreCut one bytes → AreCut other bytes → one ≡ other
+
+not-more : HasOneCut → (bytes text other : List ℕ) → TellsMany bytes text → HasManyMore bytes other → ⊥
+not-more law bytes text other tells more =
+    let same = ap length (law bytes tells.pieces more.pieces tells.cut more.cut) in
+    omega (arith, same, tells.few, more.more)
+
+many-only : HasOneCut → (bytes text other : List ℕ) (also : Status) → TellsMany bytes text → AnswersPlain Many bytes also other → Done ≡ also
+many-only law bytes text other Done tells is = refl
+many-only law bytes text other Refused tells is = absurd (not-more law bytes text other tells is)
+many-only law bytes text other also tells is = absurd is
+
+more-only : HasOneCut → (bytes text other : List ℕ) (also : Status) → HasManyMore bytes text → AnswersPlain Many bytes also other → Refused ≡ also
+more-only law bytes text other Done more is = absurd (not-more law bytes other text is more)
+more-only law bytes text other Refused more is = refl
+more-only law bytes text other also more is = absurd is
+
 -- ---- all commands
 
 -- What the laws of other crates say.
@@ -269,6 +292,7 @@ pub record HaveLaws : Type 0 where
   pub verdict : HasOneVerdict
   pub part : HasOnePart
   pub cut : HasOneSplit
+  pub pieces : HasOneCut
   pub flown : HasOneImport
   pub flight : HasNoFlight
   pub serial : HasOneSerial
@@ -293,6 +317,9 @@ one-plain laws (Sweep number count crafts cycles) bytes text other Done Done is 
 one-plain laws (Sweep number count crafts cycles) bytes text other Done also is other_is = absurd other_is
 one-plain laws (Sweep number count crafts cycles) bytes text other status also is other_is = absurd is
 one-plain laws (Vary variation) bytes text other status also is other_is = one-variation laws.serial variation bytes text other status also is other_is
+one-plain laws Many bytes text other Done also is other_is = many-only laws.pieces bytes text other also is other_is
+one-plain laws Many bytes text other Refused also is other_is = more-only laws.pieces bytes text other also is other_is
+one-plain laws Many bytes text other status also is other_is = absurd is
 one-plain laws Resume bytes text other Done also is other_is = resumed-only laws.part bytes text other also is other_is
 one-plain laws Resume bytes text other Wrong also is other_is = wrong-part-only laws.part bytes text other also is other_is
 one-plain laws Resume bytes text other status also is other_is = absurd is

@@ -6,7 +6,7 @@ use Rattle.std.specs.Str.{bytes_eq}
 use Rattle.acas_top.specs.Words.{AreNoPlain, AreNoRun, SayPage, tool_word}
 use Rattle.acas_top.specs.declared.words.Page.{Page}
 use Rattle.acas_top.specs.declared.words.Page.TheVariants.{Help, Version}
-use Rattle.acas_top.specs.declared.words.Plain.TheVariants.{Audit, Compare, Decode, Explain, Gen, Resume, Serial, Show, Sweep, Tell, Tracks, Vary}
+use Rattle.acas_top.specs.declared.words.Plain.TheVariants.{Audit, Compare, Decode, Explain, Gen, Many, Resume, Serial, Show, Sweep, Tell, Tracks, Vary}
 use Rattle.acas_top.specs.declared.words.Threaded.TheVariants.{Play, Sum}
 use Rattle.acas_top.specs.declared.words.Tool.{Tool}
 use Rattle.variation_words.specs.declared.variation.Variation.TheVariants.{Exchanges, Losses, Shifts}
@@ -40,7 +40,7 @@ other-than-pages word long short plain version Help (inr (inl is)) = different w
 other-than-pages word long short plain version Help (inr (inr is)) = different word (codes "help") refl plain (ap first is)
 other-than-pages word long short plain version Version is = different word (codes "--version") refl version (ap first is)
 
-module _ (word : List ℕ) (serial : false ≡ bytes_eq word (codes "serial")) (audit : false ≡ bytes_eq word (codes "audit")) (resume : false ≡ bytes_eq word (codes "resume")) (compare : false ≡ bytes_eq word (codes "compare")) (explain : false ≡ bytes_eq word (codes "explain")) (tracks : false ≡ bytes_eq word (codes "tracks")) (tools : (tool : Tool) → word ≢ tool_word tool)
+module _ (word : List ℕ) (serial : false ≡ bytes_eq word (codes "serial")) (audit : false ≡ bytes_eq word (codes "audit")) (resume : false ≡ bytes_eq word (codes "resume")) (compare : false ≡ bytes_eq word (codes "compare")) (explain : false ≡ bytes_eq word (codes "explain")) (tracks : false ≡ bytes_eq word (codes "tracks")) (many : false ≡ bytes_eq word (codes "many")) (tools : (tool : Tool) → word ≢ tool_word tool)
     (pages : (page : Page) → SayPage (word ∷ []) page → ⊥) where
   pub other-than-commands : AreNoPlain (word ∷ [])
   other-than-commands Serial valid = λ is. different word (codes "serial") refl serial (ap first is)
@@ -53,6 +53,7 @@ module _ (word : List ℕ) (serial : false ≡ bytes_eq word (codes "serial")) (
   other-than-commands (Decode digits) valid = λ is. absurd (omega (arith, ap length is))
   other-than-commands Resume valid = λ is. different word (codes "resume") refl resume (ap first is)
   other-than-commands Tracks valid = λ is. different word (codes "tracks") refl tracks (ap first is)
+  other-than-commands Many valid = λ is. different word (codes "many") refl many (ap first is)
   other-than-commands (Vary (Shifts quantity address values)) valid = λ is. absurd (omega (arith, ap length is))
   other-than-commands (Vary Losses) valid = λ is. absurd (omega (arith, ap length is))
   other-than-commands (Vary Exchanges) valid = λ is. absurd (omega (arith, ap length is))

@@ -7,6 +7,7 @@ use Rattle.acas_lines.specs.Lines.{count_line, joined}
 use Rattle.acas_top.specs.Comparing.{Compares, IsWrongOfTwo}
 use Rattle.acas_top.specs.Counted.{AreSerial, counts_of}
 use Rattle.acas_top.specs.Flying.{AnswersFlight}
+use Rattle.acas_top.specs.Many.{HasManyMore, TellsMany}
 use Rattle.acas_top.specs.Pages.{page_lines}
 use Rattle.acas_top.specs.Refusing.{Refuses, refused_line}
 use Rattle.acas_top.specs.Summing.{summed_lines}
@@ -17,7 +18,7 @@ use Rattle.acas_top.specs.declared.status.Status.TheVariants.{Done, Refused, Wro
 use Rattle.acas_top.specs.Commands.{Command}
 use Rattle.acas_top.specs.Commands as commands
 use Rattle.acas_top.specs.declared.words.Plain.{Plain}
-use Rattle.acas_top.specs.declared.words.Plain.TheVariants.{Audit, Compare, Decode, Explain, Gen, Resume, Serial, Show, Sweep, Tell, Tracks, Vary}
+use Rattle.acas_top.specs.declared.words.Plain.TheVariants.{Audit, Compare, Decode, Explain, Gen, Many, Resume, Serial, Show, Sweep, Tell, Tracks, Vary}
 use Rattle.acas_top.specs.declared.words.Threaded.{Threaded}
 use Rattle.acas_top.specs.declared.words.Threaded.TheVariants.{Play, Sum}
 use Rattle.acas_top.specs.Sweeping.{Sweeps}
@@ -258,6 +259,9 @@ AnswersPlain Tracks bytes status text = ⊥
 AnswersPlain (Vary variation) bytes Done text = Varies variation bytes text
 AnswersPlain (Vary variation) bytes Refused text = IsNotVaried variation bytes text
 AnswersPlain (Vary variation) bytes status text = ⊥
+AnswersPlain Many bytes Done text = TellsMany bytes text
+AnswersPlain Many bytes Refused text = HasManyMore bytes text
+AnswersPlain Many bytes status text = ⊥
 AnswersPlain Resume bytes Done text = Resumes bytes text
 AnswersPlain Resume bytes Wrong text = IsWrongPart bytes text
 AnswersPlain Resume bytes status text = ⊥

@@ -3,6 +3,7 @@ use Rattle.std.specs.Prelude.{ℕ, ◌≤◌, List, [], ◌∷◌, length, Optio
 use Rattle.acas_lines.specs.Lines.{joined}
 use Rattle.acas_top.specs.Answers.{verdict_line}
 use Rattle.acas_top.specs.Explaining.{right_encounter_lines, right_recording_lines}
+use Rattle.acas_top.specs.Many.{many_lines}
 use Rattle.acas_top.specs.Pages.{page_lines}
 use Rattle.acas_top.specs.Refusing.{refused_line}
 use Rattle.acas_top.specs.Summing.{summed_lines}
@@ -10,7 +11,7 @@ use Rattle.acas_top.specs.Sweeping.{swept_lines}
 use Rattle.acas_top.specs.Telling.{tool_lines}
 use Rattle.acas_top.specs.Varying.{varied_lines}
 use Rattle.acas_top.specs.declared.answers.Answer.{Answer}
-use Rattle.acas_top.specs.declared.answers.Answer.TheVariants.{Compared, Decoded, ExplainedRefusal, ExplainedWrong, Faultless, Judged, Made, Recorded, Refused, RightEncounter, RightRecording, Shown, Summed, Swept, Told, Unmet, Varied}
+use Rattle.acas_top.specs.declared.answers.Answer.TheVariants.{Compared, Decoded, ExplainedRefusal, ExplainedWrong, Faultless, Judged, Made, Many, Recorded, Refused, RightEncounter, RightRecording, Shown, Summed, Swept, Told, Unmet, Varied}
 use Rattle.acas_top.specs.declared.status.Status.{Status}
 use Rattle.acas_top.specs.declared.status.Status.TheVariants as statuses
 use Rattle.acas_top.specs.declared.telling.Told.{Told as ToolText}
@@ -35,6 +36,7 @@ answer_status (Recorded state) = statuses.Done
 answer_status (Made encounter) = statuses.Done
 answer_status (Swept swept) = statuses.Done
 answer_status (Varied varied) = statuses.Done
+answer_status (Many list) = statuses.Done
 answer_status (Told text) = statuses.Done
 answer_status (Summed commits counts) = statuses.Done
 answer_status (Compared one other found) = statuses.Done
@@ -65,6 +67,7 @@ answer_lines (Recorded state) = recording_lines state.encounter state.journal
 answer_lines (Made encounter) = canonical_lines encounter
 answer_lines (Swept swept) = swept_lines swept.first swept.count swept.list.items swept.total
 answer_lines (Varied varied) = varied_lines varied.crafts varied.outcome varied.changes varied.list
+answer_lines (Many list) = many_lines list
 answer_lines (Told text) = told_lines text
 answer_lines (Summed commits counts) = summed_lines commits counts
 answer_lines (Compared one other found) = compared_lines one other found

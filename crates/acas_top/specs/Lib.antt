@@ -10,6 +10,7 @@ pub mod Summing
 pub mod Refusing
 pub mod Flying
 pub mod Varying
+pub mod Many
 pub mod Answers
 pub mod Ends
 pub mod Given

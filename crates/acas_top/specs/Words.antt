@@ -15,7 +15,7 @@ use Rattle.acas_top.specs.declared.words.Limit.TheVariants as limits
 use Rattle.acas_top.specs.declared.words.Page.{Page}
 use Rattle.acas_top.specs.declared.words.Page.TheVariants.{Help, Version}
 use Rattle.acas_top.specs.declared.words.Plain.{Plain}
-use Rattle.acas_top.specs.declared.words.Plain.TheVariants.{Audit, Compare, Decode, Explain, Gen, Resume, Serial, Show, Sweep, Tell, Tracks, Vary}
+use Rattle.acas_top.specs.declared.words.Plain.TheVariants.{Audit, Compare, Decode, Explain, Gen, Many, Resume, Serial, Show, Sweep, Tell, Tracks, Vary}
 use Rattle.acas_top.specs.declared.words.Threaded.{Threaded}
 use Rattle.acas_top.specs.declared.words.Threaded.TheVariants.{Play, Sum}
 use Rattle.acas_top.specs.declared.words.Tool.{Tool}
@@ -32,6 +32,7 @@ IsInRange Resume = Unit {0}
 IsInRange Tracks = Unit {0}
 IsInRange (Vary variation) = IsVariation variation
 IsInRange Compare = Unit {0}
+IsInRange Many = Unit {0}
 IsInRange (Decode word) = word < 2 ^ 56
 IsInRange Explain = Unit {0}
 IsInRange (Show page) = Unit {0}
@@ -79,6 +80,7 @@ SayPlain words Resume = words ≡ codes "resume" ∷ []
 SayPlain words Tracks = words ≡ codes "tracks" ∷ []
 SayPlain words (Vary variation) = words ≡ codes "vary" ∷ words_of variation
 SayPlain words Compare = words ≡ codes "compare" ∷ []
+SayPlain words Many = words ≡ codes "many" ∷ []
 SayPlain words (Decode word) = words ≡ codes "decode" ∷ hex 14 word ∷ []
 SayPlain words Explain = words ≡ codes "explain" ∷ []
 SayPlain words (Show page) = SayPage words page
@@ -130,6 +132,7 @@ plain_limit (Tell tool) = Some limits.Recording
 plain_limit (Sweep number count crafts cycles) = None
 plain_limit Resume = Some limits.Recording
 plain_limit Compare = Some limits.Recording
+plain_limit Many = Some limits.Recording
 plain_limit Explain = Some limits.Either
 plain_limit (Decode word) = None
 plain_limit (Show page) = None

@@ -11,6 +11,7 @@ ghost use Rattle.rec_audit.specs.Judging.{IsRecordingOf};
 ghost use Rattle.track_text.specs.Conditions.{IsRefused};
 
 use crate::explaining::{RightEncounter, RightRecording, Subject, read_as, right_tracks_line};
+use crate::many::{Many, answer_many};
 use crate::pages::put_page;
 use crate::refusal::refusal_line;
 use crate::runs::{filled, serial_state};
@@ -50,6 +51,8 @@ pub(crate) enum Answer {
     Swept(Swept),
     /// What an encounter and its variants come to.
     Varied(Varied),
+    /// What each of many encounters comes to.
+    Many(Many),
     /// How many commits a run in threads has, and the counts of the serial run.
     Summed(u32, Counts),
     /// What differs between two recordings.
@@ -88,6 +91,7 @@ impl Answer {
             | Answer::Told(_)
             | Answer::Swept(_)
             | Answer::Varied(_)
+            | Answer::Many(_)
             | Answer::Summed(_, _)
             | Answer::Compared(_, _, _)
             | Answer::Decoded(_)
@@ -125,6 +129,7 @@ impl Text for Answer {
             Answer::Told(told) => told.put(sink),
             Answer::Swept(swept) => swept.put(sink),
             Answer::Varied(varied) => varied.put(sink),
+            Answer::Many(many) => many.put(sink),
             Answer::Summed(commits, counts) => put_summed(*commits, counts, sink),
             Answer::Compared(one, other, found) => Comparison { one, other, found }.put(sink),
             Answer::Decoded(word) => WordText(*word).put(sink),
@@ -367,6 +372,7 @@ pub(crate) fn answer_to<R: Threads + Sync>(
         } => answer_sweep(rt, alloc, number, count, crafts, cycles),
         Plain::Tracks => answer_tracks(alloc, bytes.as_slice()),
         Plain::Vary(variation) => answer_variation(rt, alloc, variation, bytes.as_slice()),
+        Plain::Many => answer_many(rt, alloc, bytes),
         Plain::Resume => answer_resume(alloc, bytes.as_slice()),
         Plain::Compare => answer_compare(alloc, bytes.as_slice()),
         Plain::Decode { word } => Ok(Answer::Decoded(word)),

@@ -6,6 +6,8 @@ mod answers;
 mod counts;
 mod explaining;
 mod flying;
+mod many;
+mod many_text;
 mod pages;
 mod plain_program;
 mod program;

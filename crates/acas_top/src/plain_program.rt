@@ -16,6 +16,7 @@ use acas_io::{Sink, Source};
 use air_rules::serial_law;
 use comparison::split_law;
 use followed_advice::following_law;
+use pieces::cut_law;
 use rec_audit::verdict_law;
 use std::alloc::Global;
 use std::thread::Threads;
@@ -51,6 +52,8 @@ fn fly<S: Source, K: Sink>(alloc: Global, words: &[String], source: &mut S, sink
 ///   so with `x`, `y` and `late`), of each loss of messages (`vary lose`), or of each exchange of two addresses (`vary
 ///   swap`). Where there is no such aircraft, it writes `unknown,ADDRESS`, and where there are too many variants,
 ///   `variants,COUNT`.
+/// - `many` reads encounters, one after the other, and plays each, in as many threads as there are processors. It writes
+///   what each run comes to, or why a piece is refused. Where there are too many, it writes `pieces,COUNT`.
 /// - `audit` reads a recording and writes `legal,ENTRIES`. Where the recording is wrong, it writes `wrong,LINE,REASON`.
 /// - `resume` reads a beginning of a recording, and writes the whole recording. Where the input is none, it writes the
 ///   line of its verdict.
@@ -103,6 +106,7 @@ pub fn one_status_law()
 {
     verdict_law();
     split_law();
+    cut_law();
     once_law();
     following_law();
     serial_law();

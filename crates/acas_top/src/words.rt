@@ -97,6 +97,8 @@ pub enum Plain {
     Resume,
     /// `vary ..`: reads an encounter, plays it with one thing changed at a time, and writes what each run comes to.
     Vary(Variation),
+    /// `many`: reads encounters, one after the other, plays each, and writes what each run comes to.
+    Many,
     /// `tracks`: reads recorded tracks, and writes the encounter whose aircraft fly along them.
     Tracks,
     /// `compare`: reads two recordings, one after the other, and writes what differs between them.
@@ -153,6 +155,7 @@ impl Plain {
             Plain::Tell(_) => Some(Limit::Recording),
             Plain::Resume => Some(Limit::Recording),
             Plain::Compare => Some(Limit::Recording),
+            Plain::Many => Some(Limit::Recording),
             Plain::Explain => Some(Limit::Either),
             Plain::Gen { .. } => None,
             Plain::Sweep { .. } => None,
@@ -251,6 +254,9 @@ fn of_one(word: &str) -> Option<Plain>
     }
     if word == "tracks" {
         return Some(Plain::Tracks);
+    }
+    if word == "many" {
+        return Some(Plain::Many);
     }
     match tool_of(word) {
         Some(tool) => Some(Plain::Tell(tool)),

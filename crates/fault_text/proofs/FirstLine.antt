@@ -9,23 +9,23 @@ use Rattle.fault_text.specs.Lines.{is_written, lines_after, up_to_last, written}
 abbrev pub NoEnd : List ℕ → ℕ → Type 0
 NoEnd bytes n = (k : ℕ) → 0 ≤ k → k < n → (eqb (get_or bytes k 0) 10 || eqb (get_or bytes k 0) 13) ≡ true → ⊥
 
-later : (c : ℕ) (cs : List ℕ) (n : ℕ) → NoEnd (c ∷ cs) (suc n) → NoEnd cs n
+pub later : (c : ℕ) (cs : List ℕ) (n : ℕ) → NoEnd (c ∷ cs) (suc n) → NoEnd cs n
 later c cs n none = λ k low below. none (suc k) (omega arith) (omega arith)
 
 -- A byte that is no end.
-record IsInside (c : ℕ) : Type 0 where
-  feed : (c == 10) ≡ false
-  return : (c == 13) ≡ false
+pub record IsInside (c : ℕ) : Type 0 where
+  pub feed : (c == 10) ≡ false
+  pub return : (c == 13) ≡ false
 
 inside-by : (c : ℕ) (a b : Bool) → (c == 10) ≡ a → (c == 13) ≡ b → ((a || b) ≡ true → ⊥) → IsInside c
 inside-by c true b feed return none = absurd (none refl)
 inside-by c false true feed return none = absurd (none refl)
 inside-by c false false feed return none = record { feed = feed; return = return }
 
-first-inside : (c : ℕ) (cs : List ℕ) (n : ℕ) → NoEnd (c ∷ cs) (suc n) → IsInside c
+pub first-inside : (c : ℕ) (cs : List ℕ) (n : ℕ) → NoEnd (c ∷ cs) (suc n) → IsInside c
 first-inside c cs n none = inside-by c (c == 10) (c == 13) refl refl (none 0 (omega arith) (omega arith))
 
-onto : (c : ℕ) (cs : List ℕ) → IsInside c → lines_after false (c ∷ cs) ≡ onto_first c (lines_after false cs)
+pub onto : (c : ℕ) (cs : List ℕ) → IsInside c → lines_after false (c ∷ cs) ≡ onto_first c (lines_after false cs)
 onto c cs h = rw (h.return, h.feed) refl
 
 -- Up to the place of its first end.

@@ -1,6 +1,7 @@
 pub mod RecordLines
 pub mod FewLines
 pub mod FirstLine
+pub mod FirstPart
 pub mod Visible
 pub mod Pieces
 pub mod Refusals

@@ -1,6 +1,6 @@
 -- The lines of a file, and the records in them.
 use Rattle.std.specs.Borrow.{Bor}
-use Rattle.std.specs.Prelude.{Option, None, Some, ◌≡◌, ℕ, ◌+◌, ◌<◌, ◌⊎◌, ◌==◌, if◌then◌else◌, Bool, true, false, List, [], ◌∷◌, ◌++◌, filter, length, slice_index, MatchBool, codes, take}
+use Rattle.std.specs.Prelude.{Option, None, Some, ◌≡◌, ℕ, ◌+◌, ◌<◌, ◌⊎◌, ◌==◌, ◌||◌, ◌&&◌, not, if◌then◌else◌, Bool, true, false, List, [], ◌∷◌, ◌++◌, filter, length, slice_index, MatchBool, codes, take}
 use Rattle.std.specs.List.{list_any, onto_first, slice_split}
 use Rattle.std.specs.Str.{bytes_eq}
 use Rattle.csv.specs.Reading.{strip_bom}
@@ -25,6 +25,26 @@ is_written (c ∷ cs) = true
 
 abbrev pub written : List (List ℕ) → List (List ℕ)
 written lines = filter is_written lines
+
+-- A line ends behind a text, before the next byte: the last byte of the text is a line feed, or a carriage return that
+-- no line feed follows.
+abbrev pub ends_before : ℕ → List ℕ → Bool
+ends_before next [] = false
+ends_before next (byte ∷ []) = (byte == 10) || ((byte == 13) && not (next == 10))
+ends_before next (byte ∷ more ∷ text) = ends_before next (more ∷ text)
+
+-- A line ends behind a text, where these bytes stand behind it. Where none do, the last line ends there.
+abbrev pub EndsLine : List ℕ → List ℕ → Type 0
+EndsLine [] text = Unit {0}
+EndsLine (next ∷ behind) text = ends_before next text ≡ true
+
+-- The first line of bytes, and what stands behind the end of this line.
+pub record IsFirstLine (bytes line behind : List ℕ) : Type 0 where
+  -- The line with its end.
+  pub part : List ℕ
+  pub whole : bytes ≡ part ++ behind
+  pub ends : EndsLine behind part
+  pub one : lines_after false part ≡ line ∷ []
 
 -- The fields of a record stand between its commas.
 abbrev pub fields_in : List ℕ → List (List ℕ)

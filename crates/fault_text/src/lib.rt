@@ -24,7 +24,9 @@ pub use faultless::faultless_line;
 pub use fields::{count, field, kind_of};
 pub use hints::number_hint;
 pub use leaving::Axis;
-pub use lines::{FileLines, Place, begins_recording, begins_tracks, place_of, records_law};
+pub use lines::{
+    FileLines, Place, begins_recording, begins_tracks, cut, place_of, records_law, unmarked,
+};
 pub use names::{FieldName, RecordKind};
 pub use search::leftmost;
 pub use sentence::{add_field_count, add_why};

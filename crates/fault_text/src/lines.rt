@@ -2,7 +2,7 @@
 ghost use Rattle.std.specs.Prelude.{◌≡◌, ◌≤◌, ◌<◌, ◌-◌, ◌^◌, ◌∷◌, [], ℕ, List, MatchOption, false, length, map};
 ghost use Rattle.csv.specs.Reading.{strip_bom};
 ghost use Rattle.enc_file.specs.Records.{records_of};
-ghost use Rattle.fault_text.specs.Lines.{BeginsWithEnd, Stands, begins, begins_recording, begins_tracks, fields_in, file_lines, lines_after, written};
+ghost use Rattle.fault_text.specs.Lines.{BeginsWithEnd, IsFirstLine, Stands, begins, begins_recording, begins_tracks, fields_in, file_lines, lines_after, written};
 
 use memchr::memchr2;
 use std::marker::Model;
@@ -10,6 +10,9 @@ use std::marker::Model;
 const LINE_FEED: u8 = b'\n';
 
 const CARRIAGE_RETURN: u8 = b'\r';
+
+// The end of a line that has two bytes.
+const BOTH: [u8; 2] = [CARRIAGE_RETURN, LINE_FEED];
 
 // The byte order mark of UTF-8.
 const MARK: [u8; 3] = [0xEF, 0xBB, 0xBF];
@@ -30,8 +33,8 @@ pub struct Place<'a> {
     pub line: &'a [u8],
 }
 
-// A text without a byte order mark at its start.
-pub(crate) fn unmarked(text: &[u8]) -> &[u8]
+/// A text without a byte order mark at its start.
+pub fn unmarked(text: &[u8]) -> &[u8]
     ensures bare { result.now ≡ strip_bom text.now }
     ensures short { length result.now ≤ length text.now }
 {
@@ -45,19 +48,20 @@ pub(crate) fn unmarked(text: &[u8]) -> &[u8]
 fn behind_end(bytes: &[u8]) -> &[u8]
     requires { BeginsWithEnd bytes.now }
     ensures lines { lines_after false bytes.now ≡ [] ∷ lines_after false result.now }
+    ensures first { IsFirstLine bytes.now [] result.now }
     ensures shorter { length result.now < length bytes.now }
 {
-    match bytes {
-        [CARRIAGE_RETURN, LINE_FEED, rest @ ..] => rest,
-        [_, rest @ ..] => rest,
-        [] => bytes,
+    match bytes.strip_prefix(&BOTH) {
+        Some(rest) => rest,
+        None => &bytes[1..],
     }
 }
 
-// The first line, without its end, and what stands behind that end.
-pub(crate) fn cut(bytes: &[u8]) -> (&[u8], &[u8])
+/// The first line, without its end, and what stands behind that end.
+pub fn cut(bytes: &[u8]) -> (&[u8], &[u8])
     requires { 0 < length bytes.now }
     ensures first { lines_after false bytes.now ≡ result.0.now ∷ lines_after false result.1.now }
+    ensures cut { IsFirstLine bytes.now result.0.now result.1.now }
     ensures part { length result.0.now ≤ length bytes.now }
     ensures shorter { length result.1.now < length bytes.now }
 {

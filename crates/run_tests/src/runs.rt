@@ -4,6 +4,7 @@ mod compared;
 mod faults;
 mod followed;
 mod judged;
+mod many;
 mod pages;
 mod played;
 mod resumed;

@@ -14,6 +14,8 @@ mod fault_text_tests;
 #[cfg(test)]
 mod misspelled_recordings_tests;
 #[cfg(test)]
+mod pieces_tests;
+#[cfg(test)]
 mod rec_audit_tests;
 #[cfg(test)]
 mod rec_text_tests;

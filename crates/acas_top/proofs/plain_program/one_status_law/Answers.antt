@@ -6,6 +6,7 @@ returns c = one-status (record {
   verdict = c.verdict_law.ensures.verdict;
   part = c.verdict_law.ensures.part;
   cut = c.split_law.ensures;
+  pieces = c.cut_law.ensures;
   flown = c.once_law.ensures.once;
   flight = c.following_law.ensures.none;
   serial = c.serial_law.ensures.only;

@@ -1,0 +1,4 @@
+pub mod Joints
+pub mod FirstPiece
+pub mod OneList
+pub mod Rows
