@@ -1,6 +1,7 @@
 // What is told of the line of an entry that isn't of its form.
 ghost use Rattle.std.specs.Prelude.{◌≡◌, ◌+◌, ◌≤◌, ◌<◌, ◌++◌, length};
 ghost use Rattle.acas_text.specs.declared.line.TheConstants.{LINE_BYTES};
+ghost use Rattle.fault_text.specs.Hints.{number_hint};
 ghost use Rattle.verdict_text.specs.Sentences.{field_text, form_of, form_text, letter_of, range_text, why_text};
 ghost use Rattle.verdict_text.specs.declared.fault.Why.TheVariants as why;
 ghost use Rattle.verdict_text.specs.declared.spelling.EntryField.TheVariants as field;
@@ -94,6 +95,15 @@ fn add_field(line: &mut Line, name: EntryField)
     }
 }
 
+// Adds what may be said of what stands in the place of a number.
+fn add_hint(line: &mut Line, found: &[u8])
+    requires { length line.old + 44 ≤ LINE_BYTES }
+    ensures added { line.new ≡ line.old ++ number_hint found.now }
+    ensures short { length line.new ≤ length line.old + 44 }
+{
+    line.text(number_hint(found));
+}
+
 // Adds the range of a number, and what may be said of what stands in its place.
 fn add_range(line: &mut Line, low: u32, high: u32, found: &[u8])
     requires { length line.old + 100 ≤ LINE_BYTES }
@@ -104,7 +114,7 @@ fn add_range(line: &mut Line, low: u32, high: u32, found: &[u8])
     line.u32(low);
     line.text(" to ");
     line.u32(high);
-    line.text(number_hint(found));
+    add_hint(line, found);
 }
 
 // Adds what has to stand in a field in place of what does.
