@@ -7,10 +7,12 @@ use Rattle.std.proofs.lemmas.Grind.{flat_map-append}
 use Rattle.std.proofs.lemmas.List.{append-nil}
 use Rattle.std.proofs.lemmas.List.Elements.{filter-append}
 use Rattle.std.proofs.lemmas.List.FromFn.{length-map-range_with_len}
-use Rattle.acas_base.specs.Encounter.{Parts}
+use Rattle.acas_base.specs.Encounter.{IsEncounter, Parts}
 use Rattle.acas_base.specs.declared.entry.Entry.{Entry}
 use Rattle.acas_base.specs.declared.entry.Entry.TheVariants.{Commit, Send, Take}
 use Rattle.air_journal.specs.Airs.{air_of}
+use Rattle.air_journal.specs.Ranges.{IsEntry}
+use Rattle.air_journal.specs.States.{State}
 use Rattle.air_rules.proofs.Beginnings.{begins-on}
 use Rattle.air_rules.proofs.Legal.{allowed, earlier}
 use Rattle.air_rules.proofs.Pace.{count-no, count-yes}
@@ -23,7 +25,7 @@ use Rattle.deliveries.specs.Mishaps.{befallen_of, befalls}
 use Rattle.deliveries.specs.Rows.{row_at}
 use Rattle.deliveries.specs.declared.mishap.Mishap.{Mishap}
 use Rattle.deliveries.specs.declared.rows.Row.{Row}
-use Rattle.journal_reader.proofs.Prefixes.{read-all, read-more, read-past}
+use Rattle.journal_reader.proofs.Prefixes.{follows, read-all, read-more, read-past}
 use Rattle.journal_reader.specs.Reading.{read_of}
 use Rattle.page_marks.proofs.Bounded.{all-append}
 use Rattle.picture.specs.Laws.{AreSentRows, IsSentRowOf, is_for}
@@ -31,6 +33,13 @@ use Rattle.picture.specs.Mishaps.{mishap_of, row_of, row_sent_at, rows_in, sent_
 use Rattle.picture.specs.MishapsDrawn.{drawn_row}
 use Rattle.picture.specs.declared.mishaps.SentRow.{SentRow}
 use Rattle.picture.specs.declared.mishaps.Sign.{Sign}
+
+-- ---- entries
+
+-- The entry at a position is well formed.
+pub fits-at : (d s : State) (at : ℕ) (x : Entry) → s ≡ d → IsEncounter s.encounter → IsLegal (air_of s.encounter) s.journal → slice_get (reverse d.journal) at ≡ Some x → IsEntry (length d.encounter.crafts) x
+fits-at d s at x same valid legal here =
+    (follows d.encounter d.journal at x (subst (λ (t : State). IsEncounter t.encounter) same valid) (subst (λ (t : State). IsLegal (air_of t.encounter) t.journal) same legal) here).fits
 
 -- ---- the rows of one entry more
 
@@ -199,11 +208,11 @@ module _ (s r : ℕ) (row : Row) where
       record { none = λ h. none; one = λ h. absurd (omega (arith, h, begun)) }
   counted e J sign (Commit own cycle cells ∷ K) is l =
       let old = counted e J sign K is (earlier l) in
-      let grown = many-more e J sign K (Commit own cycle cells) in
+      let grown : many (rows_in e J sign (Commit own cycle cells ∷ K)) ≡ many (rows_in e J sign K) + 0 = many-more e J sign K (Commit own cycle cells) in
       record { none = λ h. (let before = old.none h in omega (arith, grown, before)); one = λ h. (let before = old.one h in omega (arith, grown, before)) }
   counted e J sign (Take own send copy good ∷ K) is l =
       let old = counted e J sign K is (earlier l) in
-      let grown = many-more e J sign K (Take own send copy good) in
+      let grown : many (rows_in e J sign (Take own send copy good ∷ K)) ≡ many (rows_in e J sign K) + 0 = many-more e J sign K (Take own send copy good) in
       record { none = λ h. (let before = old.none h in omega (arith, grown, before)); one = λ h. (let before = old.one h in omega (arith, grown, before)) }
   counted e J sign (Send own target number word ∷ K) is l = counted-send e J sign K own target number word is (allowed l).number_is (counted e J sign K is (earlier l))
 

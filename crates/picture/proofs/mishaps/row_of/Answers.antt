@@ -1,0 +1,28 @@
+use Rattle.std.proofs.Common.{length, subst}
+use Rattle.acas_base.specs.declared.entry.Entry.TheVariants as kinds
+use Rattle.air_journal.specs.EntryRefs.{entry_of}
+use Rattle.air_journal.specs.Ranges.{IsEntry}
+use Rattle.air_journal.specs.declared.entry_ref.EntryRef.{EntryRef}
+use Rattle.picture.proofs.Befallen.{fits-at}
+use Rattle.picture.proofs.mishaps.row_of.Goals as goal
+
+pub row_from-requires-clause-sender : goal.row_from-requires-clause-sender
+row_from-requires-clause-sender c =
+    let d = c.args.deliveries.now in
+    let fits = fits-at d c.state.result.now c.args.at (entry_of c.args.entry.now) c.state.ensures c.legal_law.ensures.valid c.legal_law.ensures.legal c.requires in
+    let fit : IsEntry (length d.encounter.crafts) (kinds.Send c.in-Send.own c.in-Send.target c.in-Send.number c.in-Send.word) = subst (λ (r : EntryRef). IsEntry (length d.encounter.crafts) (entry_of r)) c.in-Send.is fits in
+    fit.0
+
+pub row_from-requires-clause-receiver : goal.row_from-requires-clause-receiver
+row_from-requires-clause-receiver c =
+    let d = c.args.deliveries.now in
+    let fits = fits-at d c.state.result.now c.args.at (entry_of c.args.entry.now) c.state.ensures c.legal_law.ensures.valid c.legal_law.ensures.legal c.requires in
+    let fit : IsEntry (length d.encounter.crafts) (kinds.Send c.in-Send.own c.in-Send.target c.in-Send.number c.in-Send.word) = subst (λ (r : EntryRef). IsEntry (length d.encounter.crafts) (entry_of r)) c.in-Send.is fits in
+    fit.1
+
+pub row_from-requires-clause-number : goal.row_from-requires-clause-number
+row_from-requires-clause-number c =
+    let d = c.args.deliveries.now in
+    let fits = fits-at d c.state.result.now c.args.at (entry_of c.args.entry.now) c.state.ensures c.legal_law.ensures.valid c.legal_law.ensures.legal c.requires in
+    let fit : IsEntry (length d.encounter.crafts) (kinds.Send c.in-Send.own c.in-Send.target c.in-Send.number c.in-Send.word) = subst (λ (r : EntryRef). IsEntry (length d.encounter.crafts) (entry_of r)) c.in-Send.is fits in
+    fit.2.0
