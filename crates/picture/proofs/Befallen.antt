@@ -1,5 +1,5 @@
 -- The maximal rows of messages that were lost or spoilt.
-use Rattle.std.proofs.Common.{◌≡◌, ℕ, ◌+◌, ◌<◌, ◌≤◌, Bool, true, false, ◌&&◌, cond, eqb, eqb-true, eq-eqb, ne_eqb, List, [], ◌∷◌, ◌++◌, Option, Some, None, length, length-append, option_map, refl, sym, ap, ◌∙◌, subst, arith, inl, inr}
+use Rattle.std.proofs.Common.{◌≡◌, ℕ, ◌+◌, ◌<◌, ◌≤◌, Bool, true, false, ◌&&◌, eqb, eqb-true, eq-eqb, ne_eqb, List, [], ◌∷◌, ◌++◌, Option, Some, None, length, length-append, option_map, refl, sym, ap, ◌∙◌, subst, arith, inl, inr}
 use Rattle.std.specs.Prelude.{filter, option_and_then, option_to_list, reverse, slice_get}
 use Rattle.std.specs.List.{AllByRecursion, flat_map}
 use Rattle.std.proofs.lemmas.Bool.{and_from, and_left, and_right, cases_Bool, cases_eq, cases_lt, cond-false, cond-true}
@@ -110,7 +110,7 @@ each-is : (e : Parts) (J : List Entry) (sign : Sign) (K : List Entry) → IsLega
 each-is e J sign [] l begins = subst (AllByRecursion (IsSentRowOf e J (mishap_of sign))) (sym (rows-none e J sign)) tt
 each-is e J sign (x ∷ K) l begins =
     subst (AllByRecursion (IsSentRowOf e J (mishap_of sign))) (sym (rows-more e J sign K x))
-    (all-append (IsSentRowOf e J (mishap_of sign)) (rows_in e J sign K) (option_to_list (row_of e J sign K x)) (each-is e J sign K (earlier l) (begins-on begins)) (last-is e J sign K x l begins))
+    (all-append (IsSentRowOf e J (mishap_of sign)) (rows_in e J sign K) (option_to_list (row_of e J sign K x)) (each-is e J sign K (earlier l) (begins-on begins (more whole))) (last-is e J sign K x l begins))
 
 -- ---- each maximal row is one of them
 
@@ -126,7 +126,7 @@ pair-same false q e = absurd cc
 
 module _ (s r : ℕ) (row : Row) where
   -- How many of some rows are this one.
-  many : List SentRow → ℕ
+  abbrev many : List SentRow → ℕ
   many rows = length (filter (is_for s r row) rows)
 
   many-more : (e : Parts) (J : List Entry) (sign : Sign) (K : List Entry) (x : Entry) → many (rows_in e J sign (x ∷ K)) ≡ many (rows_in e J sign K) + many (option_to_list (row_of e J sign K x))

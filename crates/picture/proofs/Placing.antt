@@ -30,7 +30,7 @@ use Rattle.picture.specs.Legend.{arrow_words, height_words, item_marks, legend_m
 use Rattle.picture.specs.Messages.{arrows}
 use Rattle.picture.specs.MessagesDrawn.{arrow_marks, arrow_shaft, arrow_title, arrows_marks, color_of, down_shaft, event_x, head_points, shaft_marks, shaft_of, up_shaft}
 use Rattle.picture.specs.Mishaps.{sent_rows}
-use Rattle.picture.specs.MishapsDrawn.{count_marks, count_words, count_x, cross_at, cross_marks, drawn_row, hollow_marks, lost_y, messages_marks, mishaps_marks, row_shaft, row_title, sign_marks, stroke, third_of, titled_row}
+use Rattle.picture.specs.MishapsDrawn.{count_marks, count_words, count_x, cross_at, cross_marks, drawn_row, hollow_marks, lost_y, messages_marks, mishaps_marks, row_shaft, row_title, sign_marks, stroke, third_of}
 use Rattle.picture.specs.Laws.{IsSound}
 use Rattle.page_marks.specs.Paints.{blue, box_marks, dashed_paint, filled, grid, halo, hatched, ink, letters, line_paint, plain, purple, vermilion}
 use Rattle.picture.specs.Picture.{lanes_of, page, picture_lines, sections}

@@ -6,4 +6,8 @@ returns g c =
     let one = rw c.point_at-2.ensures at from in
     let other = rw c.point_at-3.ensures at c.put_stroke-2.ensures in
     let two = rw c.point_at-4.ensures at other in
-    g.met.D.Drawing.then _ _ _ _ _ one two
+    let three = rw c.saturating_sub-left.ensures at one in
+    let first = rw c.saturating_sub-high.ensures at three in
+    let four = rw c.saturating_sub-left.ensures at two in
+    let second = rw c.saturating_sub-high.ensures at four in
+    g.met.D.Drawing.then _ _ _ _ _ first second
