@@ -20,7 +20,7 @@ use summary::Summary;
 #[derive(Drop)]
 pub(crate) enum Told {
     Messages(Messages),
-    Picture(AirState),
+    Picture(Deliveries),
     Places(AirState),
     Reports(AirState),
     Response(AirState),
@@ -35,7 +35,7 @@ pub(crate) fn told_by(alloc: Global, tool: Tool, state: AirState) -> Result<Told
 {
     match tool {
         Tool::Messages => Ok(Told::Messages(Messages::new(alloc, state)?)),
-        Tool::Picture => Ok(Told::Picture(state)),
+        Tool::Picture => Ok(Told::Picture(Deliveries::new(alloc, state)?)),
         Tool::Places => Ok(Told::Places(state)),
         Tool::Reports => Ok(Told::Reports(state)),
         Tool::Response => Ok(Told::Response(state)),
@@ -61,7 +61,7 @@ impl Text for Told {
     fn put<S: LineSink>(&self, sink: &mut S) {
         match self {
             Told::Messages(messages) => messages.put(sink),
-            Told::Picture(state) => Picture(state).put(sink),
+            Told::Picture(deliveries) => Picture(deliveries).put(sink),
             Told::Places(state) => Places(state).put(sink),
             Told::Reports(state) => Reports(state).put(sink),
             Told::Response(state) => Response(state).put(sink),

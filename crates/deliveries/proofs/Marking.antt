@@ -1,7 +1,9 @@
 -- Rows of marked numbers.
-use Rattle.std.proofs.Common.{◌≡◌, ℕ, zero, suc, ◌+◌, ◌-◌, ◌<◌, ◌≤◌, Bool, true, false, not, ◌&&◌, List, [], ◌∷◌, get_or, length, Some, None, refl, sym, ap, ◌∙◌, subst, arith, inl, inr, ◌⊎◌, lt-ltb, le-ltb}
+use Rattle.std.proofs.Common.{◌≡◌, ℕ, zero, suc, ◌+◌, ◌-◌, ◌<◌, ◌≤◌, Bool, true, false, not, ◌&&◌, List, [], ◌∷◌, get_or, length, map, Some, None, refl, sym, ap, ◌∙◌, subst, arith, inl, inr, ◌⊎◌, lt-ltb, le-ltb}
 use Rattle.std.specs.Prelude.{nat_lt}
+use Rattle.std.specs.List.{range_with_len}
 use Rattle.std.proofs.lemmas.Bool.{and_from, and_parts, and_left, and_right, cases_Bool, cases_eq, cases_lt, cond-false, cond-true, not_from_false}
+use Rattle.std.proofs.lemmas.List.FromFn.{get_or-map-range_with_len, length-map-range_with_len}
 use Rattle.deliveries.specs.Laws.{AreRows, IsRow, IsRowAt, LiesIn}
 use Rattle.deliveries.specs.Rows.{begins_row, is_marked, row_at, row_end}
 use Rattle.deliveries.specs.declared.rows.Row.{Row}
@@ -20,6 +22,14 @@ marked-within flags number is = elim (cases_lt (length flags) number) [
   | inl past ↦ absurd (let not_there = marked-past flags number past in let both = sym is ∙ not_there in cc)
   | inr within ↦ within
 ]
+
+-- ---- flags that say something of each number
+
+pub marked-by : (f : ℕ → Bool) (n number : ℕ) → 1 ≤ number → number ≤ n → is_marked (map f (range_with_len 1 n)) number ≡ f number
+marked-by f n number first last = get_or-map-range_with_len f 1 n (number - 1) number false (omega arith) (omega arith)
+
+pub marked-none : (f : ℕ → Bool) (n number : ℕ) → n < number → is_marked (map f (range_with_len 1 n)) number ≡ false
+marked-none f n number past = marked-past (map f (range_with_len 1 n)) number (let size = length-map-range_with_len f 1 n in omega arith)
 
 -- ---- the end of a row
 

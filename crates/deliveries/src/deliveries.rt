@@ -1,5 +1,5 @@
 // What became of the messages of a journal.
-ghost use Rattle.std.specs.Prelude.{◌≡◌, ◌≤◌, ◌<◌, IfOk, is_some, length};
+ghost use Rattle.std.specs.Prelude.{◌≡◌, ◌≤◌, ◌<◌, IfOk, IfSome, is_some, length};
 ghost use Rattle.acas_base.specs.Encounter.{IsEncounter};
 ghost use Rattle.acas_base.specs.Ranges.{IsCycle};
 ghost use Rattle.air_journal.specs.Airs.{air_of};
@@ -9,11 +9,12 @@ ghost use Rattle.air_rules.specs.Rules.{IsLegal};
 ghost use Rattle.deliveries.specs.Counts.{AreCounts};
 ghost use Rattle.deliveries.specs.Mishaps.{befallen_of, befalls};
 ghost use Rattle.deliveries.specs.Noted.{IsEntryOf, copies_for, takes_by};
+ghost use Rattle.deliveries.specs.Rows.{begins_row, is_marked, row_at, row_end};
 
 use crate::counts::{Counts, counts_of};
 use crate::mishap::Mishap;
 use crate::noting::Notes;
-use crate::rows::Numbers;
+use crate::rows::{Numbers, Row};
 use crate::takes::{Copies, Takes};
 use acas_base::pair_of;
 use air_journal::{AirState, EntryRef};
@@ -117,6 +118,76 @@ impl Deliveries {
             Mishap::Repeated => copies.count > 1,
             Mishap::Untaken => takes.some_left(copies.count),
         }
+    }
+
+    // Whether this befalls the message of a number. It befalls none that wasn't sent.
+    fn is_marked(&self, mishap: Mishap, sender: u8, receiver: u8, number: u16) -> bool
+        requires sender { sender < length self.now.encounter.crafts }
+        requires receiver { receiver < length self.now.encounter.crafts }
+        requires first { 1 ≤ number }
+        ensures { result ≡ is_marked (befallen_of self.now.encounter self.now.journal mishap sender receiver) number }
+    {
+        if number > self.sent(sender, receiver) {
+            return false;
+        }
+        self.befalls(mishap, sender, receiver, number)
+    }
+
+    // Whether a maximal row begins at a number.
+    fn begins_row(&self, mishap: Mishap, sender: u8, receiver: u8, number: u16) -> bool
+        requires sender { sender < length self.now.encounter.crafts }
+        requires receiver { receiver < length self.now.encounter.crafts }
+        requires first { 1 ≤ number }
+        ensures { result ≡ begins_row (befallen_of self.now.encounter self.now.journal mishap sender receiver) number }
+    {
+        if !self.is_marked(mishap, sender, receiver, number) {
+            return false;
+        }
+        if number == 1 {
+            return true;
+        }
+        !self.is_marked(mishap, sender, receiver, number - 1)
+    }
+
+    // The last number of the row to which a message belongs that this befalls.
+    fn row_end(&self, mishap: Mishap, sender: u8, receiver: u8, number: u16) -> u16
+        requires sender { sender < length self.now.encounter.crafts }
+        requires receiver { receiver < length self.now.encounter.crafts }
+        requires first { 1 ≤ number }
+        requires last { number ≤ sends self.now.journal sender receiver }
+        ensures value { result ≡ row_end (befallen_of self.now.encounter self.now.journal mishap sender receiver) (length (befallen_of self.now.encounter self.now.journal mishap sender receiver)) number }
+        ensures order { number ≤ result }
+        ensures few { result ≤ 600 }
+    {
+        let sent = self.sent(sender, receiver);
+        for after in number..sent {
+            if !self.is_marked(mishap, sender, receiver, after + 1) {
+                return after;
+            }
+        }
+        sent
+    }
+
+    /// The maximal row of messages that this befalls which begins at a number from 1 on; none where none does. All rows
+    /// of two aircraft are found when each number is asked, in as many steps as there are messages.
+    pub fn row_at(&self, mishap: Mishap, sender: u8, receiver: u8, number: u16) -> Option<Row>
+        requires sender { sender < length self.now.encounter.crafts }
+        requires receiver { receiver < length self.now.encounter.crafts }
+        requires first { 1 ≤ number }
+        ensures value { result ≡ row_at (befallen_of self.now.encounter self.now.journal mishap sender receiver) number }
+        ensures order { IfSome result (λ row. row.first ≤ row.last) }
+        ensures few { IfSome result (λ row. row.last ≤ 600) }
+    {
+        if number > self.sent(sender, receiver) {
+            return None;
+        }
+        if !self.begins_row(mishap, sender, receiver, number) {
+            return None;
+        }
+        Some(Row {
+            first: number,
+            last: self.row_end(mishap, sender, receiver, number),
+        })
     }
 
     /// How many messages were sent, and how many of these each mishap befell.

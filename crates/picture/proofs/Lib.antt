@@ -4,4 +4,5 @@ pub mod Axis
 pub mod Mapping
 pub mod Messaging
 pub mod Changing
+pub mod Befallen
 pub mod Placing

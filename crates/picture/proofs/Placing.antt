@@ -1,7 +1,7 @@
 -- All marks lie within the page, and their numbers fit.
 use Rattle.std.proofs.Common.{ℕ, zero, suc, ◌+◌, ◌-◌, ◌*◌, ◌^◌, ◌<◌, ◌≤◌, Bool, List, [], ◌∷◌, ◌++◌, Option, Some, None, codes, eqb, eq-eqb, length, ne_eqb, sym, ap, subst, arith, inl, inr}
-use Rattle.std.proofs.lemmas.Bool.{cases_Bool, cases_eq, cond-false, cond-true, ltb-true}
-use Rattle.std.specs.Prelude.{◌%◌, ◌==◌, ℤ, filter, nat_lt, slice_get, take}
+use Rattle.std.proofs.lemmas.Bool.{cases_Bool, cases_eq, cond-false, cond-true, ltb-false, ltb-true}
+use Rattle.std.specs.Prelude.{◌%◌, ◌/◌, ◌==◌, ℤ, filter, nat_lt, slice_get, take}
 use Rattle.std.specs.Fmt.{decimal}
 use Rattle.std.specs.Option.{option_map_or}
 use Rattle.std.specs.List.{AllByRecursion, flat_map, range_with_len}
@@ -14,6 +14,7 @@ use Rattle.advisory_report.specs.declared.composite.Composite.{Composite}
 use Rattle.air_journal.specs.Airs.{address_of, air_of}
 use Rattle.air_rules.specs.Air.{Air}
 use Rattle.air_rules.specs.Rules.{IsLegal}
+use Rattle.deliveries.specs.declared.rows.Row.{Row as MessageRow}
 use Rattle.equal_rows.proofs.Rowing.{are-rows}
 use Rattle.equal_rows.specs.Rows.{IsLongest}
 use Rattle.equal_rows.specs.declared.row.Row.{Row}
@@ -25,11 +26,13 @@ use Rattle.picture.specs.Heights.{axis_of, height_in}
 use Rattle.picture.specs.Head.{description, head_marks, sent_in, sent_text, title_text}
 use Rattle.picture.specs.Layout.{bounds_of, frame_of, lane_base, lane_of, page_bounds, page_height, plot_bottom, plot_height}
 use Rattle.page_marks.specs.Places.{area_at, point_at}
-use Rattle.picture.specs.Legend.{arrow_words, height_words, item_marks, legend_marks}
+use Rattle.picture.specs.Legend.{arrow_words, height_words, item_marks, legend_marks, sample_marks, sample_shaft}
 use Rattle.picture.specs.Messages.{arrows}
-use Rattle.picture.specs.MessagesDrawn.{arrow_marks, arrow_shaft, arrow_title, color_of, down_shaft, event_x, head_points, messages_marks, shaft_marks, shaft_of, up_shaft}
+use Rattle.picture.specs.MessagesDrawn.{arrow_marks, arrow_shaft, arrow_title, arrows_marks, color_of, down_shaft, event_x, head_points, shaft_marks, shaft_of, up_shaft}
+use Rattle.picture.specs.Mishaps.{sent_rows}
+use Rattle.picture.specs.MishapsDrawn.{count_marks, count_words, count_x, cross_at, cross_marks, drawn_row, hollow_marks, lost_y, messages_marks, mishaps_marks, row_shaft, row_title, sign_marks, stroke, third_of}
 use Rattle.picture.specs.Laws.{IsSound}
-use Rattle.page_marks.specs.Paints.{blue, box_marks, filled, grid, halo, hatched, ink, letters, line_paint, plain, purple, vermilion}
+use Rattle.page_marks.specs.Paints.{blue, box_marks, dashed_paint, filled, grid, halo, hatched, ink, letters, line_paint, plain, purple, vermilion}
 use Rattle.picture.specs.Picture.{lanes_of, page, picture_lines, sections}
 use Rattle.picture.specs.Shown.{goes_on, is_shown, shown_in, shown_rows}
 use Rattle.picture.specs.Time.{box_and_name, tick_at, tick_marks, time_marks}
@@ -47,6 +50,9 @@ use Rattle.picture.specs.Panels.{panel_marks, panels_height}
 use Rattle.picture.specs.declared.bar.Bar.{Bar}
 use Rattle.picture.specs.declared.messages_drawn.Shaft.{Shaft}
 use Rattle.picture.specs.declared.messages_read.Arrow.{Arrow}
+use Rattle.picture.specs.declared.mishaps.SentRow.{SentRow}
+use Rattle.picture.specs.declared.mishaps.Sign.{Sign}
+use Rattle.picture.specs.declared.mishaps.Sign.TheVariants.{Cross, HollowHead}
 use Rattle.picture.specs.declared.span.Span.{Span}
 use Rattle.picture.specs.declared.side.Side.{Side}
 use Rattle.picture.specs.declared.side.Side.TheVariants.{Above, Below}
@@ -54,6 +60,7 @@ use Rattle.page_marks.specs.declared.paints.Advised.{Advised}
 use Rattle.page_marks.specs.declared.paints.Advised.TheVariants.{Traffic, Up, Down, Both}
 use Rattle.picture.proofs.Axis.{high-enough, holds-all}
 use Rattle.picture.proofs.Barring.{is-run}
+use Rattle.picture.proofs.Befallen.{IsInRun, rows-in-run}
 use Rattle.picture.proofs.Messaging.{IsTimely, arrows-timely}
 use Rattle.plot_axes.proofs.Shares.{kept}
 use Rattle.plot_axes.specs.Time.{axis_begin, begin_of, is_tick, middle_of}
@@ -66,6 +73,7 @@ use Rattle.svg_text.specs.declared.shapes.Anchor.TheVariants as anchors
 use Rattle.svg_text.specs.declared.shapes.Outline.{Outline}
 use Rattle.svg_text.specs.declared.shapes.Outline.TheVariants as outlines
 use Rattle.svg_text.specs.declared.shapes.Color.{Color}
+use Rattle.svg_text.specs.declared.shapes.Dash.TheVariants as dashes
 use Rattle.svg_text.specs.declared.shapes.Paint.{Paint}
 use Rattle.svg_text.specs.declared.shapes.Point.{Point}
 use Rattle.svg_text.specs.declared.shapes.Shape.TheVariants as shapes
@@ -105,7 +113,7 @@ good-boxes : (lanes x y width height : ℕ) (kind : Advised) (title : List ℕ) 
 good-boxes lanes x y width height kind title few right bottom =
     boxes-in (bounds_of lanes) x y width height kind title (small lanes few) (place lanes x y (omega arith) (omega arith)) (place lanes (x + width) (y + height) right bottom)
 
--- ---- the head, the axis and the legend
+-- ---- the head, the axis and a box of the legend
 
 good-head : (e : Parts) (J : List Entry) (lanes : ℕ) → lanes ≤ 16 → AllByRecursion (Good lanes) (head_marks e J)
 good-head e J lanes few = (
@@ -144,19 +152,6 @@ good-item lanes x kind words few right =
     all-append (Good lanes) (box_marks kind (area_at x (plot_bottom lanes + 1150) 700 280) []) (worded (letters (point_at (x + 850) (plot_bottom lanes + 1380)) 260 anchors.Start weights.Regular) words [] ∷ [])
     (good-boxes lanes x (plot_bottom lanes + 1150) 700 280 kind [] few (omega arith) (omega arith))
     (good-words lanes (x + 850) (plot_bottom lanes + 1380) 260 anchors.Start weights.Regular words [] (omega arith) few (omega arith) (omega arith), tt)
-
-good-legend : (lanes : ℕ) → lanes ≤ 16 → AllByRecursion (Good lanes) (legend_marks lanes)
-good-legend lanes few =
-    all-append (Good lanes) (item 2000 Traffic (codes "traffic")) _ (good-item lanes 2000 Traffic (codes "traffic") few (omega arith))
-    (all-append (Good lanes) (item 5200 Up (codes "up")) _ (good-item lanes 5200 Up (codes "up") few (omega arith))
-    (all-append (Good lanes) (item 8400 Down (codes "down")) _ (good-item lanes 8400 Down (codes "down") few (omega arith))
-    (all-append (Good lanes) (item 11600 Both (codes "up and down")) _ (good-item lanes 11600 Both (codes "up and down") few (omega arith)) (
-      good-words lanes 2000 (plot_bottom lanes + 1850) 260 anchors.Start weights.Regular height_words [] (omega arith) few (omega arith) (omega arith),
-      (good-words lanes 2000 (plot_bottom lanes + 2200) 260 anchors.Start weights.Regular arrow_words [] (omega arith) few (omega arith) (omega arith), tt),
-    ))))
-  where
-    item : ℕ → Advised → List ℕ → List Mark
-    item x kind words = item_marks (plot_bottom lanes) x kind words
 
 -- ---- altitudes
 
@@ -546,7 +541,7 @@ record IsNear (lanes : ℕ) (shaft : Shaft) : Type 0 where
   tail : shaft.tail_x ≤ 17870
   tip : shaft.tip_x ≤ 17870
   left : 1930 ≤ shaft.tip_x
-  begins : shaft.tail_y ≤ page_height lanes
+  begins : shaft.tail_y + 600 ≤ page_height lanes
   neck : shaft.neck_y ≤ page_height lanes
   ends : shaft.tip_y ≤ page_height lanes
 
@@ -566,18 +561,29 @@ near lanes from to sender receiver f t a b =
           (record { tail = omega arith; tip = omega arith; left = omega arith; begins = omega arith; neck = omega arith; ends = omega arith })
     ]
 
-good-shaft : (lanes : ℕ) (shaft : Shaft) (color : Color) (title : List ℕ) → lanes ≤ 16 → IsNear lanes shaft → AllByRecursion (Good lanes) (shaft_marks shaft color title)
-good-shaft lanes shaft color title few n =
+good-shaft-line : (lanes : ℕ) (shaft : Shaft) (paint : Paint) (title : List ℕ) → FitsPaint paint → lanes ≤ 16 → IsNear lanes shaft →
+    Good lanes (figure (shapes.Segment (point_at shaft.tail_x shaft.tail_y) (point_at shaft.tip_x shaft.neck_y)) paint title)
+good-shaft-line lanes shaft paint title fits few n =
     let tail = n.tail in
+    let tip = n.tip in
+    let begins = n.begins in
+    good-line lanes shaft.tail_x shaft.tail_y shaft.tip_x shaft.neck_y paint title fits few (omega (arith, tail)) (omega (arith, begins)) (omega (arith, tip)) n.neck
+
+good-head-points : (lanes : ℕ) (shaft : Shaft) → lanes ≤ 16 → IsNear lanes shaft → AllByRecursion (GoodPoint lanes) (head_points shaft)
+good-head-points lanes shaft few n =
     let tip = n.tip in
     let wide : shaft.tip_x + 90 ≤ 20000 = omega (arith, tip) in
     let slim : shaft.tip_x - 90 ≤ 20000 = omega (arith, tip) in
     let there : shaft.tip_x ≤ 20000 = omega (arith, tip) in
-    let line = good-line lanes shaft.tail_x shaft.tail_y shaft.tip_x shaft.neck_y (line_paint color 40) title (omega arith) few (omega (arith, tail)) n.begins there n.neck in
     let one = a-point lanes (shaft.tip_x - 90) shaft.neck_y few slim n.neck in
     let two = a-point lanes (shaft.tip_x + 90) shaft.neck_y few wide n.neck in
     let three = a-point lanes shaft.tip_x shaft.tip_y few there n.ends in
-    (line, (good-traced lanes outlines.Closed (head_points shaft) (filled color color 30) title (omega arith) (one, (two, (three, tt))), tt))
+    (one, (two, (three, tt)))
+
+good-shaft : (lanes : ℕ) (shaft : Shaft) (color : Color) (title : List ℕ) → lanes ≤ 16 → IsNear lanes shaft → AllByRecursion (Good lanes) (shaft_marks shaft color title)
+good-shaft lanes shaft color title few n =
+    let line = good-shaft-line lanes shaft (line_paint color 40) title (omega arith) few n in
+    (line, (good-traced lanes outlines.Closed (head_points shaft) (filled color color 30) title (omega arith) (good-head-points lanes shaft few n), tt))
 
 good-arrow : (e : Parts) (arrow : Arrow) → lanes_of e ≤ 16 → IsTimely e arrow → AllByRecursion (Good (lanes_of e)) (arrow_marks e arrow)
 unfolding arrow_marks
@@ -591,8 +597,129 @@ good-arrow e arrow few t =
     is_active : CraftSpec → Bool
     is_active craft = is_active_kind craft.kind
 
+good-arrows : (e : Parts) (J : List Entry) → IsLegal (air_of e) J → lanes_of e ≤ 16 → AllByRecursion (Good (lanes_of e)) (arrows_marks e J)
+good-arrows e J l few = all-over (IsTimely e) (Good (lanes_of e)) (arrow_marks e) (λ arrow timely. good-arrow e arrow few timely) (arrows e J) (arrows-timely e J J l l)
+
+-- ---- messages that were lost or spoilt
+
+third-most : (from to : ℕ) → third_of from to ≤ 400
+third-most from to = elim (cases_Bool (nat_lt 1200 (to - from))) [
+  | inl met ↦ subst (λ (n : ℕ). n ≤ 400) (sym (cond-true (nat_lt 1200 (to - from)) 400 ((to - from) / 3) met)) (omega arith)
+  | inr unmet ↦
+      (let most = ltb-false 1200 (to - from) unmet in
+      subst (λ (n : ℕ). n ≤ 400) (sym (cond-false (nat_lt 1200 (to - from)) 400 ((to - from) / 3) unmet)) (omega (arith, most)))
+]
+
+lost-most : (shaft : Shaft) → lost_y shaft ≤ shaft.tail_y + 400
+unfolding lost_y
+lost-most shaft =
+    let down = third-most shaft.tail_y shaft.tip_y in
+    let below = shaft.tail_y + third_of shaft.tail_y shaft.tip_y in
+    let above_it = shaft.tail_y - third_of shaft.tip_y shaft.tail_y in
+    elim (cases_Bool (nat_lt shaft.tail_y shaft.tip_y)) [
+      | inl met ↦ subst (λ (n : ℕ). n ≤ shaft.tail_y + 400) (sym (cond-true (nat_lt shaft.tail_y shaft.tip_y) below above_it met)) (omega (arith, down))
+      | inr unmet ↦ subst (λ (n : ℕ). n ≤ shaft.tail_y + 400) (sym (cond-false (nat_lt shaft.tail_y shaft.tip_y) below above_it unmet)) (omega arith)
+    ]
+
+good-stroke : (lanes x y p q : ℕ) (title : List ℕ) → lanes ≤ 16 → x ≤ 20000 → y ≤ page_height lanes → p ≤ 20000 → q ≤ page_height lanes → Good lanes (stroke (point_at x y) (point_at p q) title)
+good-stroke lanes x y p q title few a b c d = good-line lanes x y p q (line_paint ink 40) title (omega arith) few a b c d
+
+good-cross-at : (lanes x y : ℕ) (title : List ℕ) → lanes ≤ 16 → x + 90 ≤ 20000 → y + 90 ≤ page_height lanes → AllByRecursion (Good lanes) (cross_at x y title)
+good-cross-at lanes x y title few right low = (
+  good-stroke lanes (x - 90) (y - 90) (x + 90) (y + 90) title few (omega arith) (omega arith) right low,
+  (good-stroke lanes (x - 90) (y + 90) (x + 90) (y - 90) title few (omega arith) low right (omega arith), tt),
+)
+
+good-cross : (lanes : ℕ) (shaft : Shaft) (title : List ℕ) → lanes ≤ 16 → IsNear lanes shaft → AllByRecursion (Good lanes) (cross_marks shaft title)
+good-cross lanes shaft title few n =
+    let tail = n.tail in
+    let begins = n.begins in
+    let most = lost-most shaft in
+    let right : shaft.tail_x + 90 ≤ 20000 = omega (arith, tail) in
+    let low : lost_y shaft + 90 ≤ page_height lanes = omega (arith, most, begins) in
+    (good-stroke lanes shaft.tail_x shaft.tail_y shaft.tail_x (lost_y shaft) title few (omega (arith, tail)) (omega (arith, begins)) (omega (arith, tail)) (omega (arith, low)), good-cross-at lanes shaft.tail_x (lost_y shaft) title few right low)
+
+good-hollow : (lanes : ℕ) (shaft : Shaft) (title : List ℕ) → lanes ≤ 16 → IsNear lanes shaft → AllByRecursion (Good lanes) (hollow_marks shaft title)
+good-hollow lanes shaft title few n =
+    let line = good-shaft-line lanes shaft (dashed_paint ink 40 dashes.Short) title (omega arith) few n in
+    (line, (good-traced lanes outlines.Closed (head_points shaft) (line_paint ink 30) title (omega arith) (good-head-points lanes shaft few n), tt))
+
+good-sign : (lanes : ℕ) (sign : Sign) (shaft : Shaft) (title : List ℕ) → lanes ≤ 16 → IsNear lanes shaft → AllByRecursion (Good lanes) (sign_marks sign shaft title)
+good-sign lanes Cross shaft title few n = good-cross lanes shaft title few n
+good-sign lanes HollowHead shaft title few n = good-hollow lanes shaft title few n
+
+count-most : (shaft : Shaft) → count_x shaft ≤ shaft.tail_x + 280
+count-most shaft = elim (cases_Bool (nat_lt shaft.tail_y shaft.tip_y)) [
+  | inl met ↦ subst (λ (n : ℕ). n ≤ shaft.tail_x + 280) (sym (cond-true (nat_lt shaft.tail_y shaft.tip_y) (shaft.tail_x - 280) (shaft.tail_x + 280) met)) (omega arith)
+  | inr unmet ↦ subst (λ (n : ℕ). n ≤ shaft.tail_x + 280) (sym (cond-false (nat_lt shaft.tail_y shaft.tip_y) (shaft.tail_x - 280) (shaft.tail_x + 280) unmet)) (omega arith)
+]
+
+good-count : (lanes : ℕ) (shaft : Shaft) (row : MessageRow) (title : List ℕ) → lanes ≤ 16 → IsNear lanes shaft → AllByRecursion (Good lanes) (count_marks shaft row title)
+unfolding count_marks
+good-count lanes shaft row title few n =
+    let tail = n.tail in
+    let begins = n.begins in
+    let most = lost-most shaft in
+    let right = count-most shaft in
+    let words = decimal ((row.last + 1) - row.first) in
+    let x : count_x shaft ≤ 20000 = omega (arith, right, tail) in
+    let y : lost_y shaft + 80 ≤ page_height lanes = omega (arith, most, begins) in
+    elim (cases_Bool (row.first == row.last)) [
+      | inl met ↦ subst (AllByRecursion (Good lanes)) (sym (cond-true (row.first == row.last) [] (count_words shaft words title) met)) tt
+      | inr unmet ↦
+          subst (AllByRecursion (Good lanes)) (sym (cond-false (row.first == row.last) [] (count_words shaft words title) unmet)) (
+            good-halo lanes (count_x shaft) (lost_y shaft + 80) 220 anchors.Middle weights.Regular words title (omega arith) few x y,
+            (good-words lanes (count_x shaft) (lost_y shaft + 80) 220 anchors.Middle weights.Regular words title (omega arith) few x y, tt),
+          )
+    ]
+
+good-row : (e : Parts) (sign : Sign) (sent : SentRow) → lanes_of e ≤ 16 → IsInRun e sent → AllByRecursion (Good (lanes_of e)) (drawn_row e sign sent)
+unfolding drawn_row
+good-row e sign sent few t =
+    let x = event_x e.cycles sent.sent_after in
+    let at = event-within e.cycles sent.sent_after t in
+    let shaft = row_shaft e sent in
+    let title = row_title (address_of e sent.sender) (address_of e sent.receiver) sign sent in
+    let stands = near (lanes_of e) x x (lane_of e.crafts sent.sender) (lane_of e.crafts sent.receiver) at at (filter-front is_active sent.sender e.crafts) (filter-front is_active sent.receiver e.crafts) in
+    all-append (Good (lanes_of e)) (sign_marks sign shaft title) (count_marks shaft sent.row title) (good-sign (lanes_of e) sign shaft title few stands) (good-count (lanes_of e) shaft sent.row title few stands)
+  where
+    is_active : CraftSpec → Bool
+    is_active craft = is_active_kind craft.kind
+
+good-rows : (e : Parts) (J : List Entry) (sign : Sign) → IsLegal (air_of e) J → lanes_of e ≤ 16 → AllByRecursion (Good (lanes_of e)) (mishaps_marks e J sign)
+good-rows e J sign l few = all-over (IsInRun e) (Good (lanes_of e)) (drawn_row e sign) (λ sent t. good-row e sign sent few t) (sent_rows e J sign) (rows-in-run e J sign J l)
+
 good-messages : (e : Parts) (J : List Entry) → IsLegal (air_of e) J → lanes_of e ≤ 16 → AllByRecursion (Good (lanes_of e)) (messages_marks e J)
-good-messages e J l few = all-over (IsTimely e) (Good (lanes_of e)) (arrow_marks e) (λ arrow timely. good-arrow e arrow few timely) (arrows e J) (arrows-timely e J J l l)
+good-messages e J l few =
+    all-append (Good (lanes_of e)) (arrows_marks e J) (mishaps_marks e J Cross ++ mishaps_marks e J HollowHead) (good-arrows e J l few)
+    (all-append (Good (lanes_of e)) (mishaps_marks e J Cross) (mishaps_marks e J HollowHead) (good-rows e J Cross l few) (good-rows e J HollowHead l few))
+
+-- ---- the legend
+
+good-sample : (lanes x y : ℕ) (sign : Sign) (words : List ℕ) → lanes ≤ 16 → 2000 ≤ x → x ≤ 17000 → y ≤ plot_bottom lanes + 1200 → AllByRecursion (Good lanes) (sample_marks (plot_bottom lanes) x y sign words)
+unfolding sample_marks
+good-sample lanes x y sign words few left right low =
+    all-append (Good lanes) (sign_marks sign (sample_shaft x y) []) (worded (letters (point_at (x + 200) (plot_bottom lanes + 1380)) 260 anchors.Start weights.Regular) words [] ∷ [])
+    (good-sign lanes sign (sample_shaft x y) [] few (record { tail = omega arith; tip = omega arith; left = omega arith; begins = omega arith; neck = omega arith; ends = omega arith }))
+    (good-words lanes (x + 200) (plot_bottom lanes + 1380) 260 anchors.Start weights.Regular words [] (omega arith) few (omega arith) (omega arith), tt)
+
+good-legend : (lanes : ℕ) → lanes ≤ 16 → AllByRecursion (Good lanes) (legend_marks lanes)
+good-legend lanes few =
+    all-append (Good lanes) (item 2000 Traffic (codes "traffic")) _ (good-item lanes 2000 Traffic (codes "traffic") few (omega arith))
+    (all-append (Good lanes) (item 5200 Up (codes "up")) _ (good-item lanes 5200 Up (codes "up") few (omega arith))
+    (all-append (Good lanes) (item 8400 Down (codes "down")) _ (good-item lanes 8400 Down (codes "down") few (omega arith))
+    (all-append (Good lanes) (item 11600 Both (codes "up and down")) _ (good-item lanes 11600 Both (codes "up and down") few (omega arith))
+    (all-append (Good lanes) (sample 14900 (plot_bottom lanes + 1160) Cross (codes "lost")) _ (good-sample lanes 14900 (plot_bottom lanes + 1160) Cross (codes "lost") few (omega arith) (omega arith) (omega arith))
+    (all-append (Good lanes) (sample 16800 (plot_bottom lanes + 1090) HollowHead (codes "spoilt")) _ (good-sample lanes 16800 (plot_bottom lanes + 1090) HollowHead (codes "spoilt") few (omega arith) (omega arith) (omega arith)) (
+      good-words lanes 2000 (plot_bottom lanes + 1850) 260 anchors.Start weights.Regular height_words [] (omega arith) few (omega arith) (omega arith),
+      (good-words lanes 2000 (plot_bottom lanes + 2200) 260 anchors.Start weights.Regular arrow_words [] (omega arith) few (omega arith) (omega arith), tt),
+    ))))))
+  where
+    item : ℕ → Advised → List ℕ → List Mark
+    item x kind words = item_marks (plot_bottom lanes) x kind words
+
+    sample : ℕ → ℕ → Sign → List ℕ → List Mark
+    sample x y sign words = sample_marks (plot_bottom lanes) x y sign words
 
 -- ---- the panels of a pair
 

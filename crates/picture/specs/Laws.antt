@@ -1,15 +1,19 @@
 -- What the picture says of a recording, and what holds of its text.
-use Rattle.std.specs.Prelude.{◌≡◌, ◌≢◌, ◌⊎◌, ℕ, ◌+◌, ◌-◌, ◌<◌, ◌≤◌, true, false, List, [], ◌∷◌, Some, length, ℤ, ◌≤ℤ◌}
+use Rattle.std.specs.Prelude.{◌≡◌, ◌≢◌, ◌⊎◌, ℕ, ◌+◌, ◌-◌, ◌<◌, ◌≤◌, ◌==◌, ◌&&◌, Bool, true, false, List, [], ◌∷◌, Some, filter, length, ℤ, ◌≤ℤ◌}
 use Rattle.std.specs.List.{AllByRecursion}
 use Rattle.acas_base.specs.Encounter.{Parts}
 use Rattle.acas_base.specs.declared.advisory.Vrc.{Vrc}
 use Rattle.acas_base.specs.declared.entry.Entry.{Entry}
-use Rattle.acas_base.specs.declared.entry.Entry.TheVariants.{Take}
+use Rattle.acas_base.specs.declared.entry.Entry.TheVariants.{Send, Take}
 use Rattle.advisory_report.specs.Composite.{word_of}
 use Rattle.advisory_report.specs.Phrases.{is_clear}
 use Rattle.air_journal.specs.Airs.{air_of}
 use Rattle.air_rules.specs.Journal.{Begins, Sent, commits, sent_at}
 use Rattle.air_rules.specs.Takes.{complement_from}
+use Rattle.deliveries.specs.Laws.{IsRow}
+use Rattle.deliveries.specs.Mishaps.{befallen_of}
+use Rattle.deliveries.specs.declared.mishap.Mishap.{Mishap}
+use Rattle.deliveries.specs.declared.rows.Row.{Row as MessageRow}
 use Rattle.equal_rows.specs.Rows.{AreInOrder, IsCovered}
 use Rattle.equal_rows.specs.declared.row.Row.{Row}
 use Rattle.picture.specs.Altitude.{altitude_y}
@@ -20,6 +24,7 @@ use Rattle.picture.specs.Layout.{page_bounds}
 use Rattle.picture.specs.Messages.{arrows}
 use Rattle.picture.specs.Panels.{panels_height}
 use Rattle.picture.specs.declared.messages_read.Arrow.{Arrow}
+use Rattle.picture.specs.declared.mishaps.SentRow.{SentRow}
 use Rattle.picture.specs.Picture.{lanes_of, picture_text, sections}
 use Rattle.picture.specs.Shown.{is_alike, shown_in}
 use Rattle.page_marks.specs.Within.{IsSectionWithin}
@@ -92,6 +97,24 @@ pub record AreArrows (e : Parts) (journal : List Entry) : Type 0 where
   pub in_order : AreRising 0 (arrows e journal)
   pub all : (earlier later : List Entry) (own other : ℕ) → Begins earlier later → Begins later journal → commits earlier own ≡ commits later own →
       complement_from (air_of e) earlier own other ≢ complement_from (air_of e) later own other → SomeSets (arrows e journal) own other (length earlier) (length later) (complement_from (air_of e) later own other)
+
+-- A row stands for a maximal row of messages of one aircraft to another one that this befell. The journal sends the
+-- first of them after so many commits of the sender.
+pub record IsSentRowOf (e : Parts) (journal : List Entry) (mishap : Mishap) (sent : SentRow) : Type 0 where
+  pub maximal : IsRow (befallen_of e journal mishap sent.sender sent.receiver) sent.row
+  pub earlier : List Entry
+  pub word : ℕ
+  pub there : Begins (Send sent.sender sent.receiver sent.row.first word ∷ earlier) journal
+  pub sent_after : sent.sent_after ≡ commits earlier sent.sender
+
+-- It is this row of these two aircraft.
+abbrev pub is_for : ℕ → ℕ → MessageRow → SentRow → Bool
+is_for sender receiver row sent = sent.sender == sender && (sent.receiver == receiver && (sent.row.first == row.first && sent.row.last == row.last))
+
+-- Each of the rows is such a row, and each maximal row is exactly one of them.
+pub record AreSentRows (e : Parts) (journal : List Entry) (mishap : Mishap) (rows : List SentRow) : Type 0 where
+  pub each : AllByRecursion (IsSentRowOf e journal mishap) rows
+  pub once : (sender receiver : ℕ) (row : MessageRow) → IsRow (befallen_of e journal mishap sender receiver) row → length (filter (is_for sender receiver row) rows) ≡ 1
 
 -- All marks lie within the page, and the text is well formed.
 pub record IsSound (e : Parts) (journal : List Entry) : Type 0 where

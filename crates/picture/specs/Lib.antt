@@ -10,6 +10,8 @@ pub mod Onsets
 pub mod Legend
 pub mod Messages
 pub mod MessagesDrawn
+pub mod Mishaps
+pub mod MishapsDrawn
 pub mod Panels
 pub mod Picture
 pub mod Laws

@@ -59,9 +59,9 @@ pub record IsShaft (shaft : Shaft) : Type 0 where
   pub tail : shaft.tail_x ≤ 17870
   pub tip : shaft.tip_x ≤ 17870
   pub left : 1930 ≤ shaft.tip_x
-  pub begins : shaft.tail_y ≤ 22000
-  pub neck : shaft.neck_y ≤ 22000
-  pub ends : shaft.tip_y ≤ 22000
+  pub begins : shaft.tail_y ≤ 23000
+  pub neck : shaft.neck_y ≤ 23000
+  pub ends : shaft.tip_y ≤ 23000
 
 -- ---- its marks
 
@@ -80,5 +80,5 @@ arrow_shaft e arrow =
 unfoldable pub arrow_marks : Parts → Arrow → List Mark
 arrow_marks e arrow = shaft_marks (arrow_shaft e arrow) (color_of arrow.after) (arrow_title (address_of e arrow.taking.sender) (address_of e arrow.taking.receiver) arrow)
 
-abbrev pub messages_marks : Parts → List Entry → List Mark
-messages_marks e journal = flat_map (arrow_marks e) (arrows e journal)
+abbrev pub arrows_marks : Parts → List Entry → List Mark
+arrows_marks e journal = flat_map (arrow_marks e) (arrows e journal)

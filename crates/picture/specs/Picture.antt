@@ -9,7 +9,7 @@ use Rattle.picture.specs.Bars.{lanes_marks}
 use Rattle.picture.specs.Head.{description, head_marks, title_text}
 use Rattle.picture.specs.Layout.{active_among, frame_of, page_height}
 use Rattle.picture.specs.Legend.{legend_marks}
-use Rattle.picture.specs.MessagesDrawn.{messages_marks}
+use Rattle.picture.specs.MishapsDrawn.{messages_marks}
 use Rattle.picture.specs.Panels.{panel_marks, panels_height}
 use Rattle.picture.specs.Time.{time_marks}
 use Rattle.pair_panels.specs.Nearest.{nearest_pair}

@@ -4,8 +4,11 @@ ghost use Rattle.acas_base.specs.Encounter.{IsEncounter, Parts};
 ghost use Rattle.acas_base.specs.declared.entry.Entry.{Entry};
 ghost use Rattle.air_journal.specs.Airs.{air_of};
 ghost use Rattle.air_rules.specs.Rules.{IsLegal};
-ghost use Rattle.picture.specs.Laws.{AreArrows, AreBars, AreCourses, IsSound};
+ghost use Rattle.deliveries.specs.declared.mishap.Mishap.TheVariants.{Lost, Spoilt};
+ghost use Rattle.picture.specs.Laws.{AreArrows, AreBars, AreCourses, AreSentRows, IsSound};
+ghost use Rattle.picture.specs.Mishaps.{sent_rows};
 ghost use Rattle.picture.specs.Shown.{shown_rows};
+ghost use Rattle.picture.specs.declared.mishaps.Sign.TheVariants.{Cross, HollowHead};
 
 /// A law: the bars of an aircraft are exactly the longest rows of its cycles with one word of the report, which isn't
 /// CLEAR, and one corrective mark. They come in order, and no such cycle is left out.
@@ -24,6 +27,13 @@ pub fn courses_law()
 /// them, an arrow between them sets it.
 pub fn arrows_law()
     ensures { (e : Parts) (journal : List Entry) → IsEncounter e → IsLegal (air_of e) journal → AreArrows e journal }
+{}
+
+/// A law: a cross stands exactly for each maximal row of lost messages of one aircraft to another one, and a hollow head
+/// exactly for each one of spoilt messages. It stands where the first message of the row was sent.
+pub fn mishaps_law()
+    ensures lost { (e : Parts) (journal : List Entry) → IsLegal (air_of e) journal → AreSentRows e journal Lost (sent_rows e journal Cross) }
+    ensures spoilt { (e : Parts) (journal : List Entry) → IsLegal (air_of e) journal → AreSentRows e journal Spoilt (sent_rows e journal HollowHead) }
 {}
 
 /// A law: everything in the picture lies within its page, and its text is well formed.

@@ -1,10 +1,14 @@
-// What the boxes and the arrows mean.
+// What the boxes, the signs and the arrows mean.
 ghost use Rattle.std.specs.Prelude.{◌≡◌, ◌<◌, ◌≤◌, ◌^◌, length};
 ghost use Rattle.picture.specs.Layout.{plot_bottom};
-ghost use Rattle.picture.specs.Legend.{arrow_words, height_words, item_marks, legend_marks};
+ghost use Rattle.picture.specs.Legend.{arrow_words, height_words, item_marks, legend_marks, sample_marks, sample_shaft};
+ghost use Rattle.picture.specs.MessagesDrawn.{IsShaft};
 ghost use Rattle.svg_text.specs.declared.drawing.TheConstants.{LABEL_BYTES};
 
 use crate::layout::plot_bottom;
+use crate::messages_drawn::Shaft;
+use crate::mishaps::Sign;
+use crate::mishaps_drawn::put_sign;
 use acas_lines::fixed_line;
 use acas_text::Line;
 use page_marks::{Advised, area_at, point_at, put_box, put_words};
@@ -33,6 +37,49 @@ fn put_item<D: Drawing>(bottom: u32, x: u32, advised: Advised, words: &str, draw
     );
 }
 
+fn sample_shaft(x: u32, y: u32) -> Shaft
+    requires left { 2000 ≤ x }
+    requires right { x ≤ 17000 }
+    requires y { y ≤ 22000 }
+    ensures value { result ≡ sample_shaft x y }
+    ensures near { IsShaft result }
+{
+    Shaft {
+        tail_x: x,
+        tail_y: y,
+        tip_x: x,
+        neck_y: y + 220,
+        tip_y: y + 400,
+    }
+}
+
+// Puts a sign and what it means.
+fn put_sample<D: Drawing>(
+    bottom: u32,
+    x: u32,
+    y: u32,
+    sign: Sign,
+    words: &str,
+    drawing: &mut D,
+)
+    requires bottom { bottom ≤ 20560 }
+    requires left { 2000 ≤ x }
+    requires right { x ≤ 17000 }
+    requires y { y ≤ 22000 }
+    requires words { length words.now ≤ LABEL_BYTES }
+    ensures { D.drew drawing.old drawing.new (sample_marks bottom x y sign words.now) }
+{
+    put_sign(sign, sample_shaft(x, y), &Line::new(), drawing);
+    put_words(
+        point_at(x + 200, bottom + 1_380),
+        260,
+        Anchor::Start,
+        Weight::Regular,
+        &fixed_line(words),
+        drawing,
+    );
+}
+
 /// Puts the legend.
 pub(crate) fn put_legend<D: Drawing>(lanes: u32, drawing: &mut D)
     requires { lanes ≤ 16 }
@@ -43,6 +90,8 @@ pub(crate) fn put_legend<D: Drawing>(lanes: u32, drawing: &mut D)
     put_item(bottom, 5_200, Advised::Up, "up", drawing);
     put_item(bottom, 8_400, Advised::Down, "down", drawing);
     put_item(bottom, 11_600, Advised::Both, "up and down", drawing);
+    put_sample(bottom, 14_900, bottom + 1_160, Sign::Cross, "lost", drawing);
+    put_sample(bottom, 16_800, bottom + 1_090, Sign::HollowHead, "spoilt", drawing);
     put_words(
         point_at(2_000, bottom + 1_850),
         260,

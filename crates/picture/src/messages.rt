@@ -1,12 +1,16 @@
-// The messages between the lanes: an arrow for each take that changes the complement in force.
+// The messages between the lanes: an arrow for each take that changes the complement in force, and a mark for each
+// maximal row of lost or spoilt messages.
 ghost use Rattle.std.specs.Prelude.{◌≡◌, IfSome, option_to_list};
 ghost use Rattle.std.specs.List.{flat_map};
 ghost use Rattle.picture.specs.Messages.{IsArrow, IsTaking, arrow_for};
-ghost use Rattle.picture.specs.MessagesDrawn.{arrow_marks, messages_marks};
+ghost use Rattle.picture.specs.MessagesDrawn.{arrow_marks, arrows_marks};
+ghost use Rattle.picture.specs.MishapsDrawn.{messages_marks};
 
 use crate::messages_drawn::put_arrow;
 use crate::messages_read::{Arrow, Taking, arrow_by, taking_of};
+use crate::mishaps::{Sign, put_mishaps};
 use air_journal::AirState;
+use deliveries::Deliveries;
 use journal_reader::Reader;
 use plot_axes::TimeAxis;
 use svg_text::Drawing;
@@ -46,10 +50,10 @@ fn put_taken<D: Drawing>(
     }
 }
 
-/// Puts all arrows.
-pub(crate) fn put_messages<D: Drawing>(state: &AirState, axis: TimeAxis, drawing: &mut D)
+// Puts all arrows.
+fn put_arrows<D: Drawing>(state: &AirState, axis: TimeAxis, drawing: &mut D)
     requires axis { axis.cycles ≡ state.now.encounter.cycles }
-    ensures { D.drew drawing.old drawing.new (messages_marks state.now.encounter state.now.journal) }
+    ensures { D.drew drawing.old drawing.new (arrows_marks state.now.encounter state.now.journal) }
 {
     let mut reader = Reader::new(state);
     while let Some(entry) = reader.peek() {
@@ -57,4 +61,14 @@ pub(crate) fn put_messages<D: Drawing>(state: &AirState, axis: TimeAxis, drawing
         reader.next();
         put_taken(state, axis, &reader, taking, drawing);
     }
+}
+
+/// Puts all arrows, a cross for each maximal row of lost messages, and a hollow head for each one of spoilt messages.
+pub(crate) fn put_messages<D: Drawing>(deliveries: &Deliveries, axis: TimeAxis, drawing: &mut D)
+    requires axis { axis.cycles ≡ deliveries.now.encounter.cycles }
+    ensures { D.drew drawing.old drawing.new (messages_marks deliveries.now.encounter deliveries.now.journal) }
+{
+    put_arrows(deliveries.state(), axis, drawing);
+    put_mishaps(deliveries, axis, Sign::Cross, drawing);
+    put_mishaps(deliveries, axis, Sign::HollowHead, drawing);
 }

@@ -74,8 +74,9 @@ fn arrow_title(sender: Address, receiver: Address, arrow: Arrow) -> Line
 
 // ---- where it stands
 
+/// How far to the right stands what happens after so many commits of an aircraft.
 #[tactic(auto, unfolding(crate::specs::MessagesDrawn::event_x))]
-fn event_x(axis: TimeAxis, commits: u16) -> u32
+pub(crate) fn event_x(axis: TimeAxis, commits: u16) -> u32
     requires { commits ≤ axis.cycles }
     ensures value { result ≡ event_x axis.cycles commits }
     ensures left { 2000 ≤ result }
@@ -128,8 +129,9 @@ fn up_shaft(from: u32, to: u32, lower: u32, upper: u32) -> Shaft
     }
 }
 
+/// From the lane of a sender to that of a receiver.
 #[tactic(auto, unfolding(crate::specs::MessagesDrawn::shaft_of))]
-fn shaft_of(from: u32, to: u32, sender: u32, receiver: u32) -> Shaft
+pub(crate) fn shaft_of(from: u32, to: u32, sender: u32, receiver: u32) -> Shaft
     requires from_left { 2000 ≤ from }
     requires from_right { from ≤ 17800 }
     requires to_left { 2000 ≤ to }
@@ -165,8 +167,8 @@ fn arrow_shaft(encounter: &Encounter, axis: TimeAxis, arrow: Arrow) -> Shaft
 
 // ---- its marks
 
-// Passes through the points of its head.
-fn put_head_points<D: Drawing>(shaft: Shaft, drawing: &mut D)
+/// Passes through the points of its head.
+pub(crate) fn put_head_points<D: Drawing>(shaft: Shaft, drawing: &mut D)
     requires { IsShaft shaft }
     ensures { D.passed drawing.old drawing.new (head_points shaft) }
 {

@@ -100,9 +100,9 @@ fn committed_at(state: &AirState, own: u8, at: u32) -> Option<u16>
     }
 }
 
-// How many cycles an aircraft had committed before a position: the cycle of its last commit before it. That is near,
-// since a message is sent before its sender commits again, and nobody is more than a cycle ahead of another one.
-fn commits_before(state: &AirState, own: u8, position: u32) -> u16
+/// How many cycles an aircraft had committed before a position: the cycle of its last commit before it. That is near,
+/// since a message is sent before its sender commits again, and nobody is more than a cycle ahead of another one.
+pub(crate) fn commits_before(state: &AirState, own: u8, position: u32) -> u16
     ensures value { result ≡ commits (read_of state.now.journal position) own }
     ensures most { result ≤ state.now.encounter.cycles }
 {

@@ -8,7 +8,7 @@ ghost use Rattle.picture.specs.Bands.{bands_marks};
 ghost use Rattle.picture.specs.Bars.{lanes_marks};
 ghost use Rattle.picture.specs.Head.{head_marks, title_text};
 ghost use Rattle.picture.specs.Legend.{legend_marks};
-ghost use Rattle.picture.specs.MessagesDrawn.{messages_marks};
+ghost use Rattle.picture.specs.MishapsDrawn.{messages_marks};
 ghost use Rattle.picture.specs.Panels.{panel_marks};
 ghost use Rattle.picture.specs.Picture.{picture_text, section};
 ghost use Rattle.picture.specs.Time.{time_marks};
@@ -29,6 +29,7 @@ use acas_io::{Failed, Sink};
 use acas_lines::{LineSink, Text, write_text};
 use acas_text::Line;
 use air_journal::AirState;
+use deliveries::Deliveries;
 use pair_panels::{NearPair, nearest_pair};
 use plot_axes::TimeAxis;
 use svg_text::{Clip, begin_drawing, begin_section, end_drawing, end_section};
@@ -73,12 +74,12 @@ fn put_altitude_section<S: LineSink>(encounter: &Encounter, axis: TimeAxis, sink
     end_section(sink);
 }
 
-fn put_messages_section<S: LineSink>(state: &AirState, axis: TimeAxis, sink: &mut S)
-    requires axis { axis.cycles ≡ state.now.encounter.cycles }
-    ensures { S.took sink.old sink.new (section_lines (section (messages_marks state.now.encounter state.now.journal))) }
+fn put_messages_section<S: LineSink>(deliveries: &Deliveries, axis: TimeAxis, sink: &mut S)
+    requires axis { axis.cycles ≡ deliveries.now.encounter.cycles }
+    ensures { S.took sink.old sink.new (section_lines (section (messages_marks deliveries.now.encounter deliveries.now.journal))) }
 {
     begin_section(sink, Clip::Whole);
-    put_messages(state, axis, sink);
+    put_messages(deliveries, axis, sink);
     end_section(sink);
 }
 
@@ -124,9 +125,11 @@ fn put_panels_section<S: LineSink>(
 /// The picture of a state, as SVG: a head, an axis of time, the altitude of each aircraft with bands where it
 /// advises, a lane for each aircraft that advises, a legend, and the distances of the two aircraft that come nearest.
 /// In a lane stands a bar for each longest row of cycles with one word of the report, which isn't CLEAR, and one
-/// corrective mark. Between the lanes stands an arrow for each take of a message that changes the complement in force.
+/// corrective mark. Between the lanes stands an arrow for each take of a message that changes the complement in force,
+/// a cross for each maximal row of lost messages of two aircraft, and a hollow head for each one of spoilt messages.
+/// The state comes with what became of its messages.
 #[derive(Drop)]
-pub struct Picture<'a>(pub &'a AirState);
+pub struct Picture<'a>(pub &'a Deliveries);
 
 impl Text for Picture<'_> {
     ghost use Rattle.picture.specs.Picture.{picture_lines};
@@ -134,7 +137,8 @@ impl Text for Picture<'_> {
     ghost lines = { λ p. picture_lines p.0.now.encounter p.0.now.journal };
 
     fn put<S: LineSink>(&self, sink: &mut S) {
-        let state = self.0;
+        let deliveries = self.0;
+        let state = deliveries.state();
         state.legal_law();
         let encounter = state.enc();
         let lanes = active_among(encounter.crafts());
@@ -150,7 +154,7 @@ impl Text for Picture<'_> {
         put_time_section(axis, lanes, sink);
         put_bands_section(state, axis, sink);
         put_altitude_section(encounter, axis, sink);
-        put_messages_section(state, axis, sink);
+        put_messages_section(deliveries, axis, sink);
         put_lanes_section(state, axis, sink);
         put_legend_section(lanes, sink);
         put_panels_section(page_height(lanes), encounter, pair, axis, sink);
@@ -161,8 +165,8 @@ impl Text for Picture<'_> {
 /// Writes the [`Picture`] of a state. It takes no memory.
 ///
 /// `Failed` comes only where the sink's count of faults rose; what was written then is a front of the text.
-pub fn write<K: Sink>(state: &AirState, sink: &mut K) -> Result<(), Failed>
-    ensures { Puts (K.written sink.old) (K.written sink.new) (K.faults sink.old) (K.faults sink.new) (picture_text state.now.encounter state.now.journal) result }
+pub fn write<K: Sink>(deliveries: &Deliveries, sink: &mut K) -> Result<(), Failed>
+    ensures { Puts (K.written sink.old) (K.written sink.new) (K.faults sink.old) (K.faults sink.new) (picture_text deliveries.now.encounter deliveries.now.journal) result }
 {
-    write_text(&Picture(state), sink)
+    write_text(&Picture(deliveries), sink)
 }

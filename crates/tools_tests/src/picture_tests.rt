@@ -10,11 +10,13 @@ mod distances;
 mod frame;
 mod marks;
 mod messages;
+mod mishaps;
 mod shown;
 
 use crate::serial_runs::played;
 use acas_base::{CraftSpec, Encounter, Kind};
 use acas_io::{MemSink, Sink};
+use deliveries::Deliveries;
 use frame::{FIFTHS, ONE, add_head, add_legend, add_time};
 use marks::Page;
 use picture::write;
@@ -22,13 +24,23 @@ use std::alloc::{AllocError, Global};
 use std::test::Fail;
 use test_encounters::{aircraft, encounter, leg};
 
+// The picture of the serial run of an encounter.
+fn pictured(alloc: Global, enc: &Encounter) -> Result<Vec<u8>, Fail>
+    requires { IsInside enc.now }
+{
+    let deliveries = Deliveries::new(alloc, played(alloc, enc)?)?;
+    let mut sink = MemSink::new(Vec::with_capacity(alloc, 40_000)?, 40_000, Vec::new(alloc));
+    if write(&deliveries, &mut sink).is_err() {
+        return Err("not written".into());
+    }
+    Ok(sink.bytes().to_vec(alloc)?)
+}
+
 // Whether the picture of the serial run of an encounter is this one.
 fn is_drawn(alloc: Global, enc: &Encounter, want: &[u8]) -> Result<bool, Fail>
     requires { IsInside enc.now }
 {
-    let state = played(alloc, enc)?;
-    let mut sink = MemSink::new(Vec::with_capacity(alloc, 40_000)?, 40_000, Vec::new(alloc));
-    Ok(write(&state, &mut sink).is_ok() && sink.bytes() == want)
+    Ok(pictured(alloc, enc)?.as_slice() == want)
 }
 
 // Two aircraft of these kinds that fly towards each other, the second one at this altitude. One of them may climb from
@@ -143,5 +155,14 @@ fn draws_what_is_shown(rt: HostRuntime) -> Result<(), Fail> {
     assert!(rt; draws_nothing_shown(alloc)?);
     assert!(rt; draws_a_reversal(alloc)?);
     assert!(rt; draws_the_active_aircraft(alloc)?);
+    Ok(())
+}
+
+#[test]
+fn marks_lost_and_spoilt_rows(rt: HostRuntime) -> Result<(), Fail> {
+    let alloc = rt.alloc();
+    assert!(rt; mishaps::marks_lost_rows(alloc)?);
+    assert!(rt; mishaps::marks_spoilt_rows(alloc)?);
+    assert!(rt; mishaps::marks_nothing_else(alloc)?);
     Ok(())
 }

@@ -1,5 +1,5 @@
 // Expected values: as in picture_tests.rt. What stands around the panels: the head, the axis of time, and the legend.
-use super::marks::{BLACK, DOWN, FRAME, GRID, HATCHED, Page, Paint, TRAFFIC, UP, edged, filled};
+use super::marks::{BLACK, DOWN, FRAME, GRID, HATCHED, Page, Paint, TRAFFIC, UP, drawn, edged, filled};
 use std::alloc::AllocError;
 
 const PATTERN: &str =
@@ -92,6 +92,36 @@ fn add_sample(page: &mut Page, x: u32, paint: Paint) -> Result<(), AllocError> {
     page.rect((x, y), (700, 280), paint, "")
 }
 
+// A line that ends in a cross.
+fn add_lost_sample(page: &mut Page) -> Result<(), AllocError> {
+    let stroke = drawn(BLACK, 40, "");
+    let top = page.low(8280);
+    let middle = page.low(8413);
+    let high = page.low(8323);
+    let low = page.low(8503);
+    page.line((14900, top), (14900, middle), stroke, "")?;
+    page.line((14810, high), (14990, low), stroke, "")?;
+    page.line((14810, low), (14990, high), stroke, "")
+}
+
+// A line of dashes that ends in a hollow head.
+fn add_spoilt_sample(page: &mut Page) -> Result<(), AllocError> {
+    let top = page.low(8210);
+    let neck = page.low(8430);
+    let tip = page.low(8610);
+    page.line(
+        (16800, top),
+        (16800, neck),
+        drawn(BLACK, 40, "100 70"),
+        "",
+    )?;
+    page.corners(
+        [(16710, neck), (16890, neck), (16800, tip)],
+        drawn(BLACK, 30, ""),
+        "",
+    )
+}
+
 // Words of the legend.
 fn add_remark(page: &mut Page, x: u32, y: u32, words: &str) -> Result<(), AllocError> {
     let y = page.low(y);
@@ -109,6 +139,10 @@ pub fn add_legend(page: &mut Page) -> Result<(), AllocError> {
     add_remark(page, 9250, 8500, "down")?;
     add_sample(page, 11600, edged("#F3E6F1", "#8E4585", 50))?;
     add_remark(page, 12450, 8500, "up and down")?;
+    add_lost_sample(page)?;
+    add_remark(page, 15100, 8500, "lost")?;
+    add_spoilt_sample(page)?;
+    add_remark(page, 17000, 8500, "spoilt")?;
     add_remark(
         page,
         2000,

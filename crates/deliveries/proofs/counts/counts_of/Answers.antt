@@ -1,4 +1,4 @@
-use Rattle.std.proofs.Common.{◌+◌, ◌≤◌, List, ◌∷◌, length, option_map, sym, ap, ◌∙◌, subst, arith}
+use Rattle.std.proofs.Common.{◌+◌, ◌≤◌, List, length, option_map, sym, ap, ◌∙◌, subst, arith}
 use Rattle.acas_base.specs.declared.entry.Entry.{Entry}
 use Rattle.air_journal.specs.EntryRefs.{entry_of}
 use Rattle.air_journal.specs.States.{State}

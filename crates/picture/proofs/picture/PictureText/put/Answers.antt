@@ -1,5 +1,6 @@
 use Rattle.std.proofs.Common.{ap, ap₂, ◌∙◌}
 use Rattle.acas_base.specs.Encounter.{Parts}
+use Rattle.air_journal.specs.States.{State}
 use Rattle.picture.specs.Head.{title_text}
 use Rattle.picture.specs.Layout.{active_among, frame_of, page_height}
 use Rattle.pair_panels.specs.Nearest.{nearest_pair}
@@ -10,7 +11,11 @@ use Rattle.picture.proofs.picture.PictureText.put.Goals as goal
 pub returns : goal.returns
 unfolding picture_lines
 returns g c =
-    let enc = c.enc-encounter.ensures in
+    let is = c.state-state.ensures in
+    let enc = c.enc-encounter.ensures ∙ ap (λ (s : State). s.encounter) is in
+    let top_words = rw is at c.put_head_section.ensures in
+    let bands = rw is at c.put_bands_section.ensures in
+    let bars = rw is at c.put_lanes_section.ensures in
     let lanes = c.active_among-lanes.ensures.value ∙ ap active_among (c.crafts.ensures.value ∙ ap (λ (p : Parts). p.crafts) enc) in
     let pair = c.nearest_pair-pair.ensures.value ∙ ap nearest_pair enc in
     let below = c.panels_height.ensures.value ∙ ap panels_height pair in
@@ -29,5 +34,5 @@ returns g c =
     let of_pair = rw pair at at_top in
     let panels = rw enc at of_pair in
     let last = g.met.S.LineSink.then _ _ _ _ _ legend (g.met.S.LineSink.then _ _ _ _ _ panels (g.met.S.LineSink.nothing _)) in
-    let marks = g.met.S.LineSink.then _ _ _ _ _ c.put_head_section.ensures (g.met.S.LineSink.then _ _ _ _ _ time (g.met.S.LineSink.then _ _ _ _ _ c.put_bands_section.ensures (g.met.S.LineSink.then _ _ _ _ _ altitude (g.met.S.LineSink.then _ _ _ _ _ c.put_messages_section.ensures (g.met.S.LineSink.then _ _ _ _ _ c.put_lanes_section.ensures last))))) in
+    let marks = g.met.S.LineSink.then _ _ _ _ _ top_words (g.met.S.LineSink.then _ _ _ _ _ time (g.met.S.LineSink.then _ _ _ _ _ bands (g.met.S.LineSink.then _ _ _ _ _ altitude (g.met.S.LineSink.then _ _ _ _ _ c.put_messages_section.ensures (g.met.S.LineSink.then _ _ _ _ _ bars last))))) in
     g.met.S.LineSink.then _ _ _ _ _ head (g.met.S.LineSink.then _ _ _ _ _ marks c.end_drawing.ensures)

@@ -3,7 +3,7 @@ use Rattle.std.specs.List.{flat_map}
 use Rattle.air_rules.specs.Journal.{Begins}
 use Rattle.picture.specs.Messages.{arrows_in}
 use Rattle.picture.specs.MessagesDrawn.{arrow_marks}
-use Rattle.picture.proofs.messages.put_messages.Given as goal
+use Rattle.picture.proofs.messages.put_arrows.Given as goal
 
 -- The arrows of the entries so far were put.
 abbrev pub invariant-loop-entry : goal.invariant-loop-entry
