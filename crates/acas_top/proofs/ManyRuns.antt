@@ -1,5 +1,6 @@
 -- What answers `many`.
-use Rattle.std.proofs.Common.{◌≡◌, ◌∙◌, ℕ, ◌+◌, ◌<◌, ◌≤◌, Bool, true, false, List, [], ◌∷◌, ◌++◌, Result, Ok, Err, Vec, ap, ap₂, arith, length, refl, subst, sym}
+use Rattle.std.proofs.Common.{◌≡◌, ◌∙◌, ℕ, ◌+◌, ◌<◌, ◌≤◌, Bool, true, false, cond, List, [], ◌∷◌, ◌++◌, Result, Ok, Err, Vec, ap, ap₂, arith, length, refl, subst, sym}
+use Rattle.std.proofs.lemmas.List.Sums.{sum_by-append}
 use Rattle.std.proofs.lemmas.Slice.Zip.{AllZip-long}
 use Rattle.std.specs.Global.{Global}
 use Rattle.std.specs.List.{AllZip}
@@ -32,9 +33,7 @@ played-append (Played outcome ∷ list) more = ap (λ t. outcome ∷ t) (played-
 played-append (Faulty at code ∷ list) more = played-append list more
 
 faulty-append : (list : List PieceRun) (it : PieceRun) (n : ℕ) → count_by is_faulty (it ∷ []) ≡ n → count_by is_faulty (list ++ it ∷ []) ≡ count_by is_faulty list + n
-faulty-append [] it n is = omega (arith, is)
-faulty-append (Played outcome ∷ list) it n is = faulty-append list it n is
-faulty-append (Faulty at code ∷ list) it n is = let more = faulty-append list it n is in omega (arith, more)
+faulty-append list it n is = sum_by-append (λ (x : PieceRun). cond (is_faulty x) 1 0) list (it ∷ []) ∙ ap (λ k. count_by is_faulty list + k) is
 
 append-none : {X : Type 0} (xs : List X) → xs ++ [] ≡ xs
 append-none [] = refl

@@ -1,5 +1,5 @@
 // What answers `many`: each of many encounters is played, in threads.
-ghost use Rattle.std.specs.Prelude.{◌≡◌, ◌<◌, ◌≤◌, ◌^◌, IfOk, length};
+ghost use Rattle.std.specs.Prelude.{◌≡◌, ◌-◌, ◌<◌, ◌≤◌, ◌^◌, IfOk, length};
 ghost use Rattle.std.specs.List.{AllZip};
 ghost use Rattle.acas_top.specs.Answers.{AnswersPlain};
 ghost use Rattle.acas_top.specs.Given.{answer_status, answer_text};
