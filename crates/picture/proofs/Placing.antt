@@ -602,32 +602,32 @@ good-arrows e J l few = all-over (IsTimely e) (Good (lanes_of e)) (arrow_marks e
 
 -- ---- messages that were lost or spoilt
 
-third-most : (from to : ℕ) → third_of from to ≤ 400
-third-most from to = elim (cases_Bool (nat_lt 1200 (to - from))) [
-  | inl met ↦ subst (λ (n : ℕ). n ≤ 400) (sym (cond-true (nat_lt 1200 (to - from)) 400 ((to - from) / 3) met)) (omega arith)
+third-most : (from to : ℕ) → third_of from to ≤ 320
+third-most from to = elim (cases_Bool (nat_lt 960 (to - from))) [
+  | inl met ↦ subst (λ (n : ℕ). n ≤ 320) (sym (cond-true (nat_lt 960 (to - from)) 320 ((to - from) / 3) met)) (omega arith)
   | inr unmet ↦
-      (let most = ltb-false 1200 (to - from) unmet in
-      subst (λ (n : ℕ). n ≤ 400) (sym (cond-false (nat_lt 1200 (to - from)) 400 ((to - from) / 3) unmet)) (omega (arith, most)))
+      (let most = ltb-false 960 (to - from) unmet in
+      subst (λ (n : ℕ). n ≤ 320) (sym (cond-false (nat_lt 960 (to - from)) 320 ((to - from) / 3) unmet)) (omega (arith, most)))
 ]
 
-lost-most : (shaft : Shaft) → lost_y shaft ≤ shaft.tail_y + 400
+lost-most : (shaft : Shaft) → lost_y shaft ≤ shaft.tail_y + 320
 unfolding lost_y
 lost-most shaft =
     let down = third-most shaft.tail_y shaft.tip_y in
     let below = shaft.tail_y + third_of shaft.tail_y shaft.tip_y in
     let above_it = shaft.tail_y - third_of shaft.tip_y shaft.tail_y in
     elim (cases_Bool (nat_lt shaft.tail_y shaft.tip_y)) [
-      | inl met ↦ subst (λ (n : ℕ). n ≤ shaft.tail_y + 400) (sym (cond-true (nat_lt shaft.tail_y shaft.tip_y) below above_it met)) (omega (arith, down))
-      | inr unmet ↦ subst (λ (n : ℕ). n ≤ shaft.tail_y + 400) (sym (cond-false (nat_lt shaft.tail_y shaft.tip_y) below above_it unmet)) (omega arith)
+      | inl met ↦ subst (λ (n : ℕ). n ≤ shaft.tail_y + 320) (sym (cond-true (nat_lt shaft.tail_y shaft.tip_y) below above_it met)) (omega (arith, down))
+      | inr unmet ↦ subst (λ (n : ℕ). n ≤ shaft.tail_y + 320) (sym (cond-false (nat_lt shaft.tail_y shaft.tip_y) below above_it unmet)) (omega arith)
     ]
 
 good-stroke : (lanes x y p q : ℕ) (title : List ℕ) → lanes ≤ 16 → x ≤ 20000 → y ≤ page_height lanes → p ≤ 20000 → q ≤ page_height lanes → Good lanes (stroke (point_at x y) (point_at p q) title)
 good-stroke lanes x y p q title few a b c d = good-line lanes x y p q (line_paint ink 40) title (omega arith) few a b c d
 
-good-cross-at : (lanes x y : ℕ) (title : List ℕ) → lanes ≤ 16 → x + 90 ≤ 20000 → y + 90 ≤ page_height lanes → AllByRecursion (Good lanes) (cross_at x y title)
+good-cross-at : (lanes x y : ℕ) (title : List ℕ) → lanes ≤ 16 → x + 70 ≤ 20000 → y + 70 ≤ page_height lanes → AllByRecursion (Good lanes) (cross_at x y title)
 good-cross-at lanes x y title few right low = (
-  good-stroke lanes (x - 90) (y - 90) (x + 90) (y + 90) title few (omega arith) (omega arith) right low,
-  (good-stroke lanes (x - 90) (y + 90) (x + 90) (y - 90) title few (omega arith) low right (omega arith), tt),
+  good-stroke lanes (x - 70) (y - 70) (x + 70) (y + 70) title few (omega arith) (omega arith) right low,
+  (good-stroke lanes (x - 70) (y + 70) (x + 70) (y - 70) title few (omega arith) low right (omega arith), tt),
 )
 
 good-cross : (lanes : ℕ) (shaft : Shaft) (title : List ℕ) → lanes ≤ 16 → IsNear lanes shaft → AllByRecursion (Good lanes) (cross_marks shaft title)
@@ -635,8 +635,8 @@ good-cross lanes shaft title few n =
     let tail = n.tail in
     let begins = n.begins in
     let most = lost-most shaft in
-    let right : shaft.tail_x + 90 ≤ 20000 = omega (arith, tail) in
-    let low : lost_y shaft + 90 ≤ page_height lanes = omega (arith, most, begins) in
+    let right : shaft.tail_x + 70 ≤ 20000 = omega (arith, tail) in
+    let low : lost_y shaft + 70 ≤ page_height lanes = omega (arith, most, begins) in
     (good-stroke lanes shaft.tail_x shaft.tail_y shaft.tail_x (lost_y shaft) title few (omega (arith, tail)) (omega (arith, begins)) (omega (arith, tail)) (omega (arith, low)), good-cross-at lanes shaft.tail_x (lost_y shaft) title few right low)
 
 good-hollow : (lanes : ℕ) (shaft : Shaft) (title : List ℕ) → lanes ≤ 16 → IsNear lanes shaft → AllByRecursion (Good lanes) (hollow_marks shaft title)

@@ -40,10 +40,10 @@ row_title sender receiver sign sent =
 
 -- ---- where a lost message ends
 
--- A third of the way from its sender to its receiver, and at most 400 from its sender. So no lane between the two hides
+-- A third of the way from its sender to its receiver, and at most 320 from its sender. So no lane between the two hides
 -- it.
 abbrev pub third_of : ℕ → ℕ → ℕ
-third_of from to = if nat_lt 1200 (to - from) then 400 else (to - from) / 3
+third_of from to = if nat_lt 960 (to - from) then 320 else (to - from) / 3
 
 -- How far down: below the sender where the receiver stands below, else above it.
 unfoldable pub lost_y : Shaft → ℕ
@@ -56,7 +56,7 @@ stroke from to title = figure (shapes.Segment from to) (line_paint ink 40) title
 
 -- Two strokes that cross each other.
 abbrev pub cross_at : ℕ → ℕ → List ℕ → List Mark
-cross_at x y title = stroke (point_at (x - 90) (y - 90)) (point_at (x + 90) (y + 90)) title ∷ stroke (point_at (x - 90) (y + 90)) (point_at (x + 90) (y - 90)) title ∷ []
+cross_at x y title = stroke (point_at (x - 70) (y - 70)) (point_at (x + 70) (y + 70)) title ∷ stroke (point_at (x - 70) (y + 70)) (point_at (x + 70) (y - 70)) title ∷ []
 
 -- A line that ends in a cross.
 abbrev pub cross_marks : Shaft → List ℕ → List Mark

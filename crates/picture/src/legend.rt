@@ -54,14 +54,7 @@ fn sample_shaft(x: u32, y: u32) -> Shaft
 }
 
 // Puts a sign and what it means.
-fn put_sample<D: Drawing>(
-    bottom: u32,
-    x: u32,
-    y: u32,
-    sign: Sign,
-    words: &str,
-    drawing: &mut D,
-)
+fn put_sample<D: Drawing>(bottom: u32, x: u32, y: u32, sign: Sign, words: &str, drawing: &mut D)
     requires bottom { bottom ≤ 20560 }
     requires left { 2000 ≤ x }
     requires right { x ≤ 17000 }
@@ -91,7 +84,14 @@ pub(crate) fn put_legend<D: Drawing>(lanes: u32, drawing: &mut D)
     put_item(bottom, 8_400, Advised::Down, "down", drawing);
     put_item(bottom, 11_600, Advised::Both, "up and down", drawing);
     put_sample(bottom, 14_900, bottom + 1_160, Sign::Cross, "lost", drawing);
-    put_sample(bottom, 16_800, bottom + 1_090, Sign::HollowHead, "spoilt", drawing);
+    put_sample(
+        bottom,
+        16_800,
+        bottom + 1_090,
+        Sign::HollowHead,
+        "spoilt",
+        drawing,
+    );
     put_words(
         point_at(2_000, bottom + 1_850),
         260,

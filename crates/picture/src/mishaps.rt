@@ -69,12 +69,7 @@ fn row_from(
 }
 
 // The row that begins with the message that the entry at a position sends.
-fn row_of(
-    deliveries: &Deliveries,
-    sign: Sign,
-    at: u32,
-    entry: &EntryRef<'_>,
-) -> Option<SentRow>
+fn row_of(deliveries: &Deliveries, sign: Sign, at: u32, entry: &EntryRef<'_>) -> Option<SentRow>
     requires { slice_get (reverse deliveries.now.journal) at ≡ Some (entry_of entry.now) }
     ensures value { result ≡ row_of deliveries.now.encounter deliveries.now.journal sign (read_of deliveries.now.journal at) (entry_of entry.now) }
     ensures fits { IfSome result (λ sent. IsSentRow deliveries.now.encounter sent) }

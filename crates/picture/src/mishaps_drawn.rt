@@ -72,17 +72,17 @@ fn row_title(sender: Address, receiver: Address, sign: Sign, sent: SentRow) -> L
 
 fn third_of(from: u32, to: u32) -> u32
     ensures value { result ≡ third_of from to }
-    ensures few { result ≤ 400 }
+    ensures few { result ≤ 320 }
 {
     let way = to.saturating_sub(from);
-    if way > 1_200 { 400 } else { way / 3 }
+    if way > 960 { 320 } else { way / 3 }
 }
 
 #[tactic(auto, unfolding(crate::specs::MishapsDrawn::lost_y))]
 fn lost_y(shaft: Shaft) -> u32
     requires { IsShaft shaft }
     ensures value { result ≡ lost_y shaft }
-    ensures most { result ≤ 23400 }
+    ensures most { result ≤ 23320 }
 {
     if shaft.tail_y < shaft.tip_y {
         shaft.tail_y + third_of(shaft.tail_y, shaft.tip_y)
@@ -109,17 +109,17 @@ fn put_cross_at<D: Drawing>(x: u32, y: u32, title: &Line, drawing: &mut D)
     requires title { length title.now ≤ LABEL_BYTES }
     ensures { D.drew drawing.old drawing.new (cross_at x y title.now) }
 {
-    let left = x.saturating_sub(90);
-    let high = y.saturating_sub(90);
+    let left = x.saturating_sub(70);
+    let high = y.saturating_sub(70);
     put_stroke(
         point_at(left, high),
-        point_at(x + 90, y + 90),
+        point_at(x + 70, y + 70),
         title,
         drawing,
     );
     put_stroke(
-        point_at(left, y + 90),
-        point_at(x + 90, high),
+        point_at(left, y + 70),
+        point_at(x + 70, high),
         title,
         drawing,
     );
@@ -214,13 +214,7 @@ fn put_count<D: Drawing>(shaft: Shaft, row: Row, title: &Line, drawing: &mut D)
     put_over(at, 220, &count_text(row), title, drawing);
 }
 
-fn put_titled<D: Drawing>(
-    sign: Sign,
-    sent: SentRow,
-    shaft: Shaft,
-    title: &Line,
-    drawing: &mut D,
-)
+fn put_titled<D: Drawing>(sign: Sign, sent: SentRow, shaft: Shaft, title: &Line, drawing: &mut D)
     requires order { sent.row.first ≤ sent.row.last }
     requires few { sent.row.last ≤ 600 }
     requires shaft { IsShaft shaft }

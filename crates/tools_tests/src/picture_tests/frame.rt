@@ -1,5 +1,7 @@
 // Expected values: as in picture_tests.rt. What stands around the panels: the head, the axis of time, and the legend.
-use super::marks::{BLACK, DOWN, FRAME, GRID, HATCHED, Page, Paint, TRAFFIC, UP, drawn, edged, filled};
+use super::marks::{
+    BLACK, DOWN, FRAME, GRID, HATCHED, Page, Paint, TRAFFIC, UP, drawn, edged, filled,
+};
 use std::alloc::AllocError;
 
 const PATTERN: &str =
@@ -97,11 +99,11 @@ fn add_lost_sample(page: &mut Page) -> Result<(), AllocError> {
     let stroke = drawn(BLACK, 40, "");
     let top = page.low(8280);
     let middle = page.low(8413);
-    let high = page.low(8323);
-    let low = page.low(8503);
+    let high = page.low(8343);
+    let low = page.low(8483);
     page.line((14900, top), (14900, middle), stroke, "")?;
-    page.line((14810, high), (14990, low), stroke, "")?;
-    page.line((14810, low), (14990, high), stroke, "")
+    page.line((14830, high), (14970, low), stroke, "")?;
+    page.line((14830, low), (14970, high), stroke, "")
 }
 
 // A line of dashes that ends in a hollow head.
@@ -109,12 +111,7 @@ fn add_spoilt_sample(page: &mut Page) -> Result<(), AllocError> {
     let top = page.low(8210);
     let neck = page.low(8430);
     let tip = page.low(8610);
-    page.line(
-        (16800, top),
-        (16800, neck),
-        drawn(BLACK, 40, "100 70"),
-        "",
-    )?;
+    page.line((16800, top), (16800, neck), drawn(BLACK, 40, "100 70"), "")?;
     page.corners(
         [(16710, neck), (16890, neck), (16800, tip)],
         drawn(BLACK, 30, ""),

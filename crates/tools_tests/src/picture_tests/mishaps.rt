@@ -36,12 +36,7 @@ fn lost_back(number: u16) -> Fate {
 }
 
 // How many messages a row has, written in the middle of a place.
-fn add_count(
-    page: &mut Page,
-    at: (u32, u32),
-    count: &str,
-    title: &str,
-) -> Result<(), AllocError> {
+fn add_count(page: &mut Page, at: (u32, u32), count: &str, title: &str) -> Result<(), AllocError> {
     page.words(
         at,
         "font-size=\"220\" text-anchor=\"middle\" fill=\"#FFFFFF\" stroke=\"#FFFFFF\" stroke-width=\"70\"",
@@ -59,10 +54,10 @@ fn add_count(
 // A line of a third of the way to the other lane, and the cross at its end.
 fn add_cross(page: &mut Page, from: (u32, u32), y: u32, title: &str) -> Result<(), AllocError> {
     let stroke = drawn(BLACK, 40, "");
-    let left = from.0.saturating_sub(90);
-    let right = from.0.saturating_add(90);
-    let high = y.saturating_sub(90);
-    let low = y.saturating_add(90);
+    let left = from.0.saturating_sub(70);
+    let right = from.0.saturating_add(70);
+    let high = y.saturating_sub(70);
+    let low = y.saturating_add(70);
     page.line(from, (from.0, y), stroke, title)?;
     page.line((left, high), (right, low), stroke, title)?;
     page.line((left, low), (right, high), stroke, title)
@@ -155,9 +150,11 @@ fn has(
     spoilt: usize,
 ) -> Result<bool, Fail> {
     let text = pictured(alloc, &meeting(alloc, fates)?)?;
-    Ok(count_of(&text, marks) == 1
-        && count_of(&text, b" lost, cycle ") == lost
-        && count_of(&text, b" spoilt, cycle ") == spoilt)
+    Ok(
+        count_of(&text, marks) == 1
+            && count_of(&text, b" lost, cycle ") == lost
+            && count_of(&text, b" spoilt, cycle ") == spoilt,
+    )
 }
 
 // Whether the picture has no such mark.
@@ -176,9 +173,11 @@ pub fn marks_lost_rows(alloc: Global) -> Result<bool, Fail> {
         lost_back(5),
         lost_back(6),
     ];
-    Ok(has(alloc, &front, three(alloc)?.bytes(), 5, 0)?
-        && has(alloc, &apart, odd(alloc)?.bytes(), 9, 0)?
-        && has(alloc, &back, last_five(alloc)?.bytes(), 5, 0)?)
+    Ok(
+        has(alloc, &front, three(alloc)?.bytes(), 5, 0)?
+            && has(alloc, &apart, odd(alloc)?.bytes(), 9, 0)?
+            && has(alloc, &back, last_five(alloc)?.bytes(), 5, 0)?,
+    )
 }
 
 pub fn marks_spoilt_rows(alloc: Global) -> Result<bool, Fail> {
