@@ -1,14 +1,14 @@
 -- The first piece of a text, where its lines are cut off one after the other.
-use Rattle.std.proofs.Common.{◌≡◌, ◌∙◌, ℕ, ◌+◌, ◌-◌, ◌<◌, ◌≤◌, Bool, true, false, List, [], ◌∷◌, ◌++◌, length, take, drop, refl, sym, ap, arith, subst, append_assoc, length-append, inl, inr}
+use Rattle.std.proofs.Common.{◌≡◌, ◌∙◌, ℕ, ◌+◌, ◌<◌, ◌≤◌, Bool, true, false, List, [], ◌∷◌, ◌++◌, length, take, drop, refl, sym, ap, arith, subst, append_assoc, length-append, inl, inr}
 use Rattle.std.specs.Prelude.{◌==◌, ◌||◌, not}
 use Rattle.std.specs.List.{AllByRecursion, list_any}
 use Rattle.std.proofs.lemmas.Bool.{false≢true}
 use Rattle.std.proofs.lemmas.List.{append-nil, append_cancel_right, drop_at, take_at}
 use Rattle.csv.specs.Reading.{strip_bom}
-use Rattle.fault_text.specs.Lines.{EndsLine, IsFirstLine, ends_before, file_lines, is_written, lines_after}
+use Rattle.fault_text.specs.Lines.{EndsLine, IsFirstLine, file_lines, is_written, lines_after}
 use Rattle.fault_text.proofs.FirstLine.{is-blank, is-no-blank}
 use Rattle.fault_text.proofs.FirstPart.{has-byte, longer-end}
-use Rattle.pieces.specs.Pieces.{EndsOnce, HasNoEnd, IsFirst, IsSize, IsUnended, has_record, is_end}
+use Rattle.pieces.specs.Pieces.{HasNoEnd, IsFirst, IsSize, has_record, is_end}
 use Rattle.pieces.proofs.Joints.{IsJoint, joint-lines, joint-of, skipped, strip-joint}
 
 -- Lines of which none is an end were cut off.

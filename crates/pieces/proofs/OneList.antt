@@ -1,13 +1,12 @@
 -- A text is cut into one list of pieces at most.
-use Rattle.std.proofs.Common.{◌≡◌, ◌∙◌, ℕ, ◌+◌, ◌<◌, ◌≤◌, Bool, true, false, List, [], ◌∷◌, ◌++◌, length, take, drop, refl, sym, ap, ap₂, arith, subst, append_assoc, length-append, inl, inr, ◌⊎◌}
+use Rattle.std.proofs.Common.{◌≡◌, ◌∙◌, ℕ, ◌+◌, ◌<◌, Bool, true, false, List, [], ◌∷◌, ◌++◌, length, take, drop, refl, sym, ap, ap₂, arith, subst, append_assoc, length-append, inl, inr, ◌⊎◌}
 use Rattle.std.specs.Prelude.{◌||◌}
-use Rattle.std.specs.List.{AllByRecursion, list_any}
+use Rattle.std.specs.List.{list_any}
 use Rattle.std.proofs.lemmas.Bool.{cases_lt, false≢true}
-use Rattle.std.proofs.lemmas.List.{append-nil, append_cancel_left, drop_at, take-append-drop, take-append-le, take_at}
+use Rattle.std.proofs.lemmas.List.{append-nil, append_cancel_left, take-append-drop, take-append-le, take_at}
 use Rattle.fault_text.specs.Lines.{EndsLine, file_lines, is_written, lines_after}
 use Rattle.pieces.specs.Pieces.{AreCut, EndsOnce, HasNoEnd, IsFirst, IsUnended, has_record, is_end}
 use Rattle.pieces.proofs.Joints.{file-joint, some-line}
-use Rattle.pieces.proofs.FirstPiece.{any-append}
 
 abbrev head : List ℕ → List (List ℕ) → List ℕ
 head other [] = other

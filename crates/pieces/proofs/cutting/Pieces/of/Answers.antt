@@ -1,8 +1,5 @@
-use Rattle.std.proofs.Common.{◌∷◌, ◌++◌, [], List, drop, length, subst, sym}
 use Rattle.std.proofs.lemmas.List.{take_rest}
-use Rattle.pieces.specs.Pieces.{AreCut, has_record}
-use Rattle.pieces.specs.declared.cutting.Range.{Range}
-use Rattle.pieces.proofs.Rows.{IsCutOff, cut-all, later}
+use Rattle.pieces.proofs.Rows.{cut-all, later}
 use Rattle.pieces.proofs.cutting.Pieces.of.Goals as goal
 
 pub loop-size-preserved : goal.loop-size-preserved
