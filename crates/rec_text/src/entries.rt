@@ -12,7 +12,7 @@ ghost use Rattle.air_journal.specs.EntryRefs.{entry_of};
 ghost use Rattle.air_journal.specs.Ranges.{IsEntry};
 ghost use Rattle.rec_text.specs.Entries.{entry_line, entry_lines, outcome};
 
-use acas_base::{CRAFTS, Cell, Cells};
+use acas_base::{CRAFTS, Cells};
 use acas_lines::LineSink;
 use acas_text::Line;
 use advisory_report::{CELL_BYTES, add_cell};
@@ -25,21 +25,6 @@ fn outcome_letter(good: bool) -> &'static str
     if good { "g" } else { "b" }
 }
 
-// Adds a comma and the text of a cell. Most cells are Clear: theirs is added in one piece.
-fn add_next_cell(line: &mut Line, cell: &Cell)
-    requires room { length line.old + CELL_BYTES + 1 ≤ LINE_BYTES }
-    ensures added { line.new ≡ line.old ++ 44 ∷ cell_text cell.now }
-    ensures short { length line.new ≤ length line.old + CELL_BYTES + 1 }
-{
-    match cell {
-        Cell::Clear => line.text(",-"),
-        Cell::Traffic | Cell::Ra(_) => {
-            line.text(",");
-            add_cell(line, cell);
-        }
-    }
-}
-
 // Adds the cells for the first `count` aircraft, each after a comma.
 fn add_cells(line: &mut Line, cells: &Cells, count: u8)
     requires count { count ≤ CRAFTS }
@@ -48,7 +33,8 @@ fn add_cells(line: &mut Line, cells: &Cells, count: u8)
     ensures short { length line.new ≤ length line.old + (CELL_BYTES + 1) * CRAFTS }
 {
     for place in 0..usize::from(count) {
-        add_next_cell(line, &cells.list[place]);
+        line.text(",");
+        add_cell(line, &cells.list[place]);
     }
 }
 
