@@ -28,16 +28,37 @@ fn words_of<R: Env + Alloc<A = Global>>(rt: &R) -> io::Result<Vec<String>> {
     Ok(words)
 }
 
-// The message on standard error.
+// What is written on standard error where the words are no command. It is in pieces, since a long text takes minutes to
+// prove.
+const USAGE: [&str; 5] = [
+    "usage: acas serial | play | tracks | fly ADDRESS .. | vary alt|x|y|late ",
+    "ADDRESS FIRST COUNT STEP | vary lose | vary swap | many | audit | sum | ",
+    "gen NUMBER CRAFTS CYCLES | reports | sweep NUMBER COUNT CRAFTS CYCLES | ",
+    "response | watch | resume | why | places | messages | summary | ",
+    "picture | compare | explain | decode WORD | --help | --version",
+];
+
+// The message on standard error, but for the usage.
 fn message(status: Status) -> &'static str {
     match status {
-        Status::Usage =>
-            "usage: acas serial | play | tracks | fly ADDRESS .. | vary alt|x|y|late ADDRESS FIRST COUNT STEP | vary lose | vary swap | many | audit | sum | gen NUMBER CRAFTS CYCLES | reports | sweep NUMBER COUNT CRAFTS CYCLES | response | watch | resume | why | places | messages | summary | picture | compare | explain | decode WORD | --help | --version",
         Status::ReadFault => "read fault",
         Status::WriteFault => "write fault",
         Status::TooLong => "input too long",
         Status::OutOfMemory => "out of memory",
-        Status::Done | Status::Refused | Status::Wrong => "",
+        Status::Done | Status::Refused | Status::Wrong | Status::Usage => "",
+    }
+}
+
+// Writes the message of a status on standard error, where it has one.
+fn tell(rt: &HostRuntime, status: Status) {
+    if status == Status::Usage {
+        let [one, two, three, four, five] = USAGE;
+        let _ = eprintln!(rt; "{one}{two}{three}{four}{five}");
+        return;
+    }
+    let text = message(status);
+    if !text.is_empty() {
+        let _ = eprintln!(rt; "{text}");
     }
 }
 
@@ -64,9 +85,6 @@ fn main(rt: HostRuntime) -> ExitCode {
             }
         }
     };
-    let text = message(status);
-    if !text.is_empty() {
-        let _ = eprintln!(rt; "{text}");
-    }
+    tell(&rt, status);
     ExitCode::from(status.code())
 }
