@@ -5,8 +5,10 @@ use Rattle.std.specs.List.{flat_map, range_with_len}
 use Rattle.acas_base.specs.Encounter.{Parts}
 use Rattle.acas_text.specs.Hex.{hex}
 use Rattle.air_journal.specs.Airs.{address_of}
+use Rattle.labels.specs.Labels.{LabelWords, name_of}
 use Rattle.picture.specs.Heights.{axis_of, height_in, height_of}
 use Rattle.picture.specs.Layout.{course_area, course_bottom, course_height}
+use Rattle.page_marks.specs.Frame.{dot_mark}
 use Rattle.page_marks.specs.Places.{point_at}
 use Rattle.page_marks.specs.Paints.{ink, letters, line_paint}
 use Rattle.picture.specs.declared.span.Span.{Span}
@@ -49,17 +51,21 @@ course_points e own = map (course_point e own) (range_with_len 1 e.cycles)
 unfoldable pub name_x : ℕ → ℕ
 name_x own = if own % 2 == 0 then 17900 else 18950
 
--- A line through its points, and its address beside the last one.
-abbrev pub named_course : Parts → ℕ → ℕ → List Mark
-named_course e own address =
-    traced outlines.Open (course_points e own) (course_paint own) (hex 6 address)
-    ∷ worded (letters (point_at (name_x own) (course_y e own e.cycles + 80)) 240 anchors.Start weights.Regular) (hex 6 address) [] ∷ []
+-- A line through the points of an aircraft. It is a dot where the run has one cycle.
+unfoldable pub course_line : Parts → ℕ → List ℕ → List Mark
+course_line e own title = if e.cycles == 1 then dot_mark ink (course_point e own 1) title ∷ [] else traced outlines.Open (course_points e own) (course_paint own) title ∷ []
 
-unfoldable pub course_marks : Parts → ℕ → List Mark
-course_marks e own = named_course e own (address_of e own)
+-- The line, and beside its end what the aircraft is called.
+abbrev pub named_course : Parts → ℕ → ℕ → List ℕ → List Mark
+named_course e own address name =
+    course_line e own (hex 6 address)
+    ++ worded (letters (point_at (name_x own) (course_y e own e.cycles + 80)) 240 anchors.Start weights.Regular) name [] ∷ []
 
-abbrev pub courses : Parts → List Mark
-courses e = flat_map (course_marks e) (range_with_len 0 (length e.crafts))
+unfoldable pub course_marks : LabelWords → Parts → ℕ → List Mark
+course_marks it e own = named_course e own (address_of e own) (name_of it (address_of e own))
+
+abbrev pub courses : LabelWords → Parts → List Mark
+courses it e = flat_map (course_marks it e) (range_with_len 0 (length e.crafts))
 
 -- An end of the axis, in ft.
 unfoldable pub height_text : ℤ → List ℕ
@@ -71,5 +77,5 @@ axis_marks axis =
     ∷ worded (letters (point_at 1880 1720) 260 anchors.End weights.Regular) (height_text axis.high) []
     ∷ worded (letters (point_at 1880 4700) 260 anchors.End weights.Regular) (height_text axis.low) [] ∷ []
 
-abbrev pub altitude_marks : Parts → List Mark
-altitude_marks e = axis_marks (axis_of e) ++ courses e
+abbrev pub altitude_marks : LabelWords → Parts → List Mark
+altitude_marks it e = axis_marks (axis_of e) ++ courses it e

@@ -1,4 +1,4 @@
--- The lanes: for each aircraft that advises, its address, a line, and a bar for each of its rows of cycles.
+-- The lanes: for each aircraft that advises, what it is called, a line, and a bar for each of its rows of cycles.
 use Rattle.std.specs.Prelude.{ℕ, ◌+◌, ◌-◌, ◌*◌, ◌/◌, ◌≤◌, Bool, if◌then◌else◌, nat_le, List, [], ◌∷◌, ◌++◌, codes, length, Option, Some, None, slice_get}
 use Rattle.std.specs.Fmt.{decimal}
 use Rattle.std.specs.List.{flat_map, range_with_len}
@@ -12,6 +12,7 @@ use Rattle.advisory_report.specs.Composite.{word_of}
 use Rattle.advisory_report.specs.Phrases.{has_advice}
 use Rattle.advisory_report.specs.declared.composite.Composite.{Composite}
 use Rattle.equal_rows.specs.declared.row.Row.{Row}
+use Rattle.labels.specs.Labels.{LabelWords, name_of}
 use Rattle.picture.specs.Layout.{lane_base, lane_of}
 use Rattle.page_marks.specs.Places.{area_at, point_at}
 use Rattle.page_marks.specs.Paints.{box_marks, grid, halo, letters, line_paint}
@@ -119,20 +120,20 @@ row_marks e journal own lane address row = bar_marks e.cycles lane address (show
 unfoldable pub bars : Parts → List Entry → ℕ → ℕ → ℕ → List Mark
 bars e journal own lane address = flat_map (row_marks e journal own lane address) (shown_rows journal e.cycles own)
 
--- The line on which the bars of a lane stand, and the address.
-abbrev pub lane_head : ℕ → ℕ → List Mark
-lane_head lane address =
+-- The line on which the bars of a lane stand, and what the aircraft is called.
+abbrev pub lane_head : ℕ → List ℕ → List Mark
+lane_head lane name =
     figure (shapes.Segment (point_at 2000 (lane_base lane)) (point_at 17800 (lane_base lane))) (line_paint grid 15) []
-    ∷ worded (letters (point_at 1880 (lane_base lane)) 300 anchors.End weights.Regular) (hex 6 address) [] ∷ []
+    ∷ worded (letters (point_at 1880 (lane_base lane)) 300 anchors.End weights.Regular) name [] ∷ []
 
-abbrev pub lane_marks : Parts → List Entry → ℕ → ℕ → ℕ → List Mark
-lane_marks e journal own lane address = lane_head lane address ++ bars e journal own lane address
+abbrev pub lane_marks : LabelWords → Parts → List Entry → ℕ → ℕ → ℕ → List Mark
+lane_marks it e journal own lane address = lane_head lane (name_of it address) ++ bars e journal own lane address
 
-abbrev pub marks_of_craft : Parts → List Entry → ℕ → CraftSpec → List Mark
-marks_of_craft e journal own craft = if is_active_kind craft.kind then lane_marks e journal own (lane_of e.crafts own) craft.address else []
+abbrev pub marks_of_craft : LabelWords → Parts → List Entry → ℕ → CraftSpec → List Mark
+marks_of_craft it e journal own craft = if is_active_kind craft.kind then lane_marks it e journal own (lane_of e.crafts own) craft.address else []
 
-unfoldable pub craft_marks : Parts → List Entry → ℕ → List Mark
-craft_marks e journal own = option_map_or (marks_of_craft e journal own) (slice_get e.crafts own) []
+unfoldable pub craft_marks : LabelWords → Parts → List Entry → ℕ → List Mark
+craft_marks it e journal own = option_map_or (marks_of_craft it e journal own) (slice_get e.crafts own) []
 
-abbrev pub lanes_marks : Parts → List Entry → List Mark
-lanes_marks e journal = flat_map (craft_marks e journal) (range_with_len 0 (length e.crafts))
+abbrev pub lanes_marks : LabelWords → Parts → List Entry → List Mark
+lanes_marks it e journal = flat_map (craft_marks it e journal) (range_with_len 0 (length e.crafts))

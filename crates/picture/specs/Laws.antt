@@ -16,16 +16,17 @@ use Rattle.deliveries.specs.declared.mishap.Mishap.{Mishap}
 use Rattle.deliveries.specs.declared.rows.Row.{Row as MessageRow}
 use Rattle.equal_rows.specs.Rows.{AreInOrder, IsCovered}
 use Rattle.equal_rows.specs.declared.row.Row.{Row}
+use Rattle.labels.specs.Labels.{LabelWords}
 use Rattle.picture.specs.Altitude.{altitude_y}
 use Rattle.picture.specs.Heights.{HoldsAll, IsOn, axis_of}
-use Rattle.pair_panels.specs.Nearest.{nearest_pair}
 use Rattle.journal_reader.specs.Reading.{read_of}
 use Rattle.picture.specs.Layout.{page_bounds}
 use Rattle.picture.specs.Messages.{arrows}
-use Rattle.picture.specs.Panels.{panels_height}
+use Rattle.picture.specs.Marked.{IsMarked, mark_cycle}
+use Rattle.picture.specs.declared.marked.Marked.{Marked}
 use Rattle.picture.specs.declared.messages_read.Arrow.{Arrow}
 use Rattle.picture.specs.declared.mishaps.SentRow.{SentRow}
-use Rattle.picture.specs.Picture.{lanes_of, picture_text, sections}
+use Rattle.picture.specs.Picture.{below_of, lanes_of, picture_text, sections}
 use Rattle.picture.specs.Shown.{is_alike, shown_in}
 use Rattle.page_marks.specs.Within.{IsSectionWithin}
 use Rattle.svg_text.specs.Xml.{IsDocument}
@@ -116,7 +117,22 @@ pub record AreSentRows (e : Parts) (journal : List Entry) (mishap : Mishap) (row
   pub each : AllByRecursion (IsSentRowOf e journal mishap) rows
   pub once : (sender receiver : ℕ) (row : MessageRow) → IsRow (befallen_of e journal mishap sender receiver) row → length (filter (is_for sender receiver row) rows) ≡ 1
 
+-- The places of marks in the list come one after the other, from a place on.
+abbrev pub ArePlaced : ℕ → List Marked → Type 0
+ArePlaced from [] = Unit {0}
+ArePlaced from (marked ∷ rest) = (from ≤ marked.place) × ArePlaced (marked.place + 1) rest
+
+abbrev pub is_at : ℕ → Marked → Bool
+is_at place marked = marked.place == place
+
+-- Each mark that is drawn stands in the list, and has the cycle that its word tells, which is one of the run. They come
+-- in the order of the list, and each mark of the list with such a cycle is exactly one of them.
+pub record AreMarked (it : LabelWords) (cycles : ℕ) (marks : List Marked) : Type 0 where
+  pub each : AllByRecursion (IsMarked it cycles) marks
+  pub in_order : ArePlaced 0 marks
+  pub once : (place : ℕ) → place < length it.marks → 1 ≤ mark_cycle it place → mark_cycle it place ≤ cycles → length (filter (is_at place) marks) ≡ 1
+
 -- All marks lie within the page, and the text is well formed.
-pub record IsSound (e : Parts) (journal : List Entry) : Type 0 where
-  pub within : AllByRecursion (IsSectionWithin (page_bounds (lanes_of e) (panels_height (nearest_pair e)))) (sections e journal)
-  pub formed : IsDocument (picture_text e journal)
+pub record IsSound (it : LabelWords) (e : Parts) (journal : List Entry) : Type 0 where
+  pub within : AllByRecursion (IsSectionWithin (page_bounds (lanes_of e) (below_of it e))) (sections it e journal)
+  pub formed : IsDocument (picture_text it e journal)

@@ -49,6 +49,15 @@ plot_bottom lanes = 5200 + 960 * lanes
 abbrev pub plot_height : ℕ → ℕ
 plot_height lanes = 100 + 960 * lanes
 
+-- Where the panels of a pair begin: below the axis of time.
+abbrev pub panels_top : ℕ → ℕ
+panels_top lanes = 6150 + 960 * lanes
+
+-- How high the legend is. It begins where the panels end.
+abbrev pub legend_height : ℕ
+legend_height = 1600
+
+-- How high the page is without panels and without a list of marks.
 abbrev pub page_height : ℕ → ℕ
 page_height lanes = 7750 + 960 * lanes
 
@@ -56,11 +65,11 @@ page_height lanes = 7750 + 960 * lanes
 abbrev pub plot_area : ℕ → Area
 plot_area lanes = area_at 2000 plot_top 15800 (plot_height lanes)
 
--- The page, with so much below it for panels.
+-- The page, with so much more for panels and for a list of marks.
 abbrev pub frame_of : ℕ → ℕ → Frame
 frame_of lanes below = record { width = page_width; height = page_height lanes + below; window = plot_area lanes }
 
--- What is above the panels.
+-- The page without them.
 abbrev pub bounds_of : ℕ → Bounds
 bounds_of lanes = record { left = 0; top = 0; right = page_width; bottom = page_height lanes }
 

@@ -1,6 +1,5 @@
 -- What the boxes, the signs and the arrows mean.
 use Rattle.std.specs.Prelude.{ℕ, ◌+◌, List, [], ◌∷◌, ◌++◌, codes}
-use Rattle.picture.specs.Layout.{plot_bottom}
 use Rattle.picture.specs.MishapsDrawn.{sign_marks}
 use Rattle.picture.specs.declared.messages_drawn.Shaft.{Shaft}
 use Rattle.picture.specs.declared.mishaps.Sign.{Sign}
@@ -13,18 +12,18 @@ use Rattle.svg_text.specs.Marks.{Mark, worded}
 use Rattle.svg_text.specs.declared.shapes.Anchor.TheVariants as anchors
 use Rattle.svg_text.specs.declared.shapes.Weight.TheVariants as weights
 
--- A box and what it means.
+-- A box and what it means. The legend begins at `top`.
 unfoldable pub item_marks : ℕ → ℕ → Advised → List ℕ → List Mark
-item_marks bottom x advised words =
-    box_marks advised (area_at x (bottom + 1150) 700 280) []
-    ++ worded (letters (point_at (x + 850) (bottom + 1380)) 260 anchors.Start weights.Regular) words [] ∷ []
+item_marks top x advised words =
+    box_marks advised (area_at x (top + 200) 700 280) []
+    ++ worded (letters (point_at (x + 850) (top + 430)) 260 anchors.Start weights.Regular) words [] ∷ []
 
 -- A sign at a place, and what it means.
 abbrev pub sample_shaft : ℕ → ℕ → Shaft
 sample_shaft x y = record { tail_x = x; tail_y = y; tip_x = x; neck_y = y + 220; tip_y = y + 400 }
 
 unfoldable pub sample_marks : ℕ → ℕ → ℕ → Sign → List ℕ → List Mark
-sample_marks bottom x y sign words = sign_marks sign (sample_shaft x y) [] ++ worded (letters (point_at (x + 200) (bottom + 1380)) 260 anchors.Start weights.Regular) words [] ∷ []
+sample_marks top x y sign words = sign_marks sign (sample_shaft x y) [] ++ worded (letters (point_at (x + 200) (top + 430)) 260 anchors.Start weights.Regular) words [] ∷ []
 
 abbrev pub height_words : List ℕ
 height_words = codes "A tall bar: corrective advice. A low bar: preventive advice, or traffic alone."
@@ -33,12 +32,12 @@ abbrev pub arrow_words : List ℕ
 arrow_words = codes "An arrow: a message that changes what is in force, in the colour of the sense that it leaves."
 
 abbrev pub legend_marks : ℕ → List Mark
-legend_marks lanes =
-    item_marks (plot_bottom lanes) 2000 kinds.Traffic (codes "traffic")
-    ++ (item_marks (plot_bottom lanes) 5200 kinds.Up (codes "up")
-    ++ (item_marks (plot_bottom lanes) 8400 kinds.Down (codes "down")
-    ++ (item_marks (plot_bottom lanes) 11600 kinds.Both (codes "up and down")
-    ++ (sample_marks (plot_bottom lanes) 14900 (plot_bottom lanes + 1160) Cross (codes "lost")
-    ++ (sample_marks (plot_bottom lanes) 16800 (plot_bottom lanes + 1090) HollowHead (codes "spoilt")
-    ++ worded (letters (point_at 2000 (plot_bottom lanes + 1850)) 260 anchors.Start weights.Regular) height_words []
-    ∷ worded (letters (point_at 2000 (plot_bottom lanes + 2200)) 260 anchors.Start weights.Regular) arrow_words [] ∷ [])))))
+legend_marks top =
+    item_marks top 2000 kinds.Traffic (codes "traffic")
+    ++ (item_marks top 5200 kinds.Up (codes "up")
+    ++ (item_marks top 8400 kinds.Down (codes "down")
+    ++ (item_marks top 11600 kinds.Both (codes "up and down")
+    ++ (sample_marks top 14900 (top + 210) Cross (codes "lost")
+    ++ (sample_marks top 16800 (top + 140) HollowHead (codes "spoilt")
+    ++ worded (letters (point_at 2000 (top + 900)) 260 anchors.Start weights.Regular) height_words []
+    ∷ worded (letters (point_at 2000 (top + 1250)) 260 anchors.Start weights.Regular) arrow_words [] ∷ [])))))

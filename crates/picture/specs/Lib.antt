@@ -12,6 +12,8 @@ pub mod Messages
 pub mod MessagesDrawn
 pub mod Mishaps
 pub mod MishapsDrawn
+pub mod Marked
+pub mod MarkedDrawn
 pub mod Panels
 pub mod Picture
 pub mod Laws

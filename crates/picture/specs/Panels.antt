@@ -1,4 +1,4 @@
--- The panels of the two aircraft that come nearest, below the legend.
+-- The panels of the two aircraft that come nearest, below the axis of time.
 use Rattle.std.specs.Prelude.{ℕ, ◌+◌, List, [], ◌++◌, Option, Some, None}
 use Rattle.acas_base.specs.Encounter.{Parts}
 use Rattle.pair_panels.specs.Panel.{distance_marks, panel_height}

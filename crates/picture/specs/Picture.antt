@@ -1,14 +1,16 @@
 -- The picture of a recording.
-use Rattle.std.specs.Prelude.{ℕ, List, [], ◌∷◌}
+use Rattle.std.specs.Prelude.{ℕ, ◌+◌, List, [], ◌∷◌}
 use Rattle.acas_base.specs.Encounter.{Parts}
 use Rattle.acas_base.specs.declared.entry.Entry.{Entry}
 use Rattle.acas_lines.specs.Lines.{joined}
+use Rattle.labels.specs.Labels.{LabelWords}
 use Rattle.picture.specs.Altitude.{altitude_marks}
 use Rattle.picture.specs.Bands.{bands_marks}
 use Rattle.picture.specs.Bars.{lanes_marks}
 use Rattle.picture.specs.Head.{description, head_marks, title_text}
-use Rattle.picture.specs.Layout.{active_among, frame_of, page_height}
+use Rattle.picture.specs.Layout.{active_among, frame_of, legend_height, panels_top}
 use Rattle.picture.specs.Legend.{legend_marks}
+use Rattle.picture.specs.MarkedDrawn.{lines_marks, list_height, list_marks}
 use Rattle.picture.specs.MishapsDrawn.{messages_marks}
 use Rattle.picture.specs.Panels.{panel_marks, panels_height}
 use Rattle.picture.specs.Time.{time_marks}
@@ -22,21 +24,33 @@ use Rattle.svg_text.specs.declared.shapes.Clip.TheVariants as clips
 abbrev pub lanes_of : Parts → ℕ
 lanes_of e = active_among e.crafts
 
+-- Where the legend begins, and where the list of marks begins.
+abbrev pub legend_top : Parts → ℕ
+legend_top e = panels_top (lanes_of e) + panels_height (nearest_pair e)
+
+abbrev pub list_top : Parts → ℕ
+list_top e = legend_top e + legend_height
+
 abbrev pub section : List Mark → Section
 section marks = record { clip = clips.Whole; marks = marks }
 
--- The head, the axis of time, over it the bands of advice and the altitudes, the messages and over them the lanes, the
--- legend, and the panels of the nearest pair.
-abbrev pub sections : Parts → List Entry → List Section
-sections e journal =
-    section (head_marks e journal) ∷ section (time_marks e.cycles (lanes_of e)) ∷ section (bands_marks e journal) ∷ section (altitude_marks e) ∷ section (messages_marks e journal) ∷ section (lanes_marks e journal)
-    ∷ section (legend_marks (lanes_of e)) ∷ section (panel_marks (page_height (lanes_of e)) e (nearest_pair e)) ∷ []
+-- The head, the axis of time, and over it the lines of marks, the bands of advice and the altitudes, the messages and
+-- over them the lanes, the panels of the nearest pair, the legend, and the list of marks.
+abbrev pub sections : LabelWords → Parts → List Entry → List Section
+sections it e journal =
+    section (head_marks e journal) ∷ section (time_marks e.cycles it.start (lanes_of e)) ∷ section (lines_marks it e.cycles (lanes_of e)) ∷ section (bands_marks e journal) ∷ section (altitude_marks it e)
+    ∷ section (messages_marks e journal) ∷ section (lanes_marks it e journal) ∷ section (panel_marks (panels_top (lanes_of e)) e (nearest_pair e)) ∷ section (legend_marks (legend_top e))
+    ∷ section (list_marks (list_top e) it e.cycles) ∷ []
 
-abbrev pub page : Parts → Frame
-page e = frame_of (lanes_of e) (panels_height (nearest_pair e))
+-- How much more of the page panels and a list of marks take.
+abbrev pub below_of : LabelWords → Parts → ℕ
+below_of it e = panels_height (nearest_pair e) + list_height it e.cycles
 
-unfoldable pub picture_lines : Parts → List Entry → List (List ℕ)
-picture_lines e journal = drawing_lines (page e) (title_text e) description (sections e journal)
+abbrev pub page : LabelWords → Parts → Frame
+page it e = frame_of (lanes_of e) (below_of it e)
 
-abbrev pub picture_text : Parts → List Entry → List ℕ
-picture_text e journal = joined (picture_lines e journal)
+unfoldable pub picture_lines : LabelWords → Parts → List Entry → List (List ℕ)
+picture_lines it e journal = drawing_lines (page it e) (title_text e) description (sections it e journal)
+
+abbrev pub picture_text : LabelWords → Parts → List Entry → List ℕ
+picture_text it e journal = joined (picture_lines it e journal)

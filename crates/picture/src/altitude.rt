@@ -4,7 +4,7 @@ ghost use Rattle.std.specs.List.{range_with_len};
 ghost use Rattle.acas_base.specs.Ranges.{IsCycle};
 ghost use Rattle.acas_text.specs.Hex.{hex};
 ghost use Rattle.air_journal.specs.Airs.{address_of};
-ghost use Rattle.picture.specs.Altitude.{altitude_marks, altitude_y, axis_marks, course_marks, course_paint, course_point, course_points, course_y, courses, dash_of, height_text, name_x, named_course};
+ghost use Rattle.picture.specs.Altitude.{altitude_marks, altitude_y, axis_marks, course_line, course_marks, course_paint, course_point, course_points, course_y, courses, dash_of, height_text, name_x, named_course};
 ghost use Rattle.picture.specs.Heights.{IsOn, axis_of};
 ghost use Rattle.svg_text.specs.Marks.{traced};
 ghost use Rattle.svg_text.specs.declared.drawing.TheConstants.{LABEL_BYTES};
@@ -16,7 +16,8 @@ use crate::layout::{COURSE_BOTTOM, COURSE_HEIGHT, course_area};
 use crate::span::Span;
 use acas_base::{Address, Encounter};
 use acas_text::Line;
-use page_marks::{ink, point_at, put_line, put_words};
+use labels::Labels;
+use page_marks::{ink, point_at, put_dot, put_line, put_words};
 use plot_axes::{Scale, TimeAxis};
 use svg_text::{Anchor, Dash, Drawing, Fill, Outline, Paint, Point, Shape, Stroke, Weight};
 
@@ -133,13 +134,13 @@ fn name_x(own: u8) -> u32
     if own % 2 == 0 { 17_900 } else { 18_950 }
 }
 
-// Puts the line of an aircraft.
-fn put_line_of<D: Drawing>(
+// Puts the line through the points of an aircraft.
+fn put_trace<D: Drawing>(
     encounter: &Encounter,
     axis: Span,
     time: TimeAxis,
     own: u8,
-    address: &Line,
+    title: &Line,
     drawing: &mut D,
 )
     requires axis { axis ≡ axis_of encounter.now }
@@ -147,12 +148,38 @@ fn put_line_of<D: Drawing>(
     requires high { unsigned_abs axis.high ≤ 401 }
     requires time { time.cycles ≡ encounter.now.cycles }
     requires own { own < length encounter.now.crafts }
-    requires address { length address.now ≤ LABEL_BYTES }
-    ensures { D.drew drawing.old drawing.new (traced outlines.Open (course_points encounter.now own) (course_paint own) address.now ∷ []) }
+    requires title { length title.now ≤ LABEL_BYTES }
+    ensures { D.drew drawing.old drawing.new (traced outlines.Open (course_points encounter.now own) (course_paint own) title.now ∷ []) }
 {
     drawing.begin_points(Outline::Open);
     put_points(encounter, axis, time, own, drawing);
-    drawing.end_points(Outline::Open, course_paint(own), address);
+    drawing.end_points(Outline::Open, course_paint(own), title);
+}
+
+// Puts that line, or a dot.
+#[tactic(auto, unfolding(crate::specs::Altitude::course_line))]
+fn put_line_of<D: Drawing>(
+    encounter: &Encounter,
+    axis: Span,
+    time: TimeAxis,
+    own: u8,
+    title: &Line,
+    drawing: &mut D,
+)
+    requires axis { axis ≡ axis_of encounter.now }
+    requires low { unsigned_abs axis.low ≤ 401 }
+    requires high { unsigned_abs axis.high ≤ 401 }
+    requires time { time.cycles ≡ encounter.now.cycles }
+    requires own { own < length encounter.now.crafts }
+    requires title { length title.now ≤ LABEL_BYTES }
+    ensures { D.drew drawing.old drawing.new (course_line encounter.now own title.now) }
+{
+    if time.cycles == 1 {
+        let point = course_point(encounter, axis, time, own, 1);
+        put_dot(ink(), point, title, drawing);
+    } else {
+        put_trace(encounter, axis, time, own, title, drawing);
+    }
 }
 
 /// The address of an aircraft.
@@ -163,13 +190,14 @@ pub(crate) fn address_of(encounter: &Encounter, own: u8) -> Address
     encounter.crafts()[usize::from(own)].address
 }
 
-// Puts the line of an aircraft, and its address.
+// Puts the line of an aircraft, and what it is called.
 fn put_named<D: Drawing>(
     encounter: &Encounter,
     axis: Span,
     time: TimeAxis,
     own: u8,
     address: Address,
+    name: &Line,
     drawing: &mut D,
 )
     requires axis { axis ≡ axis_of encounter.now }
@@ -177,11 +205,18 @@ fn put_named<D: Drawing>(
     requires high { unsigned_abs axis.high ≤ 401 }
     requires time { time.cycles ≡ encounter.now.cycles }
     requires own { own < length encounter.now.crafts }
-    ensures { D.drew drawing.old drawing.new (named_course encounter.now own address) }
+    requires name { length name.now ≤ LABEL_BYTES }
+    ensures { D.drew drawing.old drawing.new (named_course encounter.now own address name.now) }
 {
     encounter.valid_law();
-    let text = address_text(address);
-    put_line_of(encounter, axis, time, own, &text, drawing);
+    put_line_of(
+        encounter,
+        axis,
+        time,
+        own,
+        &address_text(address),
+        drawing,
+    );
     put_words(
         point_at(
             name_x(own),
@@ -190,13 +225,14 @@ fn put_named<D: Drawing>(
         240,
         Anchor::Start,
         Weight::Regular,
-        &text,
+        name,
         drawing,
     );
 }
 
 #[tactic(auto, unfolding(crate::specs::Altitude::course_marks))]
 fn put_course<D: Drawing>(
+    labels: &Labels<'_>,
     encounter: &Encounter,
     axis: Span,
     time: TimeAxis,
@@ -208,23 +244,30 @@ fn put_course<D: Drawing>(
     requires high { unsigned_abs axis.high ≤ 401 }
     requires time { time.cycles ≡ encounter.now.cycles }
     requires own { own < length encounter.now.crafts }
-    ensures { D.drew drawing.old drawing.new (course_marks encounter.now own) }
+    ensures { D.drew drawing.old drawing.new (course_marks labels.now encounter.now own) }
 {
     let address = address_of(encounter, own);
-    put_named(encounter, axis, time, own, address, drawing);
+    let name = labels.name(address);
+    put_named(encounter, axis, time, own, address, &name, drawing);
 }
 
 // Puts those of all aircraft.
-fn put_courses<D: Drawing>(encounter: &Encounter, axis: Span, time: TimeAxis, drawing: &mut D)
+fn put_courses<D: Drawing>(
+    labels: &Labels<'_>,
+    encounter: &Encounter,
+    axis: Span,
+    time: TimeAxis,
+    drawing: &mut D,
+)
     requires axis { axis ≡ axis_of encounter.now }
     requires low { unsigned_abs axis.low ≤ 401 }
     requires high { unsigned_abs axis.high ≤ 401 }
     requires time { time.cycles ≡ encounter.now.cycles }
-    ensures { D.drew drawing.old drawing.new (courses encounter.now) }
+    ensures { D.drew drawing.old drawing.new (courses labels.now encounter.now) }
 {
     encounter.valid_law();
     for own in 0..encounter.crafts().len() {
-        put_course(encounter, axis, time, own as u8, drawing);
+        put_course(labels, encounter, axis, time, own as u8, drawing);
     }
 }
 
@@ -267,11 +310,16 @@ fn put_axis<D: Drawing>(axis: Span, drawing: &mut D)
 }
 
 /// Puts the altitudes.
-pub(crate) fn put_altitude<D: Drawing>(encounter: &Encounter, time: TimeAxis, drawing: &mut D)
+pub(crate) fn put_altitude<D: Drawing>(
+    labels: &Labels<'_>,
+    encounter: &Encounter,
+    time: TimeAxis,
+    drawing: &mut D,
+)
     requires { time.cycles ≡ encounter.now.cycles }
-    ensures { D.drew drawing.old drawing.new (altitude_marks encounter.now) }
+    ensures { D.drew drawing.old drawing.new (altitude_marks labels.now encounter.now) }
 {
     let axis = axis_of(encounter);
     put_axis(axis, drawing);
-    put_courses(encounter, axis, time, drawing);
+    put_courses(labels, encounter, axis, time, drawing);
 }

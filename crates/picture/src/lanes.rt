@@ -15,6 +15,7 @@ use acas_base::Address;
 use acas_text::Line;
 use air_journal::AirState;
 use equal_rows::Row;
+use labels::Labels;
 use page_marks::{grid, point_at, put_line, put_words};
 use plot_axes::TimeAxis;
 use svg_text::{Anchor, Drawing, Shape, Weight};
@@ -79,10 +80,11 @@ pub(crate) fn address_text(address: Address) -> Line
     line
 }
 
-// Puts the line of a lane, and the address.
-fn put_lane_head<D: Drawing>(lane: u32, address: Address, drawing: &mut D)
-    requires { lane ≤ 16 }
-    ensures { D.drew drawing.old drawing.new (lane_head lane address) }
+// Puts the line of a lane, and what its aircraft is called.
+fn put_lane_head<D: Drawing>(lane: u32, name: &Line, drawing: &mut D)
+    requires lane { lane ≤ 16 }
+    requires name { length name.now ≤ LABEL_BYTES }
+    ensures { D.drew drawing.old drawing.new (lane_head lane name.now) }
 {
     let base = lane_base(lane);
     let line = Shape::Segment {
@@ -95,12 +97,13 @@ fn put_lane_head<D: Drawing>(lane: u32, address: Address, drawing: &mut D)
         300,
         Anchor::End,
         Weight::Regular,
-        &address_text(address),
+        name,
         drawing,
     );
 }
 
 fn put_lane<D: Drawing>(
+    labels: &Labels<'_>,
     state: &AirState,
     axis: TimeAxis,
     own: u8,
@@ -110,24 +113,31 @@ fn put_lane<D: Drawing>(
 )
     requires axis { axis.cycles ≡ state.now.encounter.cycles }
     requires lane { lane ≤ 16 }
-    ensures { D.drew drawing.old drawing.new (lane_marks state.now.encounter state.now.journal own lane address) }
+    ensures { D.drew drawing.old drawing.new (lane_marks labels.now state.now.encounter state.now.journal own lane address) }
 {
-    put_lane_head(lane, address, drawing);
+    put_lane_head(lane, &labels.name(address), drawing);
     put_bars(state, axis, own, lane, address, drawing);
 }
 
 // Puts the lane of an aircraft, where it advises.
 #[tactic(auto, unfolding(crate::specs::Bars::craft_marks))]
-fn put_craft<D: Drawing>(state: &AirState, axis: TimeAxis, own: usize, drawing: &mut D)
+fn put_craft<D: Drawing>(
+    labels: &Labels<'_>,
+    state: &AirState,
+    axis: TimeAxis,
+    own: usize,
+    drawing: &mut D,
+)
     requires axis { axis.cycles ≡ state.now.encounter.cycles }
     requires own { own < length state.now.encounter.crafts }
-    ensures { D.drew drawing.old drawing.new (craft_marks state.now.encounter state.now.journal own) }
+    ensures { D.drew drawing.old drawing.new (craft_marks labels.now state.now.encounter state.now.journal own) }
 {
     state.legal_law();
     let crafts = state.enc().crafts();
     let craft = &crafts[own];
     if craft.kind.is_active() {
         put_lane(
+            labels,
             state,
             axis,
             own as u8,
@@ -139,11 +149,16 @@ fn put_craft<D: Drawing>(state: &AirState, axis: TimeAxis, own: usize, drawing: 
 }
 
 /// Puts all lanes.
-pub(crate) fn put_lanes<D: Drawing>(state: &AirState, axis: TimeAxis, drawing: &mut D)
+pub(crate) fn put_lanes<D: Drawing>(
+    labels: &Labels<'_>,
+    state: &AirState,
+    axis: TimeAxis,
+    drawing: &mut D,
+)
     requires axis { axis.cycles ≡ state.now.encounter.cycles }
-    ensures { D.drew drawing.old drawing.new (lanes_marks state.now.encounter state.now.journal) }
+    ensures { D.drew drawing.old drawing.new (lanes_marks labels.now state.now.encounter state.now.journal) }
 {
     for own in 0..state.enc().crafts().len() {
-        put_craft(state, axis, own, drawing);
+        put_craft(labels, state, axis, own, drawing);
     }
 }

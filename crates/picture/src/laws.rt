@@ -5,7 +5,9 @@ ghost use Rattle.acas_base.specs.declared.entry.Entry.{Entry};
 ghost use Rattle.air_journal.specs.Airs.{air_of};
 ghost use Rattle.air_rules.specs.Rules.{IsLegal};
 ghost use Rattle.deliveries.specs.declared.mishap.Mishap.TheVariants.{Lost, Spoilt};
-ghost use Rattle.picture.specs.Laws.{AreArrows, AreBars, AreCourses, AreSentRows, IsSound};
+ghost use Rattle.labels.specs.Labels.{AreLabels, LabelWords};
+ghost use Rattle.picture.specs.Laws.{AreArrows, AreBars, AreCourses, AreMarked, AreSentRows, IsSound};
+ghost use Rattle.picture.specs.Marked.{all_marked};
 ghost use Rattle.picture.specs.Mishaps.{sent_rows};
 ghost use Rattle.picture.specs.Shown.{shown_rows};
 ghost use Rattle.picture.specs.declared.mishaps.Sign.TheVariants.{Cross, HollowHead};
@@ -36,7 +38,13 @@ pub fn mishaps_law()
     ensures spoilt { (e : Parts) (journal : List Entry) → IsLegal (air_of e) journal → AreSentRows e journal Spoilt (sent_rows e journal HollowHead) }
 {}
 
-/// A law: everything in the picture lies within its page, and its text is well formed.
+/// A law: of the marks of the labels exactly those are drawn whose cycle is one of the run, each once and in the order of
+/// the list.
+pub fn marks_law()
+    ensures { (it : LabelWords) (cycles : ℕ) → AreMarked it cycles (all_marked it cycles) }
+{}
+
+/// A law: everything in the picture lies within its page, and its text is well formed, whatever the labels are.
 pub fn sound_law()
-    ensures { (e : Parts) (journal : List Entry) → IsEncounter e → IsLegal (air_of e) journal → IsSound e journal }
+    ensures { (it : LabelWords) (e : Parts) (journal : List Entry) → AreLabels it → IsEncounter e → IsLegal (air_of e) journal → IsSound it e journal }
 {}

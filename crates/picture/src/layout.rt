@@ -1,6 +1,6 @@
 // Where things stand on the page.
 ghost use Rattle.std.specs.Prelude.{◌≡◌, ◌<◌, ◌≤◌, ◌^◌, length};
-ghost use Rattle.picture.specs.Layout.{active_among, course_area, frame_of, lane_base, lane_of, page_height, plot_area, plot_bottom};
+ghost use Rattle.picture.specs.Layout.{active_among, course_area, frame_of, lane_base, lane_of, page_height, panels_top, plot_area, plot_bottom};
 
 use acas_base::CraftSpec;
 use page_marks::area_at;
@@ -11,6 +11,9 @@ const PAGE_WIDTH: u32 = 20_000;
 
 // Where the lanes begin.
 const PLOT_TOP: u32 = 5_100;
+
+/// How high the legend is.
+pub(crate) const LEGEND_HEIGHT: u32 = 1_600;
 
 /// Where the box of the altitudes begins.
 pub(crate) const COURSE_TOP: u32 = 1_500;
@@ -78,7 +81,16 @@ pub(crate) fn course_area() -> Area
 }
 
 /// Where the panels of a pair begin.
-pub(crate) fn page_height(lanes: u32) -> u32
+pub(crate) fn panels_top(lanes: u32) -> u32
+    requires { lanes ≤ 16 }
+    ensures value { result ≡ panels_top lanes }
+    ensures most { result ≤ 21510 }
+{
+    6_150 + LANE * lanes
+}
+
+// How high the page is without panels and without a list of marks.
+fn page_height(lanes: u32) -> u32
     requires { lanes ≤ 16 }
     ensures value { result ≡ page_height lanes }
     ensures most { result ≤ 23110 }
@@ -86,7 +98,7 @@ pub(crate) fn page_height(lanes: u32) -> u32
     7_750 + LANE * lanes
 }
 
-/// The page, with so much below it for panels.
+/// The page, with so much more for panels and for a list of marks.
 pub(crate) fn frame_of(lanes: u32, below: u32) -> Frame
     requires lanes { lanes ≤ 16 }
     requires below { below ≤ 20000 }

@@ -1,11 +1,9 @@
 // What the boxes, the signs and the arrows mean.
 ghost use Rattle.std.specs.Prelude.{◌≡◌, ◌<◌, ◌≤◌, ◌^◌, length};
-ghost use Rattle.picture.specs.Layout.{plot_bottom};
 ghost use Rattle.picture.specs.Legend.{arrow_words, height_words, item_marks, legend_marks, sample_marks, sample_shaft};
 ghost use Rattle.picture.specs.MessagesDrawn.{IsShaft};
 ghost use Rattle.svg_text.specs.declared.drawing.TheConstants.{LABEL_BYTES};
 
-use crate::layout::plot_bottom;
 use crate::messages_drawn::Shaft;
 use crate::mishaps::Sign;
 use crate::mishaps_drawn::put_sign;
@@ -15,20 +13,20 @@ use page_marks::{Advised, area_at, point_at, put_box, put_words};
 use svg_text::{Anchor, Drawing, Weight};
 
 // Puts a box and what it means.
-fn put_item<D: Drawing>(bottom: u32, x: u32, advised: Advised, words: &str, drawing: &mut D)
-    requires bottom { bottom ≤ 20560 }
+fn put_item<D: Drawing>(top: u32, x: u32, advised: Advised, words: &str, drawing: &mut D)
+    requires top { top ≤ 30000 }
     requires x { x ≤ 20000 }
     requires words { length words.now ≤ LABEL_BYTES }
-    ensures { D.drew drawing.old drawing.new (item_marks bottom x advised words.now) }
+    ensures { D.drew drawing.old drawing.new (item_marks top x advised words.now) }
 {
     put_box(
         advised,
-        area_at(x, bottom + 1_150, 700, 280),
+        area_at(x, top + 200, 700, 280),
         &Line::new(),
         drawing,
     );
     put_words(
-        point_at(x + 850, bottom + 1_380),
+        point_at(x + 850, top + 430),
         260,
         Anchor::Start,
         Weight::Regular,
@@ -40,7 +38,7 @@ fn put_item<D: Drawing>(bottom: u32, x: u32, advised: Advised, words: &str, draw
 fn sample_shaft(x: u32, y: u32) -> Shaft
     requires left { 2000 ≤ x }
     requires right { x ≤ 17000 }
-    requires y { y ≤ 22000 }
+    requires y { y ≤ 31000 }
     ensures value { result ≡ sample_shaft x y }
     ensures near { IsShaft result }
 {
@@ -54,17 +52,17 @@ fn sample_shaft(x: u32, y: u32) -> Shaft
 }
 
 // Puts a sign and what it means.
-fn put_sample<D: Drawing>(bottom: u32, x: u32, y: u32, sign: Sign, words: &str, drawing: &mut D)
-    requires bottom { bottom ≤ 20560 }
+fn put_sample<D: Drawing>(top: u32, x: u32, y: u32, sign: Sign, words: &str, drawing: &mut D)
+    requires top { top ≤ 30000 }
     requires left { 2000 ≤ x }
     requires right { x ≤ 17000 }
-    requires y { y ≤ 22000 }
+    requires y { y ≤ 31000 }
     requires words { length words.now ≤ LABEL_BYTES }
-    ensures { D.drew drawing.old drawing.new (sample_marks bottom x y sign words.now) }
+    ensures { D.drew drawing.old drawing.new (sample_marks top x y sign words.now) }
 {
     put_sign(sign, sample_shaft(x, y), &Line::new(), drawing);
     put_words(
-        point_at(x + 200, bottom + 1_380),
+        point_at(x + 200, top + 430),
         260,
         Anchor::Start,
         Weight::Regular,
@@ -73,27 +71,19 @@ fn put_sample<D: Drawing>(bottom: u32, x: u32, y: u32, sign: Sign, words: &str, 
     );
 }
 
-/// Puts the legend.
-pub(crate) fn put_legend<D: Drawing>(lanes: u32, drawing: &mut D)
-    requires { lanes ≤ 16 }
-    ensures { D.drew drawing.old drawing.new (legend_marks lanes) }
+/// Puts the legend, from `top` downward.
+pub(crate) fn put_legend<D: Drawing>(top: u32, drawing: &mut D)
+    requires { top ≤ 30000 }
+    ensures { D.drew drawing.old drawing.new (legend_marks top) }
 {
-    let bottom = plot_bottom(lanes);
-    put_item(bottom, 2_000, Advised::Traffic, "traffic", drawing);
-    put_item(bottom, 5_200, Advised::Up, "up", drawing);
-    put_item(bottom, 8_400, Advised::Down, "down", drawing);
-    put_item(bottom, 11_600, Advised::Both, "up and down", drawing);
-    put_sample(bottom, 14_900, bottom + 1_160, Sign::Cross, "lost", drawing);
-    put_sample(
-        bottom,
-        16_800,
-        bottom + 1_090,
-        Sign::HollowHead,
-        "spoilt",
-        drawing,
-    );
+    put_item(top, 2_000, Advised::Traffic, "traffic", drawing);
+    put_item(top, 5_200, Advised::Up, "up", drawing);
+    put_item(top, 8_400, Advised::Down, "down", drawing);
+    put_item(top, 11_600, Advised::Both, "up and down", drawing);
+    put_sample(top, 14_900, top + 210, Sign::Cross, "lost", drawing);
+    put_sample(top, 16_800, top + 140, Sign::HollowHead, "spoilt", drawing);
     put_words(
-        point_at(2_000, bottom + 1_850),
+        point_at(2_000, top + 900),
         260,
         Anchor::Start,
         Weight::Regular,
@@ -103,7 +93,7 @@ pub(crate) fn put_legend<D: Drawing>(lanes: u32, drawing: &mut D)
         drawing,
     );
     put_words(
-        point_at(2_000, bottom + 2_200),
+        point_at(2_000, top + 1_250),
         260,
         Anchor::Start,
         Weight::Regular,

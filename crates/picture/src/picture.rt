@@ -8,6 +8,7 @@ ghost use Rattle.picture.specs.Bands.{bands_marks};
 ghost use Rattle.picture.specs.Bars.{lanes_marks};
 ghost use Rattle.picture.specs.Head.{head_marks, title_text};
 ghost use Rattle.picture.specs.Legend.{legend_marks};
+ghost use Rattle.picture.specs.MarkedDrawn.{lines_marks, list_marks};
 ghost use Rattle.picture.specs.MishapsDrawn.{messages_marks};
 ghost use Rattle.picture.specs.Panels.{panel_marks};
 ghost use Rattle.picture.specs.Picture.{picture_text, section};
@@ -19,8 +20,9 @@ use crate::altitude::put_altitude;
 use crate::bands::put_bands;
 use crate::head::{description, put_head, title_text};
 use crate::lanes::put_lanes;
-use crate::layout::{active_among, frame_of, page_height};
+use crate::layout::{LEGEND_HEIGHT, active_among, frame_of, panels_top};
 use crate::legend::put_legend;
+use crate::marked_drawn::{list_height, put_lines, put_list};
 use crate::messages::put_messages;
 use crate::panels::{panels_height, put_panels};
 use crate::time::put_time;
@@ -30,6 +32,7 @@ use acas_lines::{LineSink, Text, write_text};
 use acas_text::Line;
 use air_journal::AirState;
 use deliveries::Deliveries;
+use labels::Labels;
 use pair_panels::{NearPair, nearest_pair};
 use plot_axes::TimeAxis;
 use svg_text::{Clip, begin_drawing, begin_section, end_drawing, end_section};
@@ -47,12 +50,20 @@ fn put_head_section<S: LineSink>(state: &AirState, title: &Line, sink: &mut S)
 }
 
 fn put_time_section<S: LineSink>(axis: TimeAxis, lanes: u32, sink: &mut S)
-    requires axis { axis.start ≡ None }
-    requires lanes { lanes ≤ 16 }
-    ensures { S.took sink.old sink.new (section_lines (section (time_marks axis.cycles lanes))) }
+    requires { lanes ≤ 16 }
+    ensures { S.took sink.old sink.new (section_lines (section (time_marks axis.cycles axis.start lanes))) }
 {
     begin_section(sink, Clip::Whole);
     put_time(axis, lanes, sink);
+    end_section(sink);
+}
+
+fn put_lines_section<S: LineSink>(labels: &Labels<'_>, axis: TimeAxis, lanes: u32, sink: &mut S)
+    requires { lanes ≤ 16 }
+    ensures { S.took sink.old sink.new (section_lines (section (lines_marks labels.now axis.cycles lanes))) }
+{
+    begin_section(sink, Clip::Whole);
+    put_lines(labels, axis, lanes, sink);
     end_section(sink);
 }
 
@@ -65,12 +76,17 @@ fn put_bands_section<S: LineSink>(state: &AirState, axis: TimeAxis, sink: &mut S
     end_section(sink);
 }
 
-fn put_altitude_section<S: LineSink>(encounter: &Encounter, axis: TimeAxis, sink: &mut S)
+fn put_altitude_section<S: LineSink>(
+    labels: &Labels<'_>,
+    encounter: &Encounter,
+    axis: TimeAxis,
+    sink: &mut S,
+)
     requires { axis.cycles ≡ encounter.now.cycles }
-    ensures { S.took sink.old sink.new (section_lines (section (altitude_marks encounter.now))) }
+    ensures { S.took sink.old sink.new (section_lines (section (altitude_marks labels.now encounter.now))) }
 {
     begin_section(sink, Clip::Whole);
-    put_altitude(encounter, axis, sink);
+    put_altitude(labels, encounter, axis, sink);
     end_section(sink);
 }
 
@@ -83,21 +99,17 @@ fn put_messages_section<S: LineSink>(deliveries: &Deliveries, axis: TimeAxis, si
     end_section(sink);
 }
 
-fn put_lanes_section<S: LineSink>(state: &AirState, axis: TimeAxis, sink: &mut S)
+fn put_lanes_section<S: LineSink>(
+    labels: &Labels<'_>,
+    state: &AirState,
+    axis: TimeAxis,
+    sink: &mut S,
+)
     requires axis { axis.cycles ≡ state.now.encounter.cycles }
-    ensures { S.took sink.old sink.new (section_lines (section (lanes_marks state.now.encounter state.now.journal))) }
+    ensures { S.took sink.old sink.new (section_lines (section (lanes_marks labels.now state.now.encounter state.now.journal))) }
 {
     begin_section(sink, Clip::Whole);
-    put_lanes(state, axis, sink);
-    end_section(sink);
-}
-
-fn put_legend_section<S: LineSink>(lanes: u32, sink: &mut S)
-    requires { lanes ≤ 16 }
-    ensures { S.took sink.old sink.new (section_lines (section (legend_marks lanes))) }
-{
-    begin_section(sink, Clip::Whole);
-    put_legend(lanes, sink);
+    put_lanes(labels, state, axis, sink);
     end_section(sink);
 }
 
@@ -120,44 +132,96 @@ fn put_panels_section<S: LineSink>(
     end_section(sink);
 }
 
+fn put_legend_section<S: LineSink>(top: u32, sink: &mut S)
+    requires { top ≤ 30000 }
+    ensures { S.took sink.old sink.new (section_lines (section (legend_marks top))) }
+{
+    begin_section(sink, Clip::Whole);
+    put_legend(top, sink);
+    end_section(sink);
+}
+
+fn put_list_section<S: LineSink>(top: u32, labels: &Labels<'_>, axis: TimeAxis, sink: &mut S)
+    requires top { top ≤ 40000 }
+    requires axis { axis.start ≡ labels.now.start }
+    ensures { S.took sink.old sink.new (section_lines (section (list_marks top labels.now axis.cycles))) }
+{
+    begin_section(sink, Clip::Whole);
+    put_list(top, labels, axis, sink);
+    end_section(sink);
+}
+
 // ---- all of it
 
+// The axis of time.
+fn axis_of(labels: &Labels<'_>, encounter: &Encounter) -> TimeAxis
+    ensures cycles { result.cycles ≡ encounter.now.cycles }
+    ensures start { result.start ≡ labels.now.start }
+{
+    encounter.valid_law();
+    TimeAxis {
+        cycles: encounter.cycles(),
+        start: labels.start(),
+    }
+}
+
+// The axis of cycles, without a clock.
+fn cycles_of(encounter: &Encounter) -> TimeAxis
+    ensures cycles { result.cycles ≡ encounter.now.cycles }
+    ensures start { result.start ≡ None }
+{
+    encounter.valid_law();
+    TimeAxis {
+        cycles: encounter.cycles(),
+        start: None,
+    }
+}
+
 /// The picture of a state, as SVG: a head, an axis of time, the altitude of each aircraft with bands where it
-/// advises, a lane for each aircraft that advises, a legend, and the distances of the two aircraft that come nearest.
-/// In a lane stands a bar for each longest row of cycles with one word of the report, which isn't CLEAR, and one
-/// corrective mark. Between the lanes stands an arrow for each take of a message that changes the complement in force,
-/// a cross for each maximal row of lost messages of two aircraft, and a hollow head for each one of spoilt messages.
-/// The state comes with what became of its messages.
+/// advises, a lane for each aircraft that advises, the distances of the two aircraft that come nearest, and a legend. In
+/// a lane stands a bar for each longest row of cycles with one word of the report, which isn't CLEAR, and one corrective
+/// mark. Between the lanes stands an arrow for each take of a message that changes the complement in force, a cross for
+/// each maximal row of lost messages of two aircraft, and a hollow head for each one of spoilt messages. The state comes
+/// with what became of its messages.
+///
+/// The labels give the clock of the axis of time, what aircraft are called at the lanes and the lines of altitudes, and
+/// marks: each mark of a cycle of the run has a line and a letter there, and a row in a list below the legend.
 #[derive(Drop)]
-pub struct Picture<'a>(pub &'a Deliveries);
+pub struct Picture<'a> {
+    pub deliveries: &'a Deliveries,
+    pub labels: &'a Labels<'a>,
+}
 
 impl Text for Picture<'_> {
     ghost use Rattle.picture.specs.Picture.{picture_lines};
 
-    ghost lines = { λ p. picture_lines p.0.now.encounter p.0.now.journal };
+    ghost lines = { λ p. picture_lines p.labels.now p.deliveries.now.encounter p.deliveries.now.journal };
 
     fn put<S: LineSink>(&self, sink: &mut S) {
-        let deliveries = self.0;
+        let deliveries = self.deliveries;
+        let labels = self.labels;
         let state = deliveries.state();
         state.legal_law();
         let encounter = state.enc();
         let lanes = active_among(encounter.crafts());
-        let axis = TimeAxis {
-            cycles: encounter.cycles(),
-            start: None,
-        };
+        let axis = axis_of(labels, encounter);
         let title = title_text(encounter);
         let pair = nearest_pair(encounter);
-        let frame = frame_of(lanes, panels_height(pair));
+        let panels = panels_height(pair);
+        let frame = frame_of(lanes, panels + list_height(labels, axis.cycles));
         begin_drawing(sink, &frame, &title, &description());
         put_head_section(state, &title, sink);
         put_time_section(axis, lanes, sink);
+        put_lines_section(labels, axis, lanes, sink);
         put_bands_section(state, axis, sink);
-        put_altitude_section(encounter, axis, sink);
+        put_altitude_section(labels, encounter, axis, sink);
         put_messages_section(deliveries, axis, sink);
-        put_lanes_section(state, axis, sink);
-        put_legend_section(lanes, sink);
-        put_panels_section(page_height(lanes), encounter, pair, axis, sink);
+        put_lanes_section(labels, state, axis, sink);
+        let top = panels_top(lanes);
+        put_panels_section(top, encounter, pair, cycles_of(encounter), sink);
+        let below = top + panels;
+        put_legend_section(below, sink);
+        put_list_section(below + LEGEND_HEIGHT, labels, axis, sink);
         end_drawing(sink);
     }
 }
@@ -165,8 +229,12 @@ impl Text for Picture<'_> {
 /// Writes the [`Picture`] of a state. It takes no memory.
 ///
 /// `Failed` comes only where the sink's count of faults rose; what was written then is a front of the text.
-pub fn write<K: Sink>(deliveries: &Deliveries, sink: &mut K) -> Result<(), Failed>
-    ensures { Puts (K.written sink.old) (K.written sink.new) (K.faults sink.old) (K.faults sink.new) (picture_text deliveries.now.encounter deliveries.now.journal) result }
+pub fn write<K: Sink>(
+    deliveries: &Deliveries,
+    labels: &Labels<'_>,
+    sink: &mut K,
+) -> Result<(), Failed>
+    ensures { Puts (K.written sink.old) (K.written sink.new) (K.faults sink.old) (K.faults sink.new) (picture_text labels.now deliveries.now.encounter deliveries.now.journal) result }
 {
-    write_text(&Picture(deliveries), sink)
+    write_text(&Picture { deliveries, labels }, sink)
 }

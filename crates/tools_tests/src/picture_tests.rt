@@ -8,6 +8,7 @@ mod altitude;
 mod bars;
 mod distances;
 mod frame;
+mod labelled;
 mod marks;
 mod messages;
 mod mishaps;
@@ -17,23 +18,43 @@ use crate::serial_runs::played;
 use acas_base::{CraftSpec, Encounter, Kind};
 use acas_io::{MemSink, Sink};
 use deliveries::Deliveries;
-use frame::{FIFTHS, ONE, add_head, add_legend, add_time};
+use frame::{FIFTHS, ONE, TIMES, Tick, add_head, add_legend, add_time};
+use labels::Labels;
 use marks::Page;
 use picture::write;
 use std::alloc::{AllocError, Global};
 use std::test::Fail;
 use test_encounters::{aircraft, encounter, leg};
 
-// The picture of the serial run of an encounter.
-fn pictured(alloc: Global, enc: &Encounter) -> Result<Vec<u8>, Fail>
+// The picture of the serial run of an encounter, with the labels that these words say.
+fn pictured_with(alloc: Global, enc: &Encounter, words: &[&str]) -> Result<Vec<u8>, Fail>
     requires { IsInside enc.now }
 {
     let deliveries = Deliveries::new(alloc, played(alloc, enc)?)?;
+    let words = texts(alloc, words)?;
+    let Some(labels) = Labels::parse(&words) else {
+        return Err("no labels".into());
+    };
     let mut sink = MemSink::new(Vec::with_capacity(alloc, 40_000)?, 40_000, Vec::new(alloc));
-    if write(&deliveries, &mut sink).is_err() {
+    if write(&deliveries, &labels, &mut sink).is_err() {
         return Err("not written".into());
     }
     Ok(sink.bytes().to_vec(alloc)?)
+}
+
+fn texts(alloc: Global, words: &[&str]) -> Result<Vec<String>, AllocError> {
+    let mut texts = Vec::with_capacity(alloc, words.len())?;
+    for place in 0..words.len() {
+        texts.push(String::from_str(alloc, words[place])?)?;
+    }
+    Ok(texts)
+}
+
+// The picture of the serial run of an encounter, without labels.
+fn pictured(alloc: Global, enc: &Encounter) -> Result<Vec<u8>, Fail>
+    requires { IsInside enc.now }
+{
+    pictured_with(alloc, enc, &[])
 }
 
 // Whether the picture of the serial run of an encounter is this one.
@@ -87,30 +108,50 @@ fn one_cycle(alloc: Global) -> Result<Page, AllocError> {
         "Encounter of 2 aircraft (0 RA, 2 TA, 0 XPDR), 1 cycles",
         "0 messages sent",
     )?;
-    add_time(&mut page, &ONE)?;
+    add_time(&mut page, &ONE, "cycle")?;
+    labelled::add_none(&mut page)?;
     altitude::add_one_cycle(&mut page)?;
     messages::add_none(&mut page)?;
     bars::add_one_cycle(&mut page)?;
-    add_legend(&mut page)?;
     distances::add_one_cycle(&mut page)?;
+    add_legend(&mut page)?;
+    labelled::add_none(&mut page)?;
+    page.closing()?;
     Ok(page)
+}
+
+const REVERSAL: &str = "Encounter of 2 aircraft (2 RA, 0 TA, 0 XPDR), 31 cycles";
+
+// What stands between the axis of time and the list of marks, where the first aircraft has this name.
+fn add_reversal(page: &mut Page, name: &str, ticks: &[Tick]) -> Result<(), AllocError> {
+    altitude::add_reversal(page, name)?;
+    messages::add_reversal(page)?;
+    bars::add_reversal(page, name)?;
+    distances::add_meeting(page, ticks)?;
+    add_legend(page)
 }
 
 // Of examples/reversal.enc.
 fn reversal(alloc: Global) -> Result<Page, AllocError> {
     let mut page = Page::new(alloc, 0);
-    add_head(
-        &mut page,
-        823,
-        "Encounter of 2 aircraft (2 RA, 0 TA, 0 XPDR), 31 cycles",
-        "12 messages sent",
-    )?;
-    add_time(&mut page, &FIFTHS)?;
-    altitude::add_reversal(&mut page)?;
-    messages::add_reversal(&mut page)?;
-    bars::add_reversal(&mut page)?;
-    add_legend(&mut page)?;
-    distances::add_meeting(&mut page)?;
+    add_head(&mut page, 823, REVERSAL, "12 messages sent")?;
+    add_time(&mut page, &FIFTHS, "cycle")?;
+    labelled::add_none(&mut page)?;
+    add_reversal(&mut page, "400A01", &FIFTHS)?;
+    labelled::add_none(&mut page)?;
+    page.closing()?;
+    Ok(page)
+}
+
+// The same with a clock, a name and five marks in the run. They make the page higher by 2,000.
+fn labelled_reversal(alloc: Global) -> Result<Page, AllocError> {
+    let mut page = Page::with_list(alloc, 2000);
+    add_head(&mut page, 923, REVERSAL, "12 messages sent")?;
+    add_time(&mut page, &TIMES, "time")?;
+    labelled::add_lines(&mut page)?;
+    add_reversal(&mut page, "AB-12", &FIFTHS)?;
+    labelled::add_list(&mut page)?;
+    page.closing()?;
     Ok(page)
 }
 
@@ -123,12 +164,15 @@ fn transponder_only(alloc: Global) -> Result<Page, AllocError> {
         "Encounter of 2 aircraft (1 RA, 0 TA, 1 XPDR), 31 cycles",
         "0 messages sent",
     )?;
-    add_time(&mut page, &FIFTHS)?;
+    add_time(&mut page, &FIFTHS, "cycle")?;
+    labelled::add_none(&mut page)?;
     altitude::add_transponder(&mut page)?;
     messages::add_none(&mut page)?;
     bars::add_transponder(&mut page)?;
+    distances::add_meeting(&mut page, &FIFTHS)?;
     add_legend(&mut page)?;
-    distances::add_meeting(&mut page)?;
+    labelled::add_none(&mut page)?;
+    page.closing()?;
     Ok(page)
 }
 
@@ -143,6 +187,13 @@ fn draws_a_reversal(alloc: Global) -> Result<bool, Fail> {
     is_drawn(alloc, &turning, reversal(alloc)?.bytes())
 }
 
+// With a clock that runs past midnight, a name, and marks.
+fn draws_labels(alloc: Global) -> Result<bool, Fail> {
+    let turning = meeting(alloc, 31, (Kind::Ra, Kind::Ra), 35_000, Some(1))?;
+    let text = pictured_with(alloc, &turning, &labelled::WORDS)?;
+    Ok(text.as_slice() == labelled_reversal(alloc)?.bytes())
+}
+
 // The first aircraft has no lane, so the second one has the first lane.
 fn draws_the_active_aircraft(alloc: Global) -> Result<bool, Fail> {
     let only = meeting(alloc, 31, (Kind::Xpdr, Kind::Ra), 35_000, Some(0))?;
@@ -154,6 +205,7 @@ fn draws_what_is_shown(rt: HostRuntime) -> Result<(), Fail> {
     let alloc = rt.alloc();
     assert!(rt; draws_nothing_shown(alloc)?);
     assert!(rt; draws_a_reversal(alloc)?);
+    assert!(rt; draws_labels(alloc)?);
     assert!(rt; draws_the_active_aircraft(alloc)?);
     Ok(())
 }

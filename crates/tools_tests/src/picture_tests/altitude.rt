@@ -95,36 +95,47 @@ fn add_frame(page: &mut Page) -> Result<(), AllocError> {
     page.words((1880, 4700), style, "", "34500 ft")
 }
 
-// The lines of the two aircraft, with their addresses behind them. That of the second one is dashed.
+// What an aircraft is called behind the end of its line.
+fn add_name(page: &mut Page, at: Point, name: &str) -> Result<(), AllocError> {
+    page.words(at, "font-size=\"240\" fill=\"#222222\"", "", name)
+}
+
+// The lines of the two aircraft, with the name of the first one behind its line and the address of the second one. The
+// line of the second one is dashed.
 fn add_lines(
     page: &mut Page,
     first: &[u32],
     second: &[u32],
-    names: [u32; 2],
+    ends: [u32; 2],
+    name: &str,
 ) -> Result<(), AllocError> {
-    let style = "font-size=\"240\" fill=\"#222222\"";
-    let [one, other] = names;
+    let [one, other] = ends;
     page.lines("<g>\n")?;
     add_frame(page)?;
     page.polyline(1, first, drawn(BLACK, 30, ""), "400A01")?;
-    page.words((17900, one), style, "", "400A01")?;
+    add_name(page, (17900, one), name)?;
     page.polyline(1, second, drawn(BLACK, 30, "260 100"), "400B02")?;
-    page.words((18950, other), style, "", "400B02")?;
+    add_name(page, (18950, other), "400B02")?;
     page.lines("</g>\n")
 }
 
-// In one cycle nothing is advised. The second aircraft is 300 ft higher.
+// In one cycle nothing is advised, and each aircraft is a dot. The second one is 300 ft higher.
 pub fn add_one_cycle(page: &mut Page) -> Result<(), AllocError> {
-    page.lines("<g>\n</g>\n")?;
-    add_lines(page, &[3100], &[2140], [3180, 2220])
+    page.lines("<g>\n</g>\n<g>\n")?;
+    add_frame(page)?;
+    page.circle((2000, 3100), 40, filled(BLACK), "400A01")?;
+    add_name(page, (17900, 3180), "400A01")?;
+    page.circle((2000, 2140), 40, filled(BLACK), "400B02")?;
+    add_name(page, (18950, 2220), "400B02")?;
+    page.lines("</g>\n")
 }
 
-pub fn add_reversal(page: &mut Page) -> Result<(), AllocError> {
+pub fn add_reversal(page: &mut Page, name: &str) -> Result<(), AllocError> {
     page.lines("<g>\n")?;
     add_reversed(page, &FIRST_REVERSED)?;
     add_turned(page)?;
     page.lines("</g>\n")?;
-    add_lines(page, &LEVEL, &CLIMBING, [3180, 1900])
+    add_lines(page, &LEVEL, &CLIMBING, [3180, 1900], name)
 }
 
 // The first aircraft has a transponder alone and climbs.
@@ -132,5 +143,5 @@ pub fn add_transponder(page: &mut Page) -> Result<(), AllocError> {
     page.lines("<g>\n")?;
     add_reversed(page, &SECOND_REVERSED)?;
     page.lines("</g>\n")?;
-    add_lines(page, &CLIMBING, &LEVEL, [1900, 3180])
+    add_lines(page, &CLIMBING, &LEVEL, [1900, 3180], "400A01")
 }

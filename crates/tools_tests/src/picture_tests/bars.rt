@@ -89,8 +89,8 @@ fn add_traffic(page: &mut Page, foot: u32, title: &str) -> Result<(), AllocError
 }
 
 // In the first lane.
-fn add_reversed(page: &mut Page, shown: &Reversed) -> Result<(), AllocError> {
-    add_lane(page, FIRST, shown.address)?;
+fn add_reversed(page: &mut Page, shown: &Reversed, name: &str) -> Result<(), AllocError> {
+    add_lane(page, FIRST, name)?;
     add_traffic(page, FIRST, shown.traffic)?;
     add_bar(page, bar(FIRST, 14741, 1020, TALL), UP, shown.up)?;
     add_down(page, bar(FIRST, 15761, 2039, TALL), shown.down)?;
@@ -116,9 +116,9 @@ pub fn add_one_cycle(page: &mut Page) -> Result<(), AllocError> {
     page.lines("</g>\n")
 }
 
-pub fn add_reversal(page: &mut Page) -> Result<(), AllocError> {
+pub fn add_reversal(page: &mut Page, name: &str) -> Result<(), AllocError> {
     page.lines("<g>\n")?;
-    add_reversed(page, &FIRST_REVERSED)?;
+    add_reversed(page, &FIRST_REVERSED, name)?;
     add_turned(page)?;
     page.lines("</g>\n")
 }
@@ -126,6 +126,6 @@ pub fn add_reversal(page: &mut Page) -> Result<(), AllocError> {
 // The first aircraft has no lane, so the second one has the first lane.
 pub fn add_transponder(page: &mut Page) -> Result<(), AllocError> {
     page.lines("<g>\n")?;
-    add_reversed(page, &SECOND_REVERSED)?;
+    add_reversed(page, &SECOND_REVERSED, "400B02")?;
     page.lines("</g>\n")
 }

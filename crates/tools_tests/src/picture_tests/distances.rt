@@ -1,6 +1,6 @@
 // Expected values: as in picture_tests.rt. The two panels of the nearest pair: its slant range, and its vertical
 // distance.
-use super::frame::{FIFTHS, ONE, Tick, add_ticks};
+use super::frame::{ONE, Tick, add_ticks};
 use super::marks::{BLACK, FRAME, GRID, Page, drawn, edged};
 use std::alloc::AllocError;
 
@@ -8,19 +8,19 @@ use std::alloc::AllocError;
 type Level = (u32, &'static str);
 
 const MILES: [Level; 5] = [
-    (12470, "0 NM"),
-    (11895, "5 NM"),
-    (11320, "10 NM"),
-    (10745, "15 NM"),
-    (10170, "20 NM"),
+    (10870, "0 NM"),
+    (10295, "5 NM"),
+    (9720, "10 NM"),
+    (9145, "15 NM"),
+    (8570, "20 NM"),
 ];
 
 const FEET: [Level; 5] = [
-    (15870, "0 ft"),
-    (15295, "200 ft"),
-    (14720, "400 ft"),
-    (14145, "600 ft"),
-    (13570, "800 ft"),
+    (14270, "0 ft"),
+    (13695, "200 ft"),
+    (13120, "400 ft"),
+    (12545, "600 ft"),
+    (11970, "800 ft"),
 ];
 
 // A panel: its top, its name, the levels that it names, the level of ALIM, what it says of the closest approach, and
@@ -41,16 +41,16 @@ const VERTICAL: &str = "400A01 and 400B02: vertical distance";
 
 // Both aircraft fly towards each other to the end.
 const RANGES: [u32; 31] = [
-    10744, 10773, 10802, 10831, 10859, 10888, 10917, 10946, 10975, 11003, 11032, 11061, 11090,
-    11118, 11147, 11176, 11205, 11233, 11262, 11291, 11320, 11349, 11377, 11406, 11435, 11464,
-    11492, 11521, 11550, 11579, 11607,
+    9144, 9173, 9202, 9231, 9259, 9288, 9317, 9346, 9375, 9403, 9432, 9461, 9490,
+    9518, 9547, 9576, 9605, 9633, 9662, 9691, 9720, 9749, 9777, 9806, 9835, 9864,
+    9892, 9921, 9950, 9979, 10007,
 ];
 
 // They are at one altitude until one of them climbs.
 const HEIGHTS: [u32; 31] = [
-    15870, 15870, 15870, 15870, 15870, 15870, 15870, 15870, 15870, 15870, 15870, 15870, 15870,
-    15870, 15870, 15870, 15870, 15870, 15870, 15870, 15870, 15870, 15870, 15870, 15870, 15870,
-    15870, 15583, 15295, 15008, 14720,
+    14270, 14270, 14270, 14270, 14270, 14270, 14270, 14270, 14270, 14270, 14270, 14270, 14270,
+    14270, 14270, 14270, 14270, 14270, 14270, 14270, 14270, 14270, 14270, 14270, 14270, 14270,
+    14270, 13983, 13695, 13408, 13120,
 ];
 
 fn add_levels(page: &mut Page, levels: &[Level]) -> Result<(), AllocError> {
@@ -126,43 +126,43 @@ fn add_panel(page: &mut Page, panel: &Panel, ticks: &[Tick]) -> Result<(), Alloc
 }
 
 const ONE_RANGE: Panel = Panel {
-    top: 10170,
+    top: 8570,
     name: RANGE,
     levels: MILES,
     alim: None,
     closest: "closest approach: cycle 1, slant range 91200 ft",
     x: 2000,
-    y: 10744,
+    y: 9144,
 };
 
 const ONE_HEIGHT: Panel = Panel {
-    top: 13570,
+    top: 11970,
     name: VERTICAL,
     levels: FEET,
-    alim: Some(14145),
+    alim: Some(12545),
     closest: "closest approach: cycle 1, vertical distance 300 ft",
     x: 2000,
-    y: 15008,
+    y: 13408,
 };
 
 const LAST_RANGE: Panel = Panel {
-    top: 10170,
+    top: 8570,
     name: RANGE,
     levels: MILES,
     alim: None,
     closest: "closest approach: cycle 31, slant range 45601 ft",
     x: 17290,
-    y: 11607,
+    y: 10007,
 };
 
 const LAST_HEIGHT: Panel = Panel {
-    top: 13570,
+    top: 11970,
     name: VERTICAL,
     levels: FEET,
-    alim: Some(14145),
+    alim: Some(12545),
     closest: "closest approach: cycle 31, vertical distance 400 ft",
     x: 17290,
-    y: 14720,
+    y: 13120,
 };
 
 // One cycle, 91,200 ft and 300 ft apart.
@@ -170,19 +170,19 @@ pub fn add_one_cycle(page: &mut Page) -> Result<(), AllocError> {
     let paint = drawn(BLACK, 30, "");
     page.lines("<g>\n")?;
     add_panel(page, &ONE_RANGE, &ONE)?;
-    page.polyline(1, &[10744], paint, RANGE)?;
+    page.polyline(1, &[9144], paint, RANGE)?;
     add_panel(page, &ONE_HEIGHT, &ONE)?;
-    page.polyline(1, &[15008], paint, VERTICAL)?;
-    page.lines("</g>\n</svg>\n")
+    page.polyline(1, &[13408], paint, VERTICAL)?;
+    page.lines("</g>\n")
 }
 
-// Both pictures of 31 cycles have the same distances.
-pub fn add_meeting(page: &mut Page) -> Result<(), AllocError> {
+// All pictures of 31 cycles have the same distances.
+pub fn add_meeting(page: &mut Page, ticks: &[Tick]) -> Result<(), AllocError> {
     let paint = drawn(BLACK, 30, "");
     page.lines("<g>\n")?;
-    add_panel(page, &LAST_RANGE, &FIFTHS)?;
+    add_panel(page, &LAST_RANGE, ticks)?;
     page.low_polyline(&RANGES, paint, RANGE)?;
-    add_panel(page, &LAST_HEIGHT, &FIFTHS)?;
+    add_panel(page, &LAST_HEIGHT, ticks)?;
     page.low_polyline(&HEIGHTS, paint, VERTICAL)?;
-    page.lines("</g>\n</svg>\n")
+    page.lines("</g>\n")
 }

@@ -21,7 +21,7 @@ pub fn add_head(
     title: &str,
     messages: &str,
 ) -> Result<(), AllocError> {
-    let height = page.low(16470);
+    let height = page.height();
     let lanes = page.low(2020);
     page.opening(pixels)?;
     page.title(title)?;
@@ -59,6 +59,17 @@ pub const FIFTHS: [Tick; 6] = [
     (16780, "30"),
 ];
 
+// Of 31 cycles that begin at 23:59:50.
+pub const TIMES: [Tick; 7] = [
+    (2000, "23:59:50"),
+    (4548, "23:59:55"),
+    (7096, "00:00:00"),
+    (9645, "00:00:05"),
+    (12193, "00:00:10"),
+    (14741, "00:00:15"),
+    (17290, "00:00:20"),
+];
+
 // Lines for these cycles through a panel, and their numbers below it.
 pub fn add_ticks(
     page: &mut Page,
@@ -75,8 +86,8 @@ pub fn add_ticks(
     Ok(())
 }
 
-// The axis of time below the lanes.
-pub fn add_time(page: &mut Page, ticks: &[Tick]) -> Result<(), AllocError> {
+// The axis of time below the lanes: its ticks, and what it is called.
+pub fn add_time(page: &mut Page, ticks: &[Tick], name: &str) -> Result<(), AllocError> {
     let style = "font-size=\"260\" text-anchor=\"middle\" fill=\"#222222\"";
     let lanes = page.low(2020);
     let foot = page.low(7220);
@@ -84,23 +95,23 @@ pub fn add_time(page: &mut Page, ticks: &[Tick]) -> Result<(), AllocError> {
     page.lines("<g>\n")?;
     add_ticks(page, ticks, 1500, foot, style)?;
     page.rect((2000, 5100), (15800, lanes), FRAME, "")?;
-    page.words((9900, below), style, "", "cycle")?;
+    page.words((9900, below), style, "", name)?;
     page.lines("</g>\n")
 }
 
 // A bar of the legend.
 fn add_sample(page: &mut Page, x: u32, paint: Paint) -> Result<(), AllocError> {
-    let y = page.low(8270);
+    let y = page.low(15070);
     page.rect((x, y), (700, 280), paint, "")
 }
 
 // A line that ends in a cross.
 fn add_lost_sample(page: &mut Page) -> Result<(), AllocError> {
     let stroke = drawn(BLACK, 40, "");
-    let top = page.low(8280);
-    let middle = page.low(8413);
-    let high = page.low(8343);
-    let low = page.low(8483);
+    let top = page.low(15080);
+    let middle = page.low(15213);
+    let high = page.low(15143);
+    let low = page.low(15283);
     page.line((14900, top), (14900, middle), stroke, "")?;
     page.line((14830, high), (14970, low), stroke, "")?;
     page.line((14830, low), (14970, high), stroke, "")
@@ -108,9 +119,9 @@ fn add_lost_sample(page: &mut Page) -> Result<(), AllocError> {
 
 // A line of dashes that ends in a hollow head.
 fn add_spoilt_sample(page: &mut Page) -> Result<(), AllocError> {
-    let top = page.low(8210);
-    let neck = page.low(8430);
-    let tip = page.low(8610);
+    let top = page.low(15010);
+    let neck = page.low(15230);
+    let tip = page.low(15410);
     page.line((16800, top), (16800, neck), drawn(BLACK, 40, "100 70"), "")?;
     page.corners(
         [(16710, neck), (16890, neck), (16800, tip)],
@@ -128,28 +139,28 @@ fn add_remark(page: &mut Page, x: u32, y: u32, words: &str) -> Result<(), AllocE
 pub fn add_legend(page: &mut Page) -> Result<(), AllocError> {
     page.lines("<g>\n")?;
     add_sample(page, 2000, edged(TRAFFIC, BLACK, 12))?;
-    add_remark(page, 2850, 8500, "traffic")?;
+    add_remark(page, 2850, 15300, "traffic")?;
     add_sample(page, 5200, edged(UP, BLACK, 12))?;
-    add_remark(page, 6050, 8500, "up")?;
+    add_remark(page, 6050, 15300, "up")?;
     add_sample(page, 8400, edged(DOWN, BLACK, 12))?;
     add_sample(page, 8400, HATCHED)?;
-    add_remark(page, 9250, 8500, "down")?;
+    add_remark(page, 9250, 15300, "down")?;
     add_sample(page, 11600, edged("#F3E6F1", "#8E4585", 50))?;
-    add_remark(page, 12450, 8500, "up and down")?;
+    add_remark(page, 12450, 15300, "up and down")?;
     add_lost_sample(page)?;
-    add_remark(page, 15100, 8500, "lost")?;
+    add_remark(page, 15100, 15300, "lost")?;
     add_spoilt_sample(page)?;
-    add_remark(page, 17000, 8500, "spoilt")?;
+    add_remark(page, 17000, 15300, "spoilt")?;
     add_remark(
         page,
         2000,
-        8970,
+        15770,
         "A tall bar: corrective advice. A low bar: preventive advice, or traffic alone.",
     )?;
     add_remark(
         page,
         2000,
-        9320,
+        16120,
         "An arrow: a message that changes what is in force, in the colour of the sense that it leaves.",
     )?;
     page.lines("</g>\n")

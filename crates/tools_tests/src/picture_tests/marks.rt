@@ -88,6 +88,7 @@ const CYCLES: [u32; 31] = [
 pub struct Page {
     text: String,
     higher: u32,
+    list: u32,
 }
 
 impl Page {
@@ -96,7 +97,22 @@ impl Page {
         Page {
             text: String::new(alloc),
             higher,
+            list: 0,
         }
+    }
+
+    // An empty page with two lanes, and with a list of marks that is so high.
+    pub fn with_list(alloc: Global, list: u32) -> Page {
+        Page {
+            text: String::new(alloc),
+            higher: 0,
+            list,
+        }
+    }
+
+    // How high the page is.
+    pub fn height(&self) -> u32 {
+        self.low(16470).saturating_add(self.list)
     }
 
     pub fn bytes(&self) -> &[u8] {
@@ -115,12 +131,17 @@ impl Page {
 
     // The first line. The page is so many pixels high.
     pub fn opening(&mut self, pixels: u32) -> Result<(), AllocError> {
-        let height = self.low(16470);
+        let height = self.height();
         self.lines("<svg xmlns=\"http://www.w3.org/2000/svg\" version=\"1.1\" ")?;
         write!(
             self.text,
             "viewBox=\"0 0 20000 {height}\" width=\"1000\" height=\"{pixels}\" {FONT}>\n"
         )
+    }
+
+    // The last line.
+    pub fn closing(&mut self) -> Result<(), AllocError> {
+        self.lines("</svg>\n")
     }
 
     // A title, where there is one.

@@ -3,21 +3,18 @@
 
 // Traffic, then up, and then down: a geometric reversal.
 pub struct Reversed {
-    pub address: &'static str,
     pub traffic: &'static str,
     pub up: &'static str,
     pub down: &'static str,
 }
 
 pub const FIRST_REVERSED: Reversed = Reversed {
-    address: "400A01",
     traffic: "cycles 13 to 25, 400A01, TRAFFIC",
     up: "cycles 26 to 27, 400A01, UP-CLIMB, corrective",
     down: "cycles 28 to 31, 400A01, DOWN-DESCEND, corrective",
 };
 
 pub const SECOND_REVERSED: Reversed = Reversed {
-    address: "400B02",
     traffic: "cycles 13 to 25, 400B02, TRAFFIC",
     up: "cycles 26 to 27, 400B02, UP-CLIMB, corrective",
     down: "cycles 28 to 31, 400B02, DOWN-DESCEND, corrective",
