@@ -5,4 +5,5 @@ pub mod Mapping
 pub mod Messaging
 pub mod Changing
 pub mod Befallen
+pub mod Marking
 pub mod Placing

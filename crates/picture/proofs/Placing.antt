@@ -1,5 +1,5 @@
 -- All marks lie within the page, and their numbers fit.
-use Rattle.std.proofs.Common.{ℕ, zero, suc, ◌+◌, ◌-◌, ◌*◌, ◌^◌, ◌<◌, ◌≤◌, Bool, List, [], ◌∷◌, ◌++◌, Option, Some, None, codes, eqb, eq-eqb, length, ne_eqb, sym, ap, subst, arith, inl, inr}
+use Rattle.std.proofs.Common.{ℕ, zero, suc, ◌+◌, ◌-◌, ◌*◌, ◌^◌, ◌<◌, ◌≤◌, Bool, List, [], ◌∷◌, ◌++◌, Option, Some, None, codes, eqb, eq-eqb, eqb-true, length, ne_eqb, sym, ap, subst, arith, inl, inr}
 use Rattle.std.proofs.lemmas.Bool.{cases_Bool, cases_eq, cond-false, cond-true, ltb-false, ltb-true}
 use Rattle.std.specs.Prelude.{◌%◌, ◌/◌, ◌==◌, ℤ, filter, nat_lt, slice_get, take}
 use Rattle.std.specs.Fmt.{decimal}
@@ -18,25 +18,31 @@ use Rattle.deliveries.specs.declared.rows.Row.{Row as MessageRow}
 use Rattle.equal_rows.proofs.Rowing.{are-rows}
 use Rattle.equal_rows.specs.Rows.{IsLongest}
 use Rattle.equal_rows.specs.declared.row.Row.{Row}
+use Rattle.labels.specs.Labels.{AreLabels, LabelWords, name_of}
 use Rattle.picture.specs.Bars.{advised, bar_area, bar_marks, bar_height, bar_of, bar_title, bars, craft_marks, has_room, lane_head, lane_marks, lanes_marks, marks_of_craft, row_marks, titled_bar, word_marks, word_pair, word_size, word_x, word_y}
 use Rattle.picture.specs.Bands.{band, band_depth, band_of_row, bands_marks, bands_of, craft_bands, edge_point, far_edge, has_line, last_area, last_stripe, last_top, last_width, near_edge, reach_end, reach_length, row_band, shifted, sided_band, stripe, stripe_paint}
 use Rattle.picture.specs.Onsets.{circle_mark, corners, diamond, downward, is_onset, onset_mark, onset_marks, onset_paint, upward}
-use Rattle.picture.specs.Altitude.{altitude_marks, altitude_y, axis_marks, course_marks, course_point, course_y, courses, height_text, name_x}
+use Rattle.picture.specs.Altitude.{altitude_marks, altitude_y, axis_marks, course_line, course_marks, course_paint, course_point, course_points, course_y, courses, height_text, name_x}
 use Rattle.picture.specs.Heights.{axis_of, height_in}
 use Rattle.picture.specs.Head.{description, head_marks, sent_in, sent_text, title_text}
-use Rattle.picture.specs.Layout.{bounds_of, frame_of, lane_base, lane_of, page_bounds, page_height, plot_bottom, plot_height}
+use Rattle.picture.specs.Layout.{bounds_of, bounds_to, frame_of, lane_base, lane_of, page_bounds, page_height, panels_top, plot_bottom, plot_height}
 use Rattle.page_marks.specs.Places.{area_at, point_at}
 use Rattle.picture.specs.Legend.{arrow_words, height_words, item_marks, legend_marks, sample_marks, sample_shaft}
+use Rattle.picture.specs.Marked.{IsMarked, all_marked, mark_text}
+use Rattle.picture.specs.MarkedDrawn.{letter_text, letter_x, line_at, line_of, lines_marks, list_height, list_marks, mark_title, marked_before, row_at, row_number, row_of}
 use Rattle.picture.specs.Messages.{arrows}
 use Rattle.picture.specs.MessagesDrawn.{arrow_marks, arrow_shaft, arrow_title, arrows_marks, color_of, down_shaft, event_x, head_points, shaft_marks, shaft_of, up_shaft}
 use Rattle.picture.specs.Mishaps.{sent_rows}
 use Rattle.picture.specs.MishapsDrawn.{count_marks, count_words, count_x, cross_at, cross_marks, drawn_row, hollow_marks, lost_y, messages_marks, mishaps_marks, row_shaft, row_title, sign_marks, stroke, third_of}
 use Rattle.picture.specs.Laws.{IsSound}
-use Rattle.page_marks.specs.Paints.{blue, box_marks, dashed_paint, filled, grid, halo, hatched, ink, letters, line_paint, plain, purple, vermilion}
-use Rattle.picture.specs.Picture.{lanes_of, page, picture_lines, sections}
+use Rattle.page_marks.specs.Paints.{blue, box_marks, dashed_paint, filled, grid, halo, hatched, ink, letters, line_paint, note, plain, purple, vermilion}
+use Rattle.picture.specs.Picture.{below_of, lanes_of, legend_top, list_top, page, picture_lines, sections}
 use Rattle.picture.specs.Shown.{goes_on, is_shown, shown_in, shown_rows}
-use Rattle.picture.specs.Time.{box_and_name, tick_at, tick_marks, time_marks}
+use Rattle.picture.specs.Time.{axis_name, box_and_name, tick_place, time_marks}
 use Rattle.page_marks.proofs.Bounded.{AreSmall, IsPlace, wider, all-append, all-left, all-over, all-points, all-range, all-right, at-point, is-point, good-box as box-in, good-boxes as boxes-in, good-circle as circle-in, good-halo as halo-in, good-line as line-in, good-words as words-in}
+use Rattle.page_marks.proofs.Ticking.{begins as begins-within, good-dot, good-ticks}
+use Rattle.page_marks.specs.Frame.{dot_mark}
+use Rattle.page_marks.specs.Ticks.{HoldsTicks, time_ticks}
 use Rattle.page_marks.specs.Within.{AreInside, Bounds, IsMarkWithin, IsWithin}
 use Rattle.pair_panels.proofs.Best.{is-pair, nearest-is}
 use Rattle.pair_panels.proofs.Placing.{are-within}
@@ -48,6 +54,7 @@ use Rattle.pair_panels.specs.declared.distance.Distance.TheVariants.{Slant, Vert
 use Rattle.pair_panels.specs.declared.nearest.NearPair.{NearPair}
 use Rattle.picture.specs.Panels.{panel_marks, panels_height}
 use Rattle.picture.specs.declared.bar.Bar.{Bar}
+use Rattle.picture.specs.declared.marked.Marked.{Marked}
 use Rattle.picture.specs.declared.messages_drawn.Shaft.{Shaft}
 use Rattle.picture.specs.declared.messages_read.Arrow.{Arrow}
 use Rattle.picture.specs.declared.mishaps.SentRow.{SentRow}
@@ -61,9 +68,10 @@ use Rattle.page_marks.specs.declared.paints.Advised.TheVariants.{Traffic, Up, Do
 use Rattle.picture.proofs.Axis.{high-enough, holds-all}
 use Rattle.picture.proofs.Barring.{is-run}
 use Rattle.picture.proofs.Befallen.{IsInRun, rows-in-run}
+use Rattle.picture.proofs.Marking.{count-below, count-most, each-marked, is-counted}
 use Rattle.picture.proofs.Messaging.{IsTimely, arrows-timely}
 use Rattle.plot_axes.proofs.Shares.{kept}
-use Rattle.plot_axes.specs.Time.{axis_begin, begin_of, is_tick, middle_of}
+use Rattle.plot_axes.specs.Time.{axis_begin, begin_of, label_of, middle_of}
 use Rattle.svg_text.proofs.WellFormed.{form}
 use Rattle.svg_text.specs.Documents.{Section}
 use Rattle.svg_text.specs.Fitting.{FitsFrame, FitsMark, FitsPaint, IsPoint}
@@ -82,38 +90,71 @@ use Rattle.svg_text.specs.declared.shapes.Weight.TheVariants as weights
 
 -- ---- single marks
 
--- A mark lies within a page of so many lanes, and its numbers fit.
+-- A mark lies within the page down to a height, and its numbers fit.
+abbrev GoodTo : ℕ → Mark → Type 0
+GoodTo height mark = IsMarkWithin (bounds_to height) mark × FitsMark mark
+
+small : (height : ℕ) → height ≤ 60000 → AreSmall (bounds_to height)
+small height few = record { right = omega arith; bottom = omega arith }
+
+place : (height x y : ℕ) → x ≤ 20000 → y ≤ height → IsPlace (bounds_to height) x y
+place height x y wide tall = record { left = omega arith; right = omega arith; top = omega arith; bottom = omega arith }
+
+line-to : (height x y p q : ℕ) (paint : Paint) (title : List ℕ) → FitsPaint paint → height ≤ 60000 → x ≤ 20000 → y ≤ height → p ≤ 20000 → q ≤ height → GoodTo height (figure (shapes.Segment (point_at x y) (point_at p q)) paint title)
+line-to height x y p q paint title fits few a b c d = line-in (bounds_to height) x y p q paint title fits (small height few) (place height x y a b) (place height p q c d)
+
+box-to : (height x y width tall : ℕ) (paint : Paint) (title : List ℕ) → FitsPaint paint → height ≤ 60000 → x + width ≤ 20000 → y + tall ≤ height → GoodTo height (figure (shapes.Rect (area_at x y width tall)) paint title)
+box-to height x y width tall paint title fits few right bottom =
+    box-in (bounds_to height) x y width tall paint title fits (small height few) (place height x y (omega arith) (omega arith)) (place height (x + width) (y + tall) right bottom)
+
+words-to : (height x y size : ℕ) (anchor : Anchor) (weight : Weight) (words title : List ℕ) → size < 2 ^ 16 → height ≤ 60000 → x ≤ 20000 → y ≤ height → GoodTo height (worded (letters (point_at x y) size anchor weight) words title)
+words-to height x y size anchor weight words title short few a b = words-in (bounds_to height) x y size anchor weight words title short (small height few) (place height x y a b)
+
+halo-to : (height x y size : ℕ) (anchor : Anchor) (weight : Weight) (words title : List ℕ) → size < 2 ^ 16 → height ≤ 60000 → x ≤ 20000 → y ≤ height → GoodTo height (worded (halo (point_at x y) size anchor weight) words title)
+halo-to height x y size anchor weight words title short few a b = halo-in (bounds_to height) x y size anchor weight words title short (small height few) (place height x y a b)
+
+boxes-to : (height x y width tall : ℕ) (kind : Advised) (title : List ℕ) → height ≤ 60000 → x + width ≤ 20000 → y + tall ≤ height → AllByRecursion (GoodTo height) (box_marks kind (area_at x y width tall) title)
+boxes-to height x y width tall kind title few right bottom =
+    boxes-in (bounds_to height) x y width tall kind title (small height few) (place height x y (omega arith) (omega arith)) (place height (x + width) (y + tall) right bottom)
+
+abbrev GoodPointTo : ℕ → Point → Type 0
+GoodPointTo height point = IsWithin (bounds_to height) 0 point × IsPoint point
+
+point-to : (height x y : ℕ) → height ≤ 60000 → x ≤ 20000 → y ≤ height → GoodPointTo height (point_at x y)
+point-to height x y few wide tall =
+    let p = place height x y wide tall in
+    (at-point (bounds_to height) x y p, is-point (bounds_to height) x y (small height few) p)
+
+traced-to : (height : ℕ) (outline : Outline) (points : List Point) (paint : Paint) (title : List ℕ) → FitsPaint paint → AllByRecursion (GoodPointTo height) points → GoodTo height (traced outline points paint title)
+traced-to height outline points paint title fits all = (all-left (IsWithin (bounds_to height) 0) IsPoint points all, (all-right (IsWithin (bounds_to height) 0) IsPoint points all, fits))
+
+-- The same above the panels of a page of so many lanes.
 abbrev Good : ℕ → Mark → Type 0
-Good lanes mark = IsMarkWithin (bounds_of lanes) mark × FitsMark mark
+Good lanes mark = GoodTo (page_height lanes) mark
 
-small : (lanes : ℕ) → lanes ≤ 16 → AreSmall (bounds_of lanes)
-small lanes few = record { right = omega arith; bottom = omega arith }
-
-place : (lanes x y : ℕ) → x ≤ 20000 → y ≤ page_height lanes → IsPlace (bounds_of lanes) x y
-place lanes x y wide tall = record { left = omega arith; right = omega arith; top = omega arith; bottom = omega arith }
+low-page : (lanes : ℕ) → lanes ≤ 16 → page_height lanes ≤ 60000
+low-page lanes few = omega arith
 
 good-line : (lanes x y p q : ℕ) (paint : Paint) (title : List ℕ) → FitsPaint paint → lanes ≤ 16 → x ≤ 20000 → y ≤ page_height lanes → p ≤ 20000 → q ≤ page_height lanes →
     Good lanes (figure (shapes.Segment (point_at x y) (point_at p q)) paint title)
-good-line lanes x y p q paint title fits few a b c d = line-in (bounds_of lanes) x y p q paint title fits (small lanes few) (place lanes x y a b) (place lanes p q c d)
+good-line lanes x y p q paint title fits few a b c d = line-to (page_height lanes) x y p q paint title fits (low-page lanes few) a b c d
 
 good-box : (lanes x y width height : ℕ) (paint : Paint) (title : List ℕ) → FitsPaint paint → lanes ≤ 16 → x + width ≤ 20000 → y + height ≤ page_height lanes →
     Good lanes (figure (shapes.Rect (area_at x y width height)) paint title)
-good-box lanes x y width height paint title fits few right bottom =
-    box-in (bounds_of lanes) x y width height paint title fits (small lanes few) (place lanes x y (omega arith) (omega arith)) (place lanes (x + width) (y + height) right bottom)
+good-box lanes x y width height paint title fits few right bottom = box-to (page_height lanes) x y width height paint title fits (low-page lanes few) right bottom
 
 good-words : (lanes x y size : ℕ) (anchor : Anchor) (weight : Weight) (words title : List ℕ) → size < 2 ^ 16 → lanes ≤ 16 → x ≤ 20000 → y ≤ page_height lanes →
     Good lanes (worded (letters (point_at x y) size anchor weight) words title)
-good-words lanes x y size anchor weight words title short few a b = words-in (bounds_of lanes) x y size anchor weight words title short (small lanes few) (place lanes x y a b)
+good-words lanes x y size anchor weight words title short few a b = words-to (page_height lanes) x y size anchor weight words title short (low-page lanes few) a b
 
 good-halo : (lanes x y size : ℕ) (anchor : Anchor) (weight : Weight) (words title : List ℕ) → size < 2 ^ 16 → lanes ≤ 16 → x ≤ 20000 → y ≤ page_height lanes →
     Good lanes (worded (halo (point_at x y) size anchor weight) words title)
-good-halo lanes x y size anchor weight words title short few a b = halo-in (bounds_of lanes) x y size anchor weight words title short (small lanes few) (place lanes x y a b)
+good-halo lanes x y size anchor weight words title short few a b = halo-to (page_height lanes) x y size anchor weight words title short (low-page lanes few) a b
 
 good-boxes : (lanes x y width height : ℕ) (kind : Advised) (title : List ℕ) → lanes ≤ 16 → x + width ≤ 20000 → y + height ≤ page_height lanes → AllByRecursion (Good lanes) (box_marks kind (area_at x y width height) title)
-good-boxes lanes x y width height kind title few right bottom =
-    boxes-in (bounds_of lanes) x y width height kind title (small lanes few) (place lanes x y (omega arith) (omega arith)) (place lanes (x + width) (y + height) right bottom)
+good-boxes lanes x y width height kind title few right bottom = boxes-to (page_height lanes) x y width height kind title (low-page lanes few) right bottom
 
--- ---- the head, the axis and a box of the legend
+-- ---- the head and the axis of time
 
 good-head : (e : Parts) (J : List Entry) (lanes : ℕ) → lanes ≤ 16 → AllByRecursion (Good lanes) (head_marks e J)
 good-head e J lanes few = (
@@ -121,37 +162,22 @@ good-head e J lanes few = (
   (good-words lanes 400 1150 280 anchors.Start weights.Regular (sent_text (sent_in J)) [] (omega arith) few (omega arith) (omega arith), tt),
 )
 
-begins-within : (cycles cycle : ℕ) → 1 ≤ cycles → cycle ≤ cycles + 1 → begin_of cycles cycle ≤ 17800
-begins-within cycles cycle some last = (let it = (kept 15800 cycles 0 (cycle - 1) (omega arith) (omega arith) (omega arith)).within in omega (arith, it))
-
-good-tick : (lanes cycles cycle : ℕ) → lanes ≤ 16 → 1 ≤ cycle → cycle < 1 + cycles → AllByRecursion (Good lanes) (tick_marks cycles lanes cycle)
-unfolding tick_marks
-good-tick lanes cycles cycle few first last =
-    let x = begin_of cycles cycle in
-    let right : x ≤ 17800 = begins-within cycles cycle (omega arith) (omega arith) in
-    elim (cases_Bool (is_tick cycles None cycle)) [
-      | inl met ↦
-          subst (AllByRecursion (Good lanes)) (sym (cond-true (is_tick cycles None cycle) (tick_at lanes x cycle) [] met)) (
-            good-line lanes x 1500 x (plot_bottom lanes + 100) (line_paint grid 15) [] (omega arith) few (omega (arith, right)) (omega arith) (omega (arith, right)) (omega arith),
-            (good-words lanes x (plot_bottom lanes + 400) 260 anchors.Middle weights.Regular (decimal cycle) [] (omega arith) few (omega (arith, right)) (omega arith), tt),
-          )
-      | inr unmet ↦ subst (AllByRecursion (Good lanes)) (sym (cond-false (is_tick cycles None cycle) (tick_at lanes x cycle) [] unmet)) tt
-    ]
-
-good-time : (lanes cycles : ℕ) → lanes ≤ 16 → AllByRecursion (Good lanes) (time_marks cycles lanes)
-good-time lanes cycles few =
-    all-append (Good lanes) (flat_map (tick_marks cycles lanes) (range_with_len 1 cycles)) (box_and_name lanes)
-    (all-range (Good lanes) (tick_marks cycles lanes) 1 cycles (λ k first last. good-tick lanes cycles k few first last)) (
+good-time : (lanes cycles : ℕ) (start : Option ℕ) → lanes ≤ 16 → AllByRecursion (Good lanes) (time_marks cycles start lanes)
+good-time lanes cycles start few =
+    let holds : HoldsTicks (bounds_of lanes) (tick_place lanes) = record {
+      left = omega arith;
+      right = omega arith;
+      top = record { above = omega arith; below = omega arith };
+      bottom = record { above = omega arith; below = omega arith };
+      label = record { above = omega arith; below = omega arith };
+      size = omega arith;
+      wide = omega arith;
+      tall = omega arith;
+    } in
+    all-append (Good lanes) (time_ticks cycles start (tick_place lanes)) (box_and_name lanes (axis_name start)) (good-ticks (bounds_of lanes) cycles start (tick_place lanes) holds) (
       good-box lanes 2000 5100 15800 (plot_height lanes) (line_paint ink 15) [] (omega arith) few (omega arith) (omega arith),
-      (good-words lanes 9900 (plot_bottom lanes + 780) 260 anchors.Middle weights.Regular (codes "cycle") [] (omega arith) few (omega arith) (omega arith), tt),
+      (good-words lanes 9900 (plot_bottom lanes + 780) 260 anchors.Middle weights.Regular (axis_name start) [] (omega arith) few (omega arith) (omega arith), tt),
     )
-
-good-item : (lanes x : ℕ) (kind : Advised) (words : List ℕ) → lanes ≤ 16 → x ≤ 12000 → AllByRecursion (Good lanes) (item_marks (plot_bottom lanes) x kind words)
-unfolding item_marks
-good-item lanes x kind words few right =
-    all-append (Good lanes) (box_marks kind (area_at x (plot_bottom lanes + 1150) 700 280) []) (worded (letters (point_at (x + 850) (plot_bottom lanes + 1380)) 260 anchors.Start weights.Regular) words [] ∷ [])
-    (good-boxes lanes x (plot_bottom lanes + 1150) 700 280 kind [] few (omega arith) (omega arith))
-    (good-words lanes (x + 850) (plot_bottom lanes + 1380) 260 anchors.Start weights.Regular words [] (omega arith) few (omega arith) (omega arith), tt)
 
 -- ---- altitudes
 
@@ -163,13 +189,12 @@ y-most : (e : Parts) (own cycle : ℕ) → course_y e own cycle ≤ 4700
 unfolding course_y
 y-most e own cycle = low-enough (axis_of e) (height_in e own cycle)
 
-good-point : (e : Parts) (lanes own cycle : ℕ) → lanes ≤ 16 → 1 ≤ cycle → cycle < 1 + e.cycles → IsWithin (bounds_of lanes) 0 (course_point e own cycle) × IsPoint (course_point e own cycle)
+good-point : (e : Parts) (lanes own cycle : ℕ) → lanes ≤ 16 → 1 ≤ cycle → cycle < 1 + e.cycles → GoodPointTo (page_height lanes) (course_point e own cycle)
 unfolding course_point
 good-point e lanes own cycle few first last =
     let x = begins-within e.cycles cycle (omega arith) (omega arith) in
     let y = y-most e own cycle in
-    let p = place lanes (begin_of e.cycles cycle) (course_y e own cycle) (omega (arith, x)) (omega (arith, y)) in
-    (at-point (bounds_of lanes) (begin_of e.cycles cycle) (course_y e own cycle) p, is-point (bounds_of lanes) (begin_of e.cycles cycle) (course_y e own cycle) (small lanes few) p)
+    point-to (page_height lanes) (begin_of e.cycles cycle) (course_y e own cycle) (low-page lanes few) (omega (arith, x)) (omega (arith, y))
 
 x-most : (own : ℕ) → name_x own ≤ 18950
 unfolding name_x
@@ -178,15 +203,37 @@ x-most own = elim (cases_Bool (own % 2 == 0)) [
   | inr unmet ↦ subst (λ (n : ℕ). n ≤ 18950) (sym (cond-false (own % 2 == 0) 17900 18950 unmet)) (omega arith)
 ]
 
-good-course : (e : Parts) (lanes own : ℕ) → lanes ≤ 16 → AllByRecursion (Good lanes) (course_marks e own)
+y-least : (e : Parts) (own cycle : ℕ) → own < length e.crafts → 1 ≤ cycle → cycle ≤ e.cycles → 1500 ≤ course_y e own cycle
+unfolding course_y
+y-least e own cycle within first last = high-enough (axis_of e) (height_in e own cycle) (holds-all e own cycle within first last)
+
+good-course-line : (e : Parts) (lanes own : ℕ) (title : List ℕ) → lanes ≤ 16 → own < length e.crafts → AllByRecursion (Good lanes) (course_line e own title)
+unfolding course_line course_point
+good-course-line e lanes own title few within =
+    let dot = dot_mark ink (course_point e own 1) title in
+    let line = traced outlines.Open (course_points e own) (course_paint own) title in
+    elim (cases_Bool (e.cycles == 1)) [
+      | inl met ↦
+          (let one = eqb-true e.cycles 1 met in
+          let x = begins-within e.cycles 1 (omega arith) (omega arith) in
+          let high = y-least e own 1 within (omega arith) (omega arith) in
+          let low = y-most e own 1 in
+          subst (AllByRecursion (Good lanes)) (sym (cond-true (e.cycles == 1) (dot ∷ []) (line ∷ []) met))
+          (good-dot (bounds_of lanes) (begin_of e.cycles 1) (course_y e own 1) ink title (small (page_height lanes) (low-page lanes few)) (omega arith) (omega (arith, x)) (omega (arith, high)) (omega (arith, low)), tt))
+      | inr unmet ↦
+          subst (AllByRecursion (Good lanes)) (sym (cond-false (e.cycles == 1) (dot ∷ []) (line ∷ []) unmet))
+          (traced-to (page_height lanes) outlines.Open (course_points e own) (course_paint own) title (omega arith) (all-points (GoodPointTo (page_height lanes)) (course_point e own) 1 e.cycles (λ k first last. good-point e lanes own k few first last)), tt)
+    ]
+
+good-course : (it : LabelWords) (e : Parts) (lanes own : ℕ) → lanes ≤ 16 → own < length e.crafts → AllByRecursion (Good lanes) (course_marks it e own)
 unfolding course_marks
-good-course e lanes own few =
+good-course it e lanes own few within =
     let x = x-most own in
     let y = y-most e own e.cycles in
-    let within = all-points (IsWithin (bounds_of lanes) 0) (course_point e own) 1 e.cycles (λ k first last. (good-point e lanes own k few first last).0) in
-    let fitting = all-points IsPoint (course_point e own) 1 e.cycles (λ k first last. (good-point e lanes own k few first last).1) in
-    let name = good-words lanes (name_x own) (course_y e own e.cycles + 80) 240 anchors.Start weights.Regular (hex 6 (address_of e own)) [] (omega arith) few (omega (arith, x)) (omega (arith, y)) in
-    ((within, (fitting, omega arith)), (name, tt))
+    let name = name_of it (address_of e own) in
+    all-append (Good lanes) (course_line e own (hex 6 (address_of e own))) (worded (letters (point_at (name_x own) (course_y e own e.cycles + 80)) 240 anchors.Start weights.Regular) name [] ∷ [])
+    (good-course-line e lanes own (hex 6 (address_of e own)) few within)
+    (good-words lanes (name_x own) (course_y e own e.cycles + 80) 240 anchors.Start weights.Regular name [] (omega arith) few (omega (arith, x)) (omega (arith, y)), tt)
 
 good-axis : (lanes : ℕ) (axis : Span) → lanes ≤ 16 → AllByRecursion (Good lanes) (axis_marks axis)
 unfolding axis_marks
@@ -196,24 +243,18 @@ good-axis lanes axis few =
     let low = good-words lanes 1880 4700 260 anchors.End weights.Regular (height_text axis.low) [] (omega arith) few (omega arith) (omega arith) in
     (box, (high, (low, tt)))
 
-good-altitude : (e : Parts) (lanes : ℕ) → lanes ≤ 16 → AllByRecursion (Good lanes) (altitude_marks e)
-good-altitude e lanes few =
-    all-append (Good lanes) (axis_marks (axis_of e)) (courses e) (good-axis lanes (axis_of e) few)
-    (all-range (Good lanes) (course_marks e) 0 (length e.crafts) (λ own first last. good-course e lanes own few))
+good-altitude : (it : LabelWords) (e : Parts) (lanes : ℕ) → lanes ≤ 16 → AllByRecursion (Good lanes) (altitude_marks it e)
+good-altitude it e lanes few =
+    all-append (Good lanes) (axis_marks (axis_of e)) (courses it e) (good-axis lanes (axis_of e) few)
+    (all-range (Good lanes) (course_marks it e) 0 (length e.crafts) (λ own first last. good-course it e lanes own few (omega arith)))
 
 -- ---- bands
 
-y-least : (e : Parts) (own cycle : ℕ) → own < length e.crafts → 1 ≤ cycle → cycle ≤ e.cycles → 1500 ≤ course_y e own cycle
-unfolding course_y
-y-least e own cycle within first last = high-enough (axis_of e) (height_in e own cycle) (holds-all e own cycle within first last)
-
 abbrev GoodPoint : ℕ → Point → Type 0
-GoodPoint lanes point = IsWithin (bounds_of lanes) 0 point × IsPoint point
+GoodPoint lanes point = GoodPointTo (page_height lanes) point
 
 a-point : (lanes x y : ℕ) → lanes ≤ 16 → x ≤ 20000 → y ≤ page_height lanes → GoodPoint lanes (point_at x y)
-a-point lanes x y few wide tall =
-    let p = place lanes x y wide tall in
-    (at-point (bounds_of lanes) x y p, is-point (bounds_of lanes) x y (small lanes few) p)
+a-point lanes x y few wide tall = point-to (page_height lanes) x y (low-page lanes few) wide tall
 
 shifted-most : (side : Side) (depth y : ℕ) → depth ≤ 150 → y ≤ 4700 → shifted side depth y ≤ 4850
 shifted-most Above depth y deep low = omega arith
@@ -258,7 +299,7 @@ good-far e lanes own side depth row few deep it =
     (λ k first last. good-edge e lanes own side depth (reach_end e.cycles row - k) few deep (omega arith) (omega arith))
 
 good-traced : (lanes : ℕ) (outline : Outline) (points : List Point) (paint : Paint) (title : List ℕ) → FitsPaint paint → AllByRecursion (GoodPoint lanes) points → Good lanes (traced outline points paint title)
-good-traced lanes outline points paint title fits all = (all-left (IsWithin (bounds_of lanes) 0) IsPoint points all, (all-right (IsWithin (bounds_of lanes) 0) IsPoint points all, fits))
+good-traced lanes outline points paint title fits all = traced-to (page_height lanes) outline points paint title fits all
 
 middles-within : (cycles : ℕ) → 1 ≤ cycles → middle_of cycles cycles ≤ 17800
 middles-within cycles some =
@@ -348,7 +389,7 @@ good-corners lanes x y Both few right low = (
 
 good-circle : (lanes x y : ℕ) (title : List ℕ) → lanes ≤ 16 → 2000 ≤ x → x ≤ 17800 → 1500 ≤ y → y ≤ 4700 → AllByRecursion (Good lanes) (circle_mark x y title)
 good-circle lanes x y title few left right high low =
-    (circle-in (bounds_of lanes) x y 90 (onset_paint Traffic) title (omega arith) (small lanes few) (omega arith) (omega arith) (omega arith) (omega arith) (omega arith), tt)
+    (circle-in (bounds_of lanes) x y 90 (onset_paint Traffic) title (omega arith) (small (page_height lanes) (low-page lanes few)) (omega arith) (omega arith) (omega arith) (omega arith) (omega arith), tt)
 
 good-onset : (lanes x y : ℕ) (title : List ℕ) (kind : Advised) → lanes ≤ 16 → 2000 ≤ x → x ≤ 17800 → 1500 ≤ y → y ≤ 4700 → AllByRecursion (Good lanes) (onset_mark x y title kind)
 good-onset lanes x y title Traffic few left right high low = good-circle lanes x y title few left right high low
@@ -468,11 +509,11 @@ good-bars air e J l own lanes lane address few within =
     (λ row it. good-bar lanes lane e.cycles address (shown_in J own row.first) row few within it.begun it.in_order it.in_run) (shown_rows J e.cycles own)
     (are-rows (is_shown J own) (goes_on J own) e.cycles (is-run air J l own)).longest
 
-good-lane : (air : Air) (e : Parts) (J : List Entry) → IsLegal air J → (own lanes lane address : ℕ) → lanes ≤ 16 → lane ≤ lanes → AllByRecursion (Good lanes) (lane_marks e J own lane address)
-good-lane air e J l own lanes lane address few within =
-    all-append (Good lanes) (lane_head lane address) (bars e J own lane address) (
+good-lane : (air : Air) (it : LabelWords) (e : Parts) (J : List Entry) → IsLegal air J → (own lanes lane address : ℕ) → lanes ≤ 16 → lane ≤ lanes → AllByRecursion (Good lanes) (lane_marks it e J own lane address)
+good-lane air it e J l own lanes lane address few within =
+    all-append (Good lanes) (lane_head lane (name_of it address)) (bars e J own lane address) (
       good-line lanes 2000 (lane_base lane) 17800 (lane_base lane) (line_paint grid 15) [] (omega arith) few (omega arith) (omega arith) (omega arith) (omega arith),
-      (good-words lanes 1880 (lane_base lane) 300 anchors.End weights.Regular (hex 6 address) [] (omega arith) few (omega arith) (omega arith), tt),
+      (good-words lanes 1880 (lane_base lane) 300 anchors.End weights.Regular (name_of it address) [] (omega arith) few (omega arith) (omega arith), tt),
     ) (good-bars air e J l own lanes lane address few within)
 
 -- ---- lanes
@@ -502,22 +543,22 @@ filter-few p (x ∷ xs) =
       | inr unmet ↦ (let all = ap length (cond-false (p x) (x ∷ filter p xs) (filter p xs) unmet) in omega arith)
     ]
 
-good-craft : (air : Air) (e : Parts) (J : List Entry) → IsLegal air J → lanes_of e ≤ 16 → (own : ℕ) → AllByRecursion (Good (lanes_of e)) (craft_marks e J own)
+good-craft : (air : Air) (it : LabelWords) (e : Parts) (J : List Entry) → IsLegal air J → lanes_of e ≤ 16 → (own : ℕ) → AllByRecursion (Good (lanes_of e)) (craft_marks it e J own)
 unfolding craft_marks
-good-craft air e J l few own = by (slice_get e.crafts own)
+good-craft air it e J l few own = by (slice_get e.crafts own)
   where
     is_active : CraftSpec → Bool
     is_active craft = is_active_kind craft.kind
 
-    by : (craft : Option CraftSpec) → AllByRecursion (Good (lanes_of e)) (option_map_or (marks_of_craft e J own) craft [])
+    by : (craft : Option CraftSpec) → AllByRecursion (Good (lanes_of e)) (option_map_or (marks_of_craft it e J own) craft [])
     by None = tt
     by (Some craft) =
         let lane = lane_of e.crafts own in
         elim (cases_Bool (is_active_kind craft.kind)) [
           | inl met ↦
-              subst (AllByRecursion (Good (lanes_of e))) (sym (cond-true (is_active_kind craft.kind) (lane_marks e J own lane craft.address) [] met))
-              (good-lane air e J l own (lanes_of e) lane craft.address few (filter-front is_active own e.crafts))
-          | inr unmet ↦ subst (AllByRecursion (Good (lanes_of e))) (sym (cond-false (is_active_kind craft.kind) (lane_marks e J own lane craft.address) [] unmet)) tt
+              subst (AllByRecursion (Good (lanes_of e))) (sym (cond-true (is_active_kind craft.kind) (lane_marks it e J own lane craft.address) [] met))
+              (good-lane air it e J l own (lanes_of e) lane craft.address few (filter-front is_active own e.crafts))
+          | inr unmet ↦ subst (AllByRecursion (Good (lanes_of e))) (sym (cond-false (is_active_kind craft.kind) (lane_marks it e J own lane craft.address) [] unmet)) tt
         ]
 
 -- ---- messages
@@ -537,15 +578,15 @@ event-within cycles commits few = elim (cases_eq commits 0) [
       subst IsInPlot (sym (cond-false (eqb commits 0) axis_begin (middle_of cycles commits) (ne_eqb commits 0 some))) (record { left = omega arith; right = omega (arith, one, two) }))
 ]
 
-record IsNear (lanes : ℕ) (shaft : Shaft) : Type 0 where
+record IsNear (height : ℕ) (shaft : Shaft) : Type 0 where
   tail : shaft.tail_x ≤ 17870
   tip : shaft.tip_x ≤ 17870
   left : 1930 ≤ shaft.tip_x
-  begins : shaft.tail_y + 600 ≤ page_height lanes
-  neck : shaft.neck_y ≤ page_height lanes
-  ends : shaft.tip_y ≤ page_height lanes
+  begins : shaft.tail_y + 600 ≤ height
+  neck : shaft.neck_y ≤ height
+  ends : shaft.tip_y ≤ height
 
-near : (lanes from to sender receiver : ℕ) → IsInPlot from → IsInPlot to → sender ≤ lanes → receiver ≤ lanes → IsNear lanes (shaft_of from to sender receiver)
+near : (lanes from to sender receiver : ℕ) → IsInPlot from → IsInPlot to → sender ≤ lanes → receiver ≤ lanes → IsNear (page_height lanes) (shaft_of from to sender receiver)
 unfolding shaft_of
 near lanes from to sender receiver f t a b =
     let one = f.left in
@@ -554,36 +595,36 @@ near lanes from to sender receiver f t a b =
     let four = t.right in
     elim (cases_Bool (nat_lt sender receiver)) [
       | inl met ↦
-          subst (IsNear lanes) (sym (cond-true (nat_lt sender receiver) (down_shaft from to sender receiver) (up_shaft from to sender receiver) met))
+          subst (IsNear (page_height lanes)) (sym (cond-true (nat_lt sender receiver) (down_shaft from to sender receiver) (up_shaft from to sender receiver) met))
           (record { tail = omega arith; tip = omega arith; left = omega arith; begins = omega arith; neck = omega arith; ends = omega arith })
       | inr unmet ↦
-          subst (IsNear lanes) (sym (cond-false (nat_lt sender receiver) (down_shaft from to sender receiver) (up_shaft from to sender receiver) unmet))
+          subst (IsNear (page_height lanes)) (sym (cond-false (nat_lt sender receiver) (down_shaft from to sender receiver) (up_shaft from to sender receiver) unmet))
           (record { tail = omega arith; tip = omega arith; left = omega arith; begins = omega arith; neck = omega arith; ends = omega arith })
     ]
 
-good-shaft-line : (lanes : ℕ) (shaft : Shaft) (paint : Paint) (title : List ℕ) → FitsPaint paint → lanes ≤ 16 → IsNear lanes shaft →
-    Good lanes (figure (shapes.Segment (point_at shaft.tail_x shaft.tail_y) (point_at shaft.tip_x shaft.neck_y)) paint title)
-good-shaft-line lanes shaft paint title fits few n =
+good-shaft-line : (height : ℕ) (shaft : Shaft) (paint : Paint) (title : List ℕ) → FitsPaint paint → height ≤ 60000 → IsNear height shaft →
+    GoodTo height (figure (shapes.Segment (point_at shaft.tail_x shaft.tail_y) (point_at shaft.tip_x shaft.neck_y)) paint title)
+good-shaft-line height shaft paint title fits few n =
     let tail = n.tail in
     let tip = n.tip in
     let begins = n.begins in
-    good-line lanes shaft.tail_x shaft.tail_y shaft.tip_x shaft.neck_y paint title fits few (omega (arith, tail)) (omega (arith, begins)) (omega (arith, tip)) n.neck
+    line-to height shaft.tail_x shaft.tail_y shaft.tip_x shaft.neck_y paint title fits few (omega (arith, tail)) (omega (arith, begins)) (omega (arith, tip)) n.neck
 
-good-head-points : (lanes : ℕ) (shaft : Shaft) → lanes ≤ 16 → IsNear lanes shaft → AllByRecursion (GoodPoint lanes) (head_points shaft)
-good-head-points lanes shaft few n =
+good-head-points : (height : ℕ) (shaft : Shaft) → height ≤ 60000 → IsNear height shaft → AllByRecursion (GoodPointTo height) (head_points shaft)
+good-head-points height shaft few n =
     let tip = n.tip in
     let wide : shaft.tip_x + 90 ≤ 20000 = omega (arith, tip) in
     let slim : shaft.tip_x - 90 ≤ 20000 = omega (arith, tip) in
     let there : shaft.tip_x ≤ 20000 = omega (arith, tip) in
-    let one = a-point lanes (shaft.tip_x - 90) shaft.neck_y few slim n.neck in
-    let two = a-point lanes (shaft.tip_x + 90) shaft.neck_y few wide n.neck in
-    let three = a-point lanes shaft.tip_x shaft.tip_y few there n.ends in
+    let one = point-to height (shaft.tip_x - 90) shaft.neck_y few slim n.neck in
+    let two = point-to height (shaft.tip_x + 90) shaft.neck_y few wide n.neck in
+    let three = point-to height shaft.tip_x shaft.tip_y few there n.ends in
     (one, (two, (three, tt)))
 
-good-shaft : (lanes : ℕ) (shaft : Shaft) (color : Color) (title : List ℕ) → lanes ≤ 16 → IsNear lanes shaft → AllByRecursion (Good lanes) (shaft_marks shaft color title)
-good-shaft lanes shaft color title few n =
-    let line = good-shaft-line lanes shaft (line_paint color 40) title (omega arith) few n in
-    (line, (good-traced lanes outlines.Closed (head_points shaft) (filled color color 30) title (omega arith) (good-head-points lanes shaft few n), tt))
+good-shaft : (height : ℕ) (shaft : Shaft) (color : Color) (title : List ℕ) → height ≤ 60000 → IsNear height shaft → AllByRecursion (GoodTo height) (shaft_marks shaft color title)
+good-shaft height shaft color title few n =
+    let line = good-shaft-line height shaft (line_paint color 40) title (omega arith) few n in
+    (line, (traced-to height outlines.Closed (head_points shaft) (filled color color 30) title (omega arith) (good-head-points height shaft few n), tt))
 
 good-arrow : (e : Parts) (arrow : Arrow) → lanes_of e ≤ 16 → IsTimely e arrow → AllByRecursion (Good (lanes_of e)) (arrow_marks e arrow)
 unfolding arrow_marks
@@ -592,7 +633,7 @@ good-arrow e arrow few t =
     let to = event-within e.cycles arrow.taking.taken_after t.taken in
     let stands = near (lanes_of e) (event_x e.cycles arrow.sent_after) (event_x e.cycles arrow.taking.taken_after) (lane_of e.crafts arrow.taking.sender) (lane_of e.crafts arrow.taking.receiver) from to
     (filter-front is_active arrow.taking.sender e.crafts) (filter-front is_active arrow.taking.receiver e.crafts) in
-    good-shaft (lanes_of e) (arrow_shaft e arrow) (color_of arrow.after) (arrow_title (address_of e arrow.taking.sender) (address_of e arrow.taking.receiver) arrow) few stands
+    good-shaft (page_height (lanes_of e)) (arrow_shaft e arrow) (color_of arrow.after) (arrow_title (address_of e arrow.taking.sender) (address_of e arrow.taking.receiver) arrow) (low-page (lanes_of e) few) stands
   where
     is_active : CraftSpec → Bool
     is_active craft = is_active_kind craft.kind
@@ -621,55 +662,55 @@ lost-most shaft =
       | inr unmet ↦ subst (λ (n : ℕ). n ≤ shaft.tail_y + 320) (sym (cond-false (nat_lt shaft.tail_y shaft.tip_y) below above_it unmet)) (omega arith)
     ]
 
-good-stroke : (lanes x y p q : ℕ) (title : List ℕ) → lanes ≤ 16 → x ≤ 20000 → y ≤ page_height lanes → p ≤ 20000 → q ≤ page_height lanes → Good lanes (stroke (point_at x y) (point_at p q) title)
-good-stroke lanes x y p q title few a b c d = good-line lanes x y p q (line_paint ink 40) title (omega arith) few a b c d
+good-stroke : (height x y p q : ℕ) (title : List ℕ) → height ≤ 60000 → x ≤ 20000 → y ≤ height → p ≤ 20000 → q ≤ height → GoodTo height (stroke (point_at x y) (point_at p q) title)
+good-stroke height x y p q title few a b c d = line-to height x y p q (line_paint ink 40) title (omega arith) few a b c d
 
-good-cross-at : (lanes x y : ℕ) (title : List ℕ) → lanes ≤ 16 → x + 70 ≤ 20000 → y + 70 ≤ page_height lanes → AllByRecursion (Good lanes) (cross_at x y title)
-good-cross-at lanes x y title few right low = (
-  good-stroke lanes (x - 70) (y - 70) (x + 70) (y + 70) title few (omega arith) (omega arith) right low,
-  (good-stroke lanes (x - 70) (y + 70) (x + 70) (y - 70) title few (omega arith) low right (omega arith), tt),
+good-cross-at : (height x y : ℕ) (title : List ℕ) → height ≤ 60000 → x + 70 ≤ 20000 → y + 70 ≤ height → AllByRecursion (GoodTo height) (cross_at x y title)
+good-cross-at height x y title few right low = (
+  good-stroke height (x - 70) (y - 70) (x + 70) (y + 70) title few (omega arith) (omega arith) right low,
+  (good-stroke height (x - 70) (y + 70) (x + 70) (y - 70) title few (omega arith) low right (omega arith), tt),
 )
 
-good-cross : (lanes : ℕ) (shaft : Shaft) (title : List ℕ) → lanes ≤ 16 → IsNear lanes shaft → AllByRecursion (Good lanes) (cross_marks shaft title)
-good-cross lanes shaft title few n =
+good-cross : (height : ℕ) (shaft : Shaft) (title : List ℕ) → height ≤ 60000 → IsNear height shaft → AllByRecursion (GoodTo height) (cross_marks shaft title)
+good-cross height shaft title few n =
     let tail = n.tail in
     let begins = n.begins in
     let most = lost-most shaft in
     let right : shaft.tail_x + 70 ≤ 20000 = omega (arith, tail) in
-    let low : lost_y shaft + 70 ≤ page_height lanes = omega (arith, most, begins) in
-    (good-stroke lanes shaft.tail_x shaft.tail_y shaft.tail_x (lost_y shaft) title few (omega (arith, tail)) (omega (arith, begins)) (omega (arith, tail)) (omega (arith, low)), good-cross-at lanes shaft.tail_x (lost_y shaft) title few right low)
+    let low : lost_y shaft + 70 ≤ height = omega (arith, most, begins) in
+    (good-stroke height shaft.tail_x shaft.tail_y shaft.tail_x (lost_y shaft) title few (omega (arith, tail)) (omega (arith, begins)) (omega (arith, tail)) (omega (arith, low)), good-cross-at height shaft.tail_x (lost_y shaft) title few right low)
 
-good-hollow : (lanes : ℕ) (shaft : Shaft) (title : List ℕ) → lanes ≤ 16 → IsNear lanes shaft → AllByRecursion (Good lanes) (hollow_marks shaft title)
-good-hollow lanes shaft title few n =
-    let line = good-shaft-line lanes shaft (dashed_paint ink 40 dashes.Short) title (omega arith) few n in
-    (line, (good-traced lanes outlines.Closed (head_points shaft) (line_paint ink 30) title (omega arith) (good-head-points lanes shaft few n), tt))
+good-hollow : (height : ℕ) (shaft : Shaft) (title : List ℕ) → height ≤ 60000 → IsNear height shaft → AllByRecursion (GoodTo height) (hollow_marks shaft title)
+good-hollow height shaft title few n =
+    let line = good-shaft-line height shaft (dashed_paint ink 40 dashes.Short) title (omega arith) few n in
+    (line, (traced-to height outlines.Closed (head_points shaft) (line_paint ink 30) title (omega arith) (good-head-points height shaft few n), tt))
 
-good-sign : (lanes : ℕ) (sign : Sign) (shaft : Shaft) (title : List ℕ) → lanes ≤ 16 → IsNear lanes shaft → AllByRecursion (Good lanes) (sign_marks sign shaft title)
-good-sign lanes Cross shaft title few n = good-cross lanes shaft title few n
-good-sign lanes HollowHead shaft title few n = good-hollow lanes shaft title few n
+good-sign : (height : ℕ) (sign : Sign) (shaft : Shaft) (title : List ℕ) → height ≤ 60000 → IsNear height shaft → AllByRecursion (GoodTo height) (sign_marks sign shaft title)
+good-sign height Cross shaft title few n = good-cross height shaft title few n
+good-sign height HollowHead shaft title few n = good-hollow height shaft title few n
 
-count-most : (shaft : Shaft) → count_x shaft ≤ shaft.tail_x + 280
-count-most shaft = elim (cases_Bool (nat_lt shaft.tail_y shaft.tip_y)) [
+beside-most : (shaft : Shaft) → count_x shaft ≤ shaft.tail_x + 280
+beside-most shaft = elim (cases_Bool (nat_lt shaft.tail_y shaft.tip_y)) [
   | inl met ↦ subst (λ (n : ℕ). n ≤ shaft.tail_x + 280) (sym (cond-true (nat_lt shaft.tail_y shaft.tip_y) (shaft.tail_x - 280) (shaft.tail_x + 280) met)) (omega arith)
   | inr unmet ↦ subst (λ (n : ℕ). n ≤ shaft.tail_x + 280) (sym (cond-false (nat_lt shaft.tail_y shaft.tip_y) (shaft.tail_x - 280) (shaft.tail_x + 280) unmet)) (omega arith)
 ]
 
-good-count : (lanes : ℕ) (shaft : Shaft) (row : MessageRow) (title : List ℕ) → lanes ≤ 16 → IsNear lanes shaft → AllByRecursion (Good lanes) (count_marks shaft row title)
+good-count : (height : ℕ) (shaft : Shaft) (row : MessageRow) (title : List ℕ) → height ≤ 60000 → IsNear height shaft → AllByRecursion (GoodTo height) (count_marks shaft row title)
 unfolding count_marks
-good-count lanes shaft row title few n =
+good-count height shaft row title few n =
     let tail = n.tail in
     let begins = n.begins in
     let most = lost-most shaft in
-    let right = count-most shaft in
+    let right = beside-most shaft in
     let words = decimal ((row.last + 1) - row.first) in
     let x : count_x shaft ≤ 20000 = omega (arith, right, tail) in
-    let y : lost_y shaft + 80 ≤ page_height lanes = omega (arith, most, begins) in
+    let y : lost_y shaft + 80 ≤ height = omega (arith, most, begins) in
     elim (cases_Bool (row.first == row.last)) [
-      | inl met ↦ subst (AllByRecursion (Good lanes)) (sym (cond-true (row.first == row.last) [] (count_words shaft words title) met)) tt
+      | inl met ↦ subst (AllByRecursion (GoodTo height)) (sym (cond-true (row.first == row.last) [] (count_words shaft words title) met)) tt
       | inr unmet ↦
-          subst (AllByRecursion (Good lanes)) (sym (cond-false (row.first == row.last) [] (count_words shaft words title) unmet)) (
-            good-halo lanes (count_x shaft) (lost_y shaft + 80) 220 anchors.Middle weights.Regular words title (omega arith) few x y,
-            (good-words lanes (count_x shaft) (lost_y shaft + 80) 220 anchors.Middle weights.Regular words title (omega arith) few x y, tt),
+          subst (AllByRecursion (GoodTo height)) (sym (cond-false (row.first == row.last) [] (count_words shaft words title) unmet)) (
+            halo-to height (count_x shaft) (lost_y shaft + 80) 220 anchors.Middle weights.Regular words title (omega arith) few x y,
+            (words-to height (count_x shaft) (lost_y shaft + 80) 220 anchors.Middle weights.Regular words title (omega arith) few x y, tt),
           )
     ]
 
@@ -681,7 +722,7 @@ good-row e sign sent few t =
     let shaft = row_shaft e sent in
     let title = row_title (address_of e sent.sender) (address_of e sent.receiver) sign sent in
     let stands = near (lanes_of e) x x (lane_of e.crafts sent.sender) (lane_of e.crafts sent.receiver) at at (filter-front is_active sent.sender e.crafts) (filter-front is_active sent.receiver e.crafts) in
-    all-append (Good (lanes_of e)) (sign_marks sign shaft title) (count_marks shaft sent.row title) (good-sign (lanes_of e) sign shaft title few stands) (good-count (lanes_of e) shaft sent.row title few stands)
+    all-append (Good (lanes_of e)) (sign_marks sign shaft title) (count_marks shaft sent.row title) (good-sign (page_height (lanes_of e)) sign shaft title (low-page (lanes_of e) few) stands) (good-count (page_height (lanes_of e)) shaft sent.row title (low-page (lanes_of e) few) stands)
   where
     is_active : CraftSpec → Bool
     is_active craft = is_active_kind craft.kind
@@ -696,36 +737,95 @@ good-messages e J l few =
 
 -- ---- the legend
 
-good-sample : (lanes x y : ℕ) (sign : Sign) (words : List ℕ) → lanes ≤ 16 → 2000 ≤ x → x ≤ 17000 → y ≤ plot_bottom lanes + 1200 → AllByRecursion (Good lanes) (sample_marks (plot_bottom lanes) x y sign words)
-unfolding sample_marks
-good-sample lanes x y sign words few left right low =
-    all-append (Good lanes) (sign_marks sign (sample_shaft x y) []) (worded (letters (point_at (x + 200) (plot_bottom lanes + 1380)) 260 anchors.Start weights.Regular) words [] ∷ [])
-    (good-sign lanes sign (sample_shaft x y) [] few (record { tail = omega arith; tip = omega arith; left = omega arith; begins = omega arith; neck = omega arith; ends = omega arith }))
-    (good-words lanes (x + 200) (plot_bottom lanes + 1380) 260 anchors.Start weights.Regular words [] (omega arith) few (omega arith) (omega arith), tt)
+good-item : (height top x : ℕ) (kind : Advised) (words : List ℕ) → height ≤ 60000 → top + 1600 ≤ height → x ≤ 12000 → AllByRecursion (GoodTo height) (item_marks top x kind words)
+unfolding item_marks
+good-item height top x kind words few low right =
+    all-append (GoodTo height) (box_marks kind (area_at x (top + 200) 700 280) []) (worded (letters (point_at (x + 850) (top + 430)) 260 anchors.Start weights.Regular) words [] ∷ [])
+    (boxes-to height x (top + 200) 700 280 kind [] few (omega arith) (omega arith))
+    (words-to height (x + 850) (top + 430) 260 anchors.Start weights.Regular words [] (omega arith) few (omega arith) (omega arith), tt)
 
-good-legend : (lanes : ℕ) → lanes ≤ 16 → AllByRecursion (Good lanes) (legend_marks lanes)
-good-legend lanes few =
-    all-append (Good lanes) (item 2000 Traffic (codes "traffic")) _ (good-item lanes 2000 Traffic (codes "traffic") few (omega arith))
-    (all-append (Good lanes) (item 5200 Up (codes "up")) _ (good-item lanes 5200 Up (codes "up") few (omega arith))
-    (all-append (Good lanes) (item 8400 Down (codes "down")) _ (good-item lanes 8400 Down (codes "down") few (omega arith))
-    (all-append (Good lanes) (item 11600 Both (codes "up and down")) _ (good-item lanes 11600 Both (codes "up and down") few (omega arith))
-    (all-append (Good lanes) (sample 14900 (plot_bottom lanes + 1160) Cross (codes "lost")) _ (good-sample lanes 14900 (plot_bottom lanes + 1160) Cross (codes "lost") few (omega arith) (omega arith) (omega arith))
-    (all-append (Good lanes) (sample 16800 (plot_bottom lanes + 1090) HollowHead (codes "spoilt")) _ (good-sample lanes 16800 (plot_bottom lanes + 1090) HollowHead (codes "spoilt") few (omega arith) (omega arith) (omega arith)) (
-      good-words lanes 2000 (plot_bottom lanes + 1850) 260 anchors.Start weights.Regular height_words [] (omega arith) few (omega arith) (omega arith),
-      (good-words lanes 2000 (plot_bottom lanes + 2200) 260 anchors.Start weights.Regular arrow_words [] (omega arith) few (omega arith) (omega arith), tt),
+good-sample : (height top x y : ℕ) (sign : Sign) (words : List ℕ) → height ≤ 60000 → top + 1600 ≤ height → 2000 ≤ x → x ≤ 17000 → y ≤ top + 300 → AllByRecursion (GoodTo height) (sample_marks top x y sign words)
+unfolding sample_marks
+good-sample height top x y sign words few low left right high =
+    all-append (GoodTo height) (sign_marks sign (sample_shaft x y) []) (worded (letters (point_at (x + 200) (top + 430)) 260 anchors.Start weights.Regular) words [] ∷ [])
+    (good-sign height sign (sample_shaft x y) [] few (record { tail = omega arith; tip = omega arith; left = omega arith; begins = omega arith; neck = omega arith; ends = omega arith }))
+    (words-to height (x + 200) (top + 430) 260 anchors.Start weights.Regular words [] (omega arith) few (omega arith) (omega arith), tt)
+
+good-legend : (height top : ℕ) → height ≤ 60000 → top + 1600 ≤ height → AllByRecursion (GoodTo height) (legend_marks top)
+good-legend height top few low =
+    all-append (GoodTo height) (item 2000 Traffic (codes "traffic")) _ (good-item height top 2000 Traffic (codes "traffic") few low (omega arith))
+    (all-append (GoodTo height) (item 5200 Up (codes "up")) _ (good-item height top 5200 Up (codes "up") few low (omega arith))
+    (all-append (GoodTo height) (item 8400 Down (codes "down")) _ (good-item height top 8400 Down (codes "down") few low (omega arith))
+    (all-append (GoodTo height) (item 11600 Both (codes "up and down")) _ (good-item height top 11600 Both (codes "up and down") few low (omega arith))
+    (all-append (GoodTo height) (sample 14900 (top + 210) Cross (codes "lost")) _ (good-sample height top 14900 (top + 210) Cross (codes "lost") few low (omega arith) (omega arith) (omega arith))
+    (all-append (GoodTo height) (sample 16800 (top + 140) HollowHead (codes "spoilt")) _ (good-sample height top 16800 (top + 140) HollowHead (codes "spoilt") few low (omega arith) (omega arith) (omega arith)) (
+      words-to height 2000 (top + 900) 260 anchors.Start weights.Regular height_words [] (omega arith) few (omega arith) (omega arith),
+      (words-to height 2000 (top + 1250) 260 anchors.Start weights.Regular arrow_words [] (omega arith) few (omega arith) (omega arith), tt),
     ))))))
   where
     item : ℕ → Advised → List ℕ → List Mark
-    item x kind words = item_marks (plot_bottom lanes) x kind words
+    item x kind words = item_marks top x kind words
 
     sample : ℕ → ℕ → Sign → List ℕ → List Mark
-    sample x y sign words = sample_marks (plot_bottom lanes) x y sign words
+    sample x y sign words = sample_marks top x y sign words
+
+-- ---- the marks of the labels
+
+letter-most : (x before : ℕ) → x ≤ 17800 → before ≤ 26 → letter_x x before ≤ 17800
+unfolding letter_x
+letter-most x before right few = elim (cases_Bool (nat_lt x 9900)) [
+  | inl met ↦
+      (let near = ltb-true x 9900 met in
+      subst (λ (n : ℕ). n ≤ 17800) (sym (cond-true (nat_lt x 9900) (x + 180 * before) (x - 180 * before) met)) (omega (arith, near)))
+  | inr unmet ↦ subst (λ (n : ℕ). n ≤ 17800) (sym (cond-false (nat_lt x 9900) (x + 180 * before) (x - 180 * before) unmet)) (omega arith)
+]
+
+good-line-at : (lanes x at : ℕ) (letter title : List ℕ) → lanes ≤ 16 → x ≤ 17800 → at ≤ 17800 → AllByRecursion (Good lanes) (line_at lanes x at letter title)
+good-line-at lanes x at letter title few right beside = (
+  good-line lanes x 1500 x (plot_bottom lanes) (dashed_paint note 30 dashes.Short) title (omega arith) few (omega arith) (omega arith) (omega arith) (omega arith),
+  (
+    good-halo lanes at 1440 240 anchors.Middle weights.Regular letter title (omega arith) few (omega arith) (omega arith),
+    (good-words lanes at 1440 240 anchors.Middle weights.Regular letter title (omega arith) few (omega arith) (omega arith), tt),
+  ),
+)
+
+good-marked : (it : LabelWords) (cycles lanes : ℕ) (marked : Marked) → AreLabels it → lanes ≤ 16 → IsMarked it cycles marked → AllByRecursion (Good lanes) (line_of it cycles lanes marked)
+unfolding line_of
+good-marked it cycles lanes marked labels few is =
+    let there = is.there in
+    let most = labels.few in
+    let begun = is.begun in
+    let run = is.in_run in
+    let x = begin_of cycles marked.cycle in
+    let right = begins-within cycles marked.cycle (omega arith) (omega arith) in
+    let before = count-most it marked.cycle marked.cycle marked.place in
+    good-line-at lanes x (letter_x x (marked_before it marked)) (letter_text marked.place) (mark_title it marked) few right (letter-most x (marked_before it marked) right (omega (arith, before)))
+
+good-lines : (it : LabelWords) (cycles lanes : ℕ) → AreLabels it → lanes ≤ 16 → AllByRecursion (Good lanes) (lines_marks it cycles lanes)
+good-lines it cycles lanes labels few =
+    all-over (IsMarked it cycles) (Good lanes) (line_of it cycles lanes) (λ marked is. good-marked it cycles lanes marked labels few is) (all_marked it cycles) (each-marked it cycles (length it.marks) (omega arith))
+
+good-row-at : (height y : ℕ) (letter cycle text : List ℕ) → height ≤ 60000 → y ≤ height → AllByRecursion (GoodTo height) (row_at y letter cycle text)
+good-row-at height y letter cycle text few low = (
+  words-to height 2000 y 260 anchors.Start weights.Bold letter [] (omega arith) few (omega arith) low,
+  (words-to height 2400 y 260 anchors.Start weights.Regular cycle [] (omega arith) few (omega arith) low, (words-to height 3900 y 260 anchors.Start weights.Regular text [] (omega arith) few (omega arith) low, tt)),
+)
+
+good-row-of : (height top : ℕ) (it : LabelWords) (cycles : ℕ) (marked : Marked) → height ≤ 60000 → top + list_height it cycles ≤ height → IsMarked it cycles marked → AllByRecursion (GoodTo height) (row_of top it cycles marked)
+unfolding row_of
+good-row-of height top it cycles marked few low is =
+    let below = count-below it 1 cycles marked.place (length it.marks) is.there (is-counted it cycles marked is) in
+    good-row-at height ((top + 100) + 400 * row_number it cycles marked) (letter_text marked.place) (label_of it.start marked.cycle) (mark_text it marked.place) few (omega (arith, below, low))
+
+good-list : (height top : ℕ) (it : LabelWords) (cycles : ℕ) → height ≤ 60000 → top + list_height it cycles ≤ height → AllByRecursion (GoodTo height) (list_marks top it cycles)
+good-list height top it cycles few low =
+    all-over (IsMarked it cycles) (GoodTo height) (row_of top it cycles) (λ marked is. good-row-of height top it cycles marked few low is) (all_marked it cycles) (each-marked it cycles (length it.marks) (omega arith))
 
 -- ---- the panels of a pair
 
 -- A mark lies within the whole page, and its numbers fit.
 abbrev GoodPage : ℕ → ℕ → Mark → Type 0
-GoodPage lanes below mark = IsMarkWithin (page_bounds lanes below) mark × FitsMark mark
+GoodPage lanes below mark = GoodTo (page_height lanes + below) mark
 
 lifted : (inner outer : Bounds) → AreInside inner outer → (marks : List Mark) → AllByRecursion (λ mark. IsMarkWithin inner mark × FitsMark mark) marks → AllByRecursion (λ mark. IsMarkWithin outer mark × FitsMark mark) marks
 lifted inner outer inside [] good = tt
@@ -734,38 +834,53 @@ lifted inner outer inside (mark ∷ marks) good = ((wider inner outer inside mar
 above : (lanes below : ℕ) (marks : List Mark) → AllByRecursion (Good lanes) marks → AllByRecursion (GoodPage lanes below) marks
 above lanes below marks good = lifted (bounds_of lanes) (page_bounds lanes below) (record { left = omega arith; top = omega arith; right = omega arith; bottom = omega arith }) marks good
 
-good-panel : (e : Parts) (lanes top : ℕ) (distance : Distance) (pair : NearPair) → lanes ≤ 16 → page_height lanes ≤ top → top + 3400 ≤ page_height lanes + 6800 → IsPair e pair → AllByRecursion (GoodPage lanes 6800) (distance_marks top e distance pair)
-good-panel e lanes top distance pair few low high is =
-    lifted (bounds_from top) (page_bounds lanes 6800) (record { left = omega arith; top = omega arith; right = omega arith; bottom = omega arith }) (distance_marks top e distance pair) (are-within top e distance pair (omega arith) is)
+good-panel : (e : Parts) (height top : ℕ) (distance : Distance) (pair : NearPair) → top + 3400 ≤ height → height ≤ 60000 → IsPair e pair → AllByRecursion (GoodTo height) (distance_marks top e distance pair)
+good-panel e height top distance pair high few is =
+    lifted (bounds_from top) (bounds_to height) (record { left = omega arith; top = omega arith; right = omega arith; bottom = omega arith }) (distance_marks top e distance pair) (are-within top e distance pair (omega arith) is)
 
-good-panels : (e : Parts) (lanes : ℕ) → lanes ≤ 16 → (pair : Option NearPair) → IsNearest e pair → AllByRecursion (GoodPage lanes (panels_height pair)) (panel_marks (page_height lanes) e pair)
-good-panels e lanes few None nearest = tt
-good-panels e lanes few (Some pair) nearest =
+good-panels : (e : Parts) (height top : ℕ) → (pair : Option NearPair) → top + panels_height pair ≤ height → height ≤ 60000 → IsNearest e pair → AllByRecursion (GoodTo height) (panel_marks top e pair)
+good-panels e height top None low few nearest = tt
+good-panels e height top (Some pair) low few nearest =
     let is = is-pair e pair nearest in
-    let top = page_height lanes in
-    all-append (GoodPage lanes 6800) (distance_marks top e Slant pair) (distance_marks (top + 3400) e Vertical pair)
-    (good-panel e lanes top Slant pair few (omega arith) (omega arith) is) (good-panel e lanes (top + 3400) Vertical pair few (omega arith) (omega arith) is)
+    all-append (GoodTo height) (distance_marks top e Slant pair) (distance_marks (top + 3400) e Vertical pair)
+    (good-panel e height top Slant pair (omega arith) few is) (good-panel e height (top + 3400) Vertical pair (omega arith) few is)
 
 -- ---- all of it
 
-abbrev below_of : Parts → ℕ
-below_of e = panels_height (nearest_pair e)
+panels-most : (pair : Option NearPair) → panels_height pair ≤ 6800
+panels-most None = omega arith
+panels-most (Some pair) = omega arith
 
-pub are-good : (e : Parts) (J : List Entry) → IsEncounter e → IsLegal (air_of e) J → lanes_of e ≤ 16 → AllByRecursion (λ (s : Section). AllByRecursion (GoodPage (lanes_of e) (below_of e)) s.marks) (sections e J)
-are-good e J valid l few =
+below-most : (it : LabelWords) (e : Parts) → AreLabels it → below_of it e ≤ 17200
+below-most it e labels =
+    let panels = panels-most (nearest_pair e) in
+    let few = labels.few in
+    let count = count-most it 1 e.cycles (length it.marks) in
+    omega (arith, panels, few, count)
+
+pub are-good : (it : LabelWords) (e : Parts) (J : List Entry) → AreLabels it → IsEncounter e → IsLegal (air_of e) J → lanes_of e ≤ 16 → AllByRecursion (λ (s : Section). AllByRecursion (GoodPage (lanes_of e) (below_of it e)) s.marks) (sections it e J)
+are-good it e J labels valid l few =
     let n = lanes_of e in
-    let below = below_of e in
-    let lanes = all-range (Good n) (craft_marks e J) 0 (length e.crafts) (λ own first last. good-craft (air_of e) e J l few own) in
+    let below = below_of it e in
+    let most = below-most it e labels in
+    let height = page_height n + below in
+    let tall : height ≤ 60000 = omega (arith, most, few) in
+    let lanes = all-range (Good n) (craft_marks it e J) 0 (length e.crafts) (λ own first last. good-craft (air_of e) it e J l few own) in
     let bands = good-bands (air_of e) e J l n few in
-    let panels = good-panels e n few (nearest_pair e) (nearest-is e valid) in (
+    let panels = good-panels e height (panels_top n) (nearest_pair e) (omega arith) tall (nearest-is e valid) in
+    let legend = good-legend height (legend_top e) tall (omega arith) in
+    let list = good-list height (list_top e) it e.cycles tall (omega arith) in (
       above n below (head_marks e J) (good-head e J n few),
       (
-        above n below (time_marks e.cycles n) (good-time n e.cycles few),
+        above n below (time_marks e.cycles it.start n) (good-time n e.cycles it.start few),
         (
-          above n below (bands_marks e J) bands,
+          above n below (lines_marks it e.cycles n) (good-lines it e.cycles n labels few),
           (
-            above n below (altitude_marks e) (good-altitude e n few),
-            (above n below (messages_marks e J) (good-messages e J l few), (above n below (lanes_marks e J) lanes, (above n below (legend_marks n) (good-legend n few), (panels, tt)))),
+            above n below (bands_marks e J) bands,
+            (
+              above n below (altitude_marks it e) (good-altitude it e n few),
+              (above n below (messages_marks e J) (good-messages e J l few), (above n below (lanes_marks it e J) lanes, (panels, (legend, (list, tt))))),
+            ),
           ),
         ),
       ),
@@ -778,25 +893,21 @@ each-section P Q (s ∷ rest) h =
     let more = each-section P Q rest h.1 in
     ((all-left P Q s.marks h.0, more.0), (all-right P Q s.marks h.0, more.1))
 
-fits-page : (lanes below : ℕ) → lanes ≤ 16 → below ≤ 6800 → FitsFrame (frame_of lanes below)
+fits-page : (lanes below : ℕ) → lanes ≤ 16 → below ≤ 17200 → FitsFrame (frame_of lanes below)
 fits-page lanes below few small_below = record {
   width = omega arith;
   height = omega arith;
-  window = record { corner = is-point (bounds_of lanes) 2000 5100 (small lanes few) (place lanes 2000 5100 (omega arith) (omega arith)); width = omega arith; height = omega arith };
+  window = record { corner = (point-to (page_height lanes) 2000 5100 (low-page lanes few) (omega arith) (omega arith)).1; width = omega arith; height = omega arith };
 }
 
-fits-frame : (lanes : ℕ) (pair : Option NearPair) → lanes ≤ 16 → FitsFrame (frame_of lanes (panels_height pair))
-fits-frame lanes None few = fits-page lanes 0 few (omega arith)
-fits-frame lanes (Some pair) few = fits-page lanes 6800 few (omega arith)
-
-pub is-sound : (e : Parts) (J : List Entry) → IsEncounter e → length e.crafts ≤ 16 → IsLegal (air_of e) J → IsSound e J
+pub is-sound : (it : LabelWords) (e : Parts) (J : List Entry) → AreLabels it → IsEncounter e → length e.crafts ≤ 16 → IsLegal (air_of e) J → IsSound it e J
 unfolding picture_lines
-is-sound e J valid most l =
+is-sound it e J labels valid most l =
     let few : lanes_of e ≤ 16 = (let it = filter-few is_active e.crafts in omega (arith, it)) in
-    let both = each-section (IsMarkWithin (page_bounds (lanes_of e) (below_of e))) FitsMark (sections e J) (are-good e J valid l few) in
+    let both = each-section (IsMarkWithin (page_bounds (lanes_of e) (below_of it e))) FitsMark (sections it e J) (are-good it e J labels valid l few) in
     record {
       within = both.0;
-      formed = form (page e) (title_text e) description (sections e J) (fits-frame (lanes_of e) (nearest_pair e) few) both.1;
+      formed = form (page it e) (title_text e) description (sections it e J) (fits-page (lanes_of e) (below_of it e) few (below-most it e labels)) both.1;
     }
   where
     is_active : CraftSpec → Bool

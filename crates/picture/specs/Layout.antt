@@ -69,10 +69,14 @@ plot_area lanes = area_at 2000 plot_top 15800 (plot_height lanes)
 abbrev pub frame_of : ℕ → ℕ → Frame
 frame_of lanes below = record { width = page_width; height = page_height lanes + below; window = plot_area lanes }
 
+-- The page down to a height.
+abbrev pub bounds_to : ℕ → Bounds
+bounds_to height = record { left = 0; top = 0; right = page_width; bottom = height }
+
 -- The page without them.
 abbrev pub bounds_of : ℕ → Bounds
-bounds_of lanes = record { left = 0; top = 0; right = page_width; bottom = page_height lanes }
+bounds_of lanes = bounds_to (page_height lanes)
 
 -- The whole page.
 abbrev pub page_bounds : ℕ → ℕ → Bounds
-page_bounds lanes below = record { left = 0; top = 0; right = page_width; bottom = page_height lanes + below }
+page_bounds lanes below = bounds_to (page_height lanes + below)

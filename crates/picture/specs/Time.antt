@@ -3,7 +3,7 @@ use Rattle.std.specs.Prelude.{ℕ, ◌+◌, List, [], ◌∷◌, ◌++◌, codes
 use Rattle.page_marks.specs.Paints.{ink, letters, line_paint}
 use Rattle.page_marks.specs.Places.{point_at}
 use Rattle.page_marks.specs.Ticks.{time_ticks}
-use Rattle.page_marks.specs.declared.ticks.TickPlace.{TickPlace}
+use Rattle.page_marks.specs.declared.tick_place.TickPlace.{TickPlace}
 use Rattle.picture.specs.Layout.{course_top, plot_area, plot_bottom}
 use Rattle.svg_text.specs.Marks.{Mark, figure, worded}
 use Rattle.svg_text.specs.declared.shapes.Anchor.TheVariants as anchors

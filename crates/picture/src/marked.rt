@@ -46,9 +46,10 @@ fn counted(more: bool, count: u32) -> u32
 
 /// How many marks of the first places of the list are of a cycle from one to another one.
 pub(crate) fn count_among(labels: &Labels<'_>, first: u16, last: u16, places: usize) -> u32
-    requires { places ≤ length labels.now.marks }
+    requires places { places ≤ length labels.now.marks }
+    requires few { places ≤ 26 }
     ensures value { result ≡ count_among labels.now first last places }
-    ensures few { result ≤ places }
+    ensures most { result ≤ places }
 {
     let mut count = 0;
     for place in 0..places {

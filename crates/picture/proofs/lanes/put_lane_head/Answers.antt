@@ -10,6 +10,5 @@ returns g c =
     let line = rw from at c.put_line.ensures in
     let lines = rw to at line in
     let one = rw c.grid.ensures at lines in
-    let words = rw at at c.put_words.ensures in
-    let two = rw c.address_text.ensures.text at words in
+    let two = rw at at c.put_words.ensures in
     g.met.D.Drawing.then _ _ _ _ _ one two

@@ -7,7 +7,7 @@ use Rattle.picture.proofs.lanes.put_lanes.Goals as goal
 
 pub loop-own-preserved : goal.loop-own-preserved
 loop-own-preserved g c =
-    let f = craft_marks c.args.state.now.encounter c.args.state.now.journal in
+    let f = craft_marks c.args.labels.now c.args.state.now.encounter c.args.state.now.journal in
     let n = c.loop-own.own in
     let here : 0 + n ≡ n = omega arith in
     subst (g.D.Drawing.drew c.args.drawing.now c.put_craft.new.drawing) (ap (λ (k : ℕ). flat_map f (range_with_len 0 n) ++ f k) (sym here) ∙ sym (flat-more f 0 n))
@@ -15,7 +15,7 @@ loop-own-preserved g c =
 
 pub returns : goal.returns
 returns g c =
-    let f = craft_marks c.args.state.now.encounter c.args.state.now.journal in
+    let f = craft_marks c.args.labels.now c.args.state.now.encounter c.args.state.now.journal in
     let count = ap length (c.crafts-own-end.ensures.value ∙ ap (λ (p : Parts). p.crafts) c.enc.ensures) in
     let all : c.loop-own.own ≡ length c.args.state.now.encounter.crafts = (let end = c.loop-own-test.false in let most = c.loop-own.auto.own-end in omega arith) in
     subst (λ (n : ℕ). g.D.Drawing.drew c.args.drawing.now c.loop-own.drawing (flat_map f (range_with_len 0 n))) all c.loop-own.invariant

@@ -3,4 +3,4 @@ use Rattle.picture.proofs.Placing.{is-sound}
 use Rattle.picture.proofs.laws.sound_law.Goals as goal
 
 pub returns : goal.returns
-returns c e journal valid legal = is-sound e journal valid (few-crafts e valid) legal
+returns c it e journal labels valid legal = is-sound it e journal labels valid (few-crafts e valid) legal

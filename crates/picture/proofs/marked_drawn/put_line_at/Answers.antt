@@ -1,0 +1,13 @@
+use Rattle.std.proofs.Common.{ap, ◌∙◌}
+use Rattle.page_marks.specs.Places.{point_at}
+use Rattle.picture.proofs.marked_drawn.put_line_at.Goals as goal
+
+pub returns : goal.returns
+returns g c =
+    let to = c.point_at-2.ensures ∙ ap (point_at c.args.x) c.plot_bottom.ensures.value in
+    let from = rw c.point_at.ensures at c.figure.ensures in
+    let line = rw to at from in
+    let painted = rw c.dashed_paint.ensures at line in
+    let one = rw c.note.ensures at painted in
+    let two = rw c.point_at-3.ensures at c.put_over.ensures in
+    g.met.D.Drawing.then _ _ _ _ _ one two

@@ -1,0 +1,24 @@
+use Rattle.std.proofs.Common.{◌≡◌, ℕ, length, sym, subst, arith}
+use Rattle.std.specs.List.{flat_map}
+use Rattle.picture.specs.Marked.{marked_among}
+use Rattle.picture.specs.MarkedDrawn.{line_of}
+use Rattle.picture.proofs.Marking.{drawn-more, drawn-none}
+use Rattle.picture.proofs.marked_drawn.put_lines.Goals as goal
+
+pub loop-place-init : goal.loop-place-init
+loop-place-init g c =
+    let f = line_of c.args.labels.now c.args.axis.cycles c.args.lanes in
+    subst (g.D.Drawing.drew c.args.drawing.now c.args.drawing.now) (sym (drawn-none f c.args.labels.now c.args.axis.cycles)) (g.met.D.Drawing.nothing c.args.drawing.now)
+
+pub loop-place-preserved : goal.loop-place-preserved
+loop-place-preserved g c =
+    let f = line_of c.args.labels.now c.args.axis.cycles c.args.lanes in
+    subst (g.D.Drawing.drew c.args.drawing.now c.put_marked.new.drawing) (drawn-more f c.args.labels.now c.args.axis.cycles c.loop-place.place)
+    (g.met.D.Drawing.then _ _ _ _ _ c.loop-place.invariant c.put_marked.ensures)
+
+pub returns : goal.returns
+returns g c =
+    let f = line_of c.args.labels.now c.args.axis.cycles c.args.lanes in
+    let count = c.marks-place-end.ensures.value in
+    let all : c.loop-place.place ≡ length c.args.labels.now.marks = (let end = c.loop-place-test.false in let most = c.loop-place.auto.place-end in omega arith) in
+    subst (λ (n : ℕ). g.D.Drawing.drew c.args.drawing.now c.loop-place.drawing (flat_map f (marked_among c.args.labels.now c.args.axis.cycles n))) all c.loop-place.invariant

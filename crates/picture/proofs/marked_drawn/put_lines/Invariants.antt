@@ -1,0 +1,8 @@
+use Rattle.std.specs.List.{flat_map}
+use Rattle.picture.specs.Marked.{marked_among}
+use Rattle.picture.specs.MarkedDrawn.{line_of}
+use Rattle.picture.proofs.marked_drawn.put_lines.Given as goal
+
+-- Those of the places so far were put.
+abbrev pub invariant-loop-place : goal.invariant-loop-place
+invariant-loop-place g l = g.D.Drawing.drew l.fn.drawing l.drawing (flat_map (line_of l.labels l.axis.cycles l.lanes) (marked_among l.labels l.axis.cycles l.place))
