@@ -1,14 +1,7 @@
--- Times of day.
-use Rattle.std.specs.Prelude.{ℕ, ◌+◌, ◌-◌, ◌*◌, ◌/◌, ◌%◌, ◌&&◌, if◌then◌else◌, nat_lt, List, ◌++◌, ◌∷◌, [], codes, get_or, Option, Some, None}
+-- Times of day, as words tell them.
+use Rattle.std.specs.Prelude.{ℕ, ◌+◌, ◌-◌, ◌*◌, ◌&&◌, if◌then◌else◌, nat_lt, List, get_or, Option, Some, None}
 use Rattle.std.specs.Str.{bytes_eq}
-
--- Two digits.
-abbrev pub pair : ℕ → List ℕ
-pair n = (48 + n / 10 % 10) ∷ (48 + n % 10) ∷ []
-
--- A second of the day as hh:mm:ss.
-unfoldable pub clock_text : ℕ → List ℕ
-clock_text second = pair (second / 3600) ++ codes ":" ++ pair (second / 60 % 60) ++ codes ":" ++ pair (second % 60)
+use Rattle.plot_axes.specs.Clock.{clock_text}
 
 -- The number that two digits tell, from a place on.
 abbrev pub pair_at : List ℕ → ℕ → ℕ

@@ -1,3 +1,5 @@
 pub mod Places
 pub mod Paints
 pub mod Within
+pub mod Ticks
+pub mod Frame

@@ -1,3 +1,4 @@
+pub mod Clock
 pub mod Scale
 pub mod Steps
 pub mod Time

@@ -1,6 +1,8 @@
 -- The axis of time: a run of cycles, a second each.
-use Rattle.std.specs.Prelude.{◌≡◌, ℕ, ◌+◌, ◌-◌, ◌/◌, ◌%◌, ◌<◌, ◌≤◌, Bool, ◌==◌, if◌then◌else◌, List, [], ◌∷◌, Option, is_some}
+use Rattle.std.specs.Prelude.{◌≡◌, ℕ, ◌+◌, ◌-◌, ◌/◌, ◌%◌, ◌<◌, ◌≤◌, Bool, ◌==◌, if◌then◌else◌, List, [], ◌∷◌, Option, None, Some, is_some}
+use Rattle.std.specs.Fmt.{decimal}
 use Rattle.std.specs.Option.{option_map_or}
+use Rattle.plot_axes.specs.Clock.{clock_text}
 use Rattle.plot_axes.specs.Scale.{share}
 use Rattle.plot_axes.specs.Steps.{step_for}
 
@@ -32,6 +34,11 @@ tick_step cycles start = step_for cycles (most_ticks start) 0 time_steps
 -- What a cycle is called: its number, or its second of the day. A clock runs past midnight.
 abbrev pub name_of : Option ℕ → ℕ → ℕ
 name_of start cycle = option_map_or (λ second. (second + cycle - 1) % 86400) start cycle
+
+-- What stands under a tick: the name of its cycle, as a number or as hh:mm:ss.
+abbrev pub label_of : Option ℕ → ℕ → List ℕ
+label_of None cycle = decimal cycle
+label_of (Some second) cycle = clock_text (name_of (Some second) cycle)
 
 -- A tick stands where the name is a multiple of the step.
 abbrev pub is_tick : ℕ → Option ℕ → ℕ → Bool

@@ -1,10 +1,13 @@
 // The axis of time.
-ghost use Rattle.std.specs.Prelude.{◌≡◌, ◌+◌, ◌<◌, ◌≤◌};
+ghost use Rattle.std.specs.Prelude.{◌≡◌, ◌+◌, ◌<◌, ◌≤◌, length};
+ghost use Rattle.std.specs.Fmt.{decimal};
 ghost use Rattle.std.specs.Option.{ForSome};
-ghost use Rattle.plot_axes.specs.Time.{begin_of, is_tick, middle_of, most_ticks, name_of, tick_step};
+ghost use Rattle.plot_axes.specs.Time.{begin_of, is_tick, label_of, middle_of, most_ticks, name_of, tick_step};
 
+use crate::clock::clock_text;
 use crate::scale::share;
 use crate::steps::least_step;
+use acas_text::Line;
 
 /// Where the axis of time begins, in units of the drawing.
 pub const TIME_BEGIN: u32 = 2_000;
@@ -26,6 +29,16 @@ pub struct TimeAxis {
     ghost some: { 1 ≤ cycles },
     ghost few: { cycles ≤ 600 },
     ghost day: { ForSome start (λ second. second < 86400) },
+}
+
+// The number of a cycle.
+fn number_text(cycle: u16) -> Line
+    ensures text { result ≡ decimal cycle }
+    ensures short { length result ≤ 8 }
+{
+    let mut line = Line::new();
+    line.u16(cycle);
+    line
 }
 
 impl TimeAxis {
@@ -76,6 +89,19 @@ impl TimeAxis {
         match self.start {
             Some(second) => (second + u32::from(cycle) - 1) % DAY,
             None => u32::from(cycle),
+        }
+    }
+
+    /// What stands under a tick: the number of its cycle, or its time of day.
+    pub fn label(self, cycle: u16) -> Line
+        requires first { 1 ≤ cycle }
+        requires last { cycle ≤ 600 }
+        ensures text { result ≡ label_of self.start cycle }
+        ensures short { length result ≤ 8 }
+    {
+        match self.start {
+            Some(_) => clock_text(self.name(cycle)),
+            None => number_text(cycle),
         }
     }
 

@@ -50,6 +50,9 @@ fn clock_past_midnight(rt: HostRuntime) {
     assert!(rt; !run.is_tick(5));
     assert!(rt; run.is_tick(9));
     assert!(rt; axis(50, None).is_tick(5));
+    assert_eq!(rt; run.label(3).bytes(), b"23:59:59".as_slice());
+    assert_eq!(rt; run.label(4).bytes(), b"00:00:00".as_slice());
+    assert_eq!(rt; axis(600, None).label(600).bytes(), b"600".as_slice());
 }
 
 // 6,400 units for 1,000 ft: 6.4 for each.

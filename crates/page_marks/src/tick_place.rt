@@ -1,0 +1,19 @@
+// Where ticks stand.
+ghost use Rattle.std.specs.Prelude.{◌<◌, ◌^◌};
+
+/// Where the ticks of time stand on the page, in units of the drawing.
+#[derive(Clone, Copy, Debug, PartialEq, Eq)]
+pub struct TickPlace {
+    /// How far down their lines begin.
+    pub top: u32,
+    /// How far down they end.
+    pub bottom: u32,
+    /// How far down the labels stand.
+    pub label: u32,
+    /// The size of their letters.
+    pub size: u16,
+
+    ghost top_bound: { top < 2 ^ 16 },
+    ghost bottom_bound: { bottom < 2 ^ 16 },
+    ghost label_bound: { label < 2 ^ 16 },
+}
