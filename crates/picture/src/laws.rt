@@ -38,8 +38,8 @@ pub fn mishaps_law()
     ensures spoilt { (e : Parts) (journal : List Entry) → IsLegal (air_of e) journal → AreSentRows e journal Spoilt (sent_rows e journal HollowHead) }
 {}
 
-/// A law: of the marks of the labels exactly those are drawn whose cycle is one of the run, each once and in the order of
-/// the list.
+/// A law: of the marks of the labels exactly those are drawn whose cycle is one of the run, each once and in the order
+/// of the list.
 pub fn marks_law()
     ensures { (it : LabelWords) (cycles : ℕ) → AreMarked it cycles (all_marked it cycles) }
 {}

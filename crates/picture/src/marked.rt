@@ -1,5 +1,5 @@
 // The marks of the labels that are drawn.
-ghost use Rattle.std.specs.Prelude.{◌≡◌, ◌<◌, ◌≤◌, IfSome, length};
+ghost use Rattle.std.specs.Prelude.{◌≡◌, ◌+◌, ◌<◌, ◌≤◌, IfSome, length};
 ghost use Rattle.picture.specs.Marked.{IsMarked, count_among, counted, is_from, marked_at};
 
 use labels::Labels;
@@ -25,6 +25,7 @@ pub(crate) fn marked_at(labels: &Labels<'_>, cycles: u16, place: usize) -> Optio
     requires place { place < length labels.now.marks }
     ensures value { result ≡ marked_at labels.now cycles place }
     ensures within { IfSome result (λ marked. IsMarked labels.now cycles marked) }
+    ensures here { IfSome result (λ marked. marked.place ≡ place) }
 {
     let cycle = labels.mark_cycle(place);
     if is_from(1, cycles, cycle) {

@@ -177,11 +177,11 @@ fn cycles_of(encounter: &Encounter) -> TimeAxis
     }
 }
 
-/// The picture of a state, as SVG: a head, an axis of time, the altitude of each aircraft with bands where it
-/// advises, a lane for each aircraft that advises, the distances of the two aircraft that come nearest, and a legend. In
-/// a lane stands a bar for each longest row of cycles with one word of the report, which isn't CLEAR, and one corrective
-/// mark. Between the lanes stands an arrow for each take of a message that changes the complement in force, a cross for
-/// each maximal row of lost messages of two aircraft, and a hollow head for each one of spoilt messages. The state comes
+/// The picture of a state, as SVG: a head, an axis of time, the altitude of each aircraft with bands where it advises,
+/// a lane for each aircraft that advises, the distances of the two aircraft that come nearest, and a legend. In a lane
+/// stands a bar for each longest row of cycles with one word of the report, which isn't CLEAR, and one corrective mark.
+/// Between the lanes stands an arrow for each take of a message that changes the complement in force, a cross for each
+/// maximal row of lost messages of two aircraft, and a hollow head for each one of spoilt messages. The state comes
 /// with what became of its messages.
 ///
 /// The labels give the clock of the axis of time, what aircraft are called at the lanes and the lines of altitudes, and

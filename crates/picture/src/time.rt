@@ -1,5 +1,5 @@
 // The axis of time.
-ghost use Rattle.std.specs.Prelude.{◌≡◌, ◌≤◌, length};
+ghost use Rattle.std.specs.Prelude.{◌≡◌, ◌<◌, ◌≤◌, ◌^◌, length};
 ghost use Rattle.picture.specs.Layout.{plot_bottom};
 ghost use Rattle.picture.specs.Time.{axis_name, box_and_name, tick_place, time_marks};
 
@@ -12,7 +12,10 @@ use svg_text::{Anchor, Drawing, Shape, Weight};
 // Where the ticks stand.
 fn tick_place(lanes: u32) -> TickPlace
     requires { lanes ≤ 16 }
-    ensures { result ≡ tick_place lanes }
+    ensures value { result ≡ tick_place lanes }
+    ensures top { result.top < 2 ^ 16 }
+    ensures bottom { result.bottom < 2 ^ 16 }
+    ensures label { result.label < 2 ^ 16 }
 {
     let bottom = plot_bottom(lanes);
     TickPlace {
