@@ -11,6 +11,7 @@ mod paints;
 mod places;
 mod tick_place;
 mod ticks;
+mod words;
 
 pub use frame::{put_dot, put_frame};
 pub use laws::{bounds_law, ticks_law};
@@ -21,3 +22,4 @@ pub use paints::{
 pub use places::{area_at, point_at};
 pub use tick_place::TickPlace;
 pub use ticks::{put_time_ticks, put_value_tick};
+pub use words::add_words;

@@ -1,5 +1,4 @@
 // Where ticks stand.
-ghost use Rattle.std.specs.Prelude.{◌<◌, ◌^◌};
 
 /// Where the ticks of time stand on the page, in units of the drawing.
 #[derive(Clone, Copy, Debug, PartialEq, Eq)]
@@ -12,8 +11,4 @@ pub struct TickPlace {
     pub label: u32,
     /// The size of their letters.
     pub size: u16,
-
-    ghost top_bound: { top < 2 ^ 16 },
-    ghost bottom_bound: { bottom < 2 ^ 16 },
-    ghost label_bound: { label < 2 ^ 16 },
 }

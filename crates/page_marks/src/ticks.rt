@@ -12,6 +12,9 @@ use svg_text::{Anchor, Drawing, Shape, Weight};
 
 // Puts a line and its label.
 fn put_time_tick_at<D: Drawing>(place: TickPlace, x: u32, label: &Line, drawing: &mut D)
+    requires top { place.top < 2 ^ 16 }
+    requires bottom { place.bottom < 2 ^ 16 }
+    requires words { place.label < 2 ^ 16 }
     requires x { x < 2 ^ 16 }
     requires label { length label.now ≤ LABEL_BYTES }
     ensures { D.drew drawing.old drawing.new (time_tick_at place x label.now) }
@@ -34,6 +37,9 @@ fn put_time_tick_at<D: Drawing>(place: TickPlace, x: u32, label: &Line, drawing:
 // Puts them where a tick stands.
 #[tactic(auto, unfolding(crate::specs::Ticks::time_tick))]
 fn put_time_tick<D: Drawing>(axis: TimeAxis, place: TickPlace, cycle: u16, drawing: &mut D)
+    requires top { place.top < 2 ^ 16 }
+    requires bottom { place.bottom < 2 ^ 16 }
+    requires words { place.label < 2 ^ 16 }
     requires first { 1 ≤ cycle }
     requires last { cycle ≤ axis.cycles }
     ensures { D.drew drawing.old drawing.new (time_tick axis.cycles axis.start place cycle) }
@@ -46,6 +52,9 @@ fn put_time_tick<D: Drawing>(axis: TimeAxis, place: TickPlace, cycle: u16, drawi
 /// Puts the ticks of an axis of time: a line of the grid at each, and below it the number of its cycle, or its time of
 /// day where there is a clock.
 pub fn put_time_ticks<D: Drawing>(axis: TimeAxis, place: TickPlace, drawing: &mut D)
+    requires top { place.top < 2 ^ 16 }
+    requires bottom { place.bottom < 2 ^ 16 }
+    requires words { place.label < 2 ^ 16 }
     ensures { D.drew drawing.old drawing.new (time_ticks axis.cycles axis.start place) }
 {
     for cycle in 1..axis.cycles + 1 {

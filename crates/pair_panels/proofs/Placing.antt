@@ -7,20 +7,24 @@ use Rattle.std.specs.Prelude.{◌==◌}
 use Rattle.std.specs.Fmt.{decimal}
 use Rattle.std.specs.List.{AllByRecursion}
 use Rattle.acas_base.specs.Encounter.{Parts}
-use Rattle.page_marks.proofs.Bounded.{AreSmall, Good, IsPlace, all-append, all-points, all-range, at-point, good-box, good-circle, good-line, good-words, is-point}
-use Rattle.page_marks.specs.Paints.{dashed_paint, grid, ink, line_paint}
+use Rattle.labels.specs.Labels.{LabelWords}
+use Rattle.page_marks.proofs.Bounded.{AreSmall, Good, IsPlace, all-append, all-points, all-range, at-point, good-circle, good-line, good-words, is-point}
+use Rattle.page_marks.proofs.Ticking.{begins, good-dot, good-frame, good-ticks, good-value-tick}
+use Rattle.page_marks.specs.Frame.{dot_mark, frame_marks}
+use Rattle.page_marks.specs.Paints.{dashed_paint, ink, line_paint}
+use Rattle.page_marks.specs.Ticks.{HoldsTicks, IsHeight, time_ticks}
 use Rattle.page_marks.specs.Within.{IsWithin}
 use Rattle.pair_panels.proofs.Axis.{holds, holds-all}
 use Rattle.pair_panels.specs.Distances.{aim_of, distance_in, end_of, greatest, ticks_of}
 use Rattle.pair_panels.specs.Laws.{AreShown, AreWithin, IsShown, bounds_from}
 use Rattle.pair_panels.specs.Nearest.{IsPair}
-use Rattle.pair_panels.specs.Panel.{aim_at, aim_marks, aim_text, closest_marks, closest_of, curve, cycle_tick, cycle_tick_at, cycle_ticks, distance_marks, frame_marks, heading_of, plot_bottom, plot_top, tick_text, value_point, value_tick, value_ticks, value_y}
+use Rattle.pair_panels.specs.Panel.{aim_at, aim_marks, aim_text, closest_marks, closest_of, curve, distance_marks, heading_of, line_mark, plot_bottom, plot_height, plot_top, tick_place, tick_text, value_point, value_tick, value_ticks, value_y}
 use Rattle.pair_panels.specs.declared.distance.Distance.{Distance}
 use Rattle.pair_panels.specs.declared.ticks.Ticks.{Ticks}
 use Rattle.pair_panels.specs.declared.nearest.NearPair.{NearPair}
 use Rattle.plot_axes.proofs.Shares.{kept}
 use Rattle.plot_axes.specs.Scale.{share}
-use Rattle.plot_axes.specs.Time.{begin_of, is_tick}
+use Rattle.plot_axes.specs.Time.{begin_of}
 use Rattle.svg_text.specs.Fitting.{IsPoint}
 use Rattle.svg_text.specs.declared.shapes.Anchor.TheVariants as anchors
 use Rattle.svg_text.specs.declared.shapes.Dash.TheVariants as dashes
@@ -31,9 +35,6 @@ small top most = record { right = omega arith; bottom = omega arith }
 
 place : (top x y : ℕ) → x ≤ 20000 → top ≤ y → y ≤ top + 3400 → IsPlace (bounds_from top) x y
 place top x y wide low tall = record { left = omega arith; right = omega arith; top = omega arith; bottom = omega arith }
-
-begins : (cycles cycle : ℕ) → 1 ≤ cycles → cycle ≤ cycles + 1 → begin_of cycles cycle ≤ 17800
-begins cycles cycle some last = (let it = (kept 15800 cycles 0 (cycle - 1) (omega arith) (omega arith) (omega arith)).within in omega (arith, it))
 
 -- ---- heights
 
@@ -104,42 +105,32 @@ y-place top x value ticks wide some on =
     let below = shown.below in
     place top x (value_y top ticks value) wide (omega arith) (omega arith)
 
-good-frame : (top : ℕ) (heading closest : List ℕ) → top ≤ 40000 → AllByRecursion (Good (bounds_from top)) (frame_marks top heading closest)
-good-frame top heading closest most =
-    let bounds = bounds_from top in
-    let one = good-words bounds 2000 (top + 350) 260 anchors.Start weights.Bold heading [] (omega arith) (small top most) (place top 2000 (top + 350) (omega arith) (omega arith) (omega arith)) in
-    let two = good-words bounds 17800 (top + 350) 240 anchors.End weights.Regular closest [] (omega arith) (small top most) (place top 17800 (top + 350) (omega arith) (omega arith) (omega arith)) in
-    let box = good-box bounds 2000 (plot_top top) 15800 2300 (line_paint ink 15) [] (omega arith) (small top most) (place top 2000 (plot_top top) (omega arith) (omega arith) (omega arith)) (place top (2000 + 15800) (plot_top top + 2300) (omega arith) (omega arith) (omega arith)) in
-    (one, (two, (box, tt)))
-
-good-value-tick : (top : ℕ) (distance : Distance) (ticks : Ticks) (number : ℕ) → top ≤ 40000 → 0 < end_of ticks → number < 0 + (ticks.count + 1) → AllByRecursion (Good (bounds_from top)) (value_tick top distance ticks number)
+good-tick : (top : ℕ) (distance : Distance) (ticks : Ticks) (number : ℕ) → top ≤ 40000 → 0 < end_of ticks → number < 0 + (ticks.count + 1) → AllByRecursion (Good (bounds_from top)) (value_tick top distance ticks number)
 unfolding value_tick
-good-value-tick top distance ticks number most some few =
-    let bounds = bounds_from top in
+good-tick top distance ticks number most some few =
     let value = number * ticks.step in
     let on : value ≤ end_of ticks = mul-le-mul_right ticks.step (let it = few in omega (arith, it)) in
     let y = value_y top ticks value in
     let shown = shows top value ticks some on in
     let above = shown.above in
     let below = shown.below in
-    let line = good-line bounds 2000 y 17800 y (line_paint grid 15) [] (omega arith) (small top most) (y-place top 2000 value ticks (omega arith) some on) (y-place top 17800 value ticks (omega arith) some on) in
-    let words = good-words bounds 1880 (y + 80) 240 anchors.End weights.Regular (tick_text distance value) [] (omega arith) (small top most) (place top 1880 (y + 80) (omega arith) (omega arith) (omega arith)) in
-    (line, (words, tt))
+    good-value-tick (bounds_from top) y (tick_text distance value) (small top most) (y-place top 2000 value ticks (omega arith) some on) (y-place top 17800 value ticks (omega arith) some on) (place top 1880 (y + 80) (omega arith) (omega arith) (omega arith))
 
-good-cycle-tick : (top cycles cycle : ℕ) → top ≤ 40000 → 1 ≤ cycle → cycle < 1 + cycles → AllByRecursion (Good (bounds_from top)) (cycle_tick top cycles cycle)
-unfolding cycle_tick
-good-cycle-tick top cycles cycle most first last =
-    let bounds = bounds_from top in
-    let x = begin_of cycles cycle in
-    let right : x ≤ 17800 = begins cycles cycle (omega arith) (omega arith) in
-    elim (cases_Bool (is_tick cycles None cycle)) [
-      | inl met ↦
-          subst (AllByRecursion (Good bounds)) (sym (cond-true (is_tick cycles None cycle) (cycle_tick_at top x cycle) [] met)) (
-            good-line bounds x (plot_top top) x (plot_bottom top) (line_paint grid 15) [] (omega arith) (small top most) (place top x (plot_top top) (omega (arith, right)) (omega arith) (omega arith)) (place top x (plot_bottom top) (omega (arith, right)) (omega arith) (omega arith)),
-            (good-words bounds x (plot_bottom top + 300) 240 anchors.Middle weights.Regular (decimal cycle) [] (omega arith) (small top most) (place top x (plot_bottom top + 300) (omega (arith, right)) (omega arith) (omega arith)), tt),
-          )
-      | inr unmet ↦ subst (AllByRecursion (Good bounds)) (sym (cond-false (is_tick cycles None cycle) (cycle_tick_at top x cycle) [] unmet)) tt
-    ]
+-- The ticks of time.
+height : (top y : ℕ) → top ≤ y → y ≤ top + 3400 → IsHeight (bounds_from top) y
+height top y upper lower = record { above = upper; below = lower }
+
+holds-ticks : (top : ℕ) → top ≤ 40000 → HoldsTicks (bounds_from top) (tick_place top)
+holds-ticks top most = record {
+  left = omega arith;
+  right = omega arith;
+  top = height top (plot_top top) (omega arith) (omega arith);
+  bottom = height top (plot_bottom top) (omega arith) (omega arith);
+  label = height top (plot_bottom top + 300) (omega arith) (omega arith);
+  size = omega arith;
+  wide = omega arith;
+  tall = omega arith;
+}
 
 good-aim : (top : ℕ) (ticks : Ticks) (aim : ℕ) → top ≤ 40000 → 0 < end_of ticks → aim ≤ end_of ticks → AllByRecursion (Good (bounds_from top)) (aim_marks top ticks aim)
 unfolding aim_marks
@@ -165,44 +156,74 @@ good-closest top x y title most left right above below =
     let circle = good-circle bounds x y 80 (line_paint ink 25) title (omega arith) (small top most) (omega arith) (omega arith) (omega arith) (omega arith) (omega arith) in
     (line, (circle, tt))
 
-good-curve : (top : ℕ) (e : Parts) (distance : Distance) (pair : NearPair) (title : List ℕ) → top ≤ 40000 → Good (bounds_from top) (curve top e distance pair (ticks_of e distance pair) title)
+-- Where the distance of a cycle stands.
+value-place : (top : ℕ) (e : Parts) (distance : Distance) (pair : NearPair) (cycle : ℕ) → 1 ≤ cycle → cycle ≤ e.cycles → IsPlace (bounds_from top) (begin_of e.cycles cycle) (value_y top (ticks_of e distance pair) (distance_in e distance pair cycle))
+value-place top e distance pair cycle first last =
+    let right = begins e.cycles cycle (omega arith) (omega arith) in
+    let all = holds-all e distance pair in
+    y-place top (begin_of e.cycles cycle) (distance_in e distance pair cycle) (ticks_of e distance pair) (omega (arith, right)) (some-end e distance pair) (all.each cycle first last)
+
+good-through : (top : ℕ) (e : Parts) (distance : Distance) (pair : NearPair) (title : List ℕ) → top ≤ 40000 → Good (bounds_from top) (line_mark top e distance pair (ticks_of e distance pair) title)
 unfolding value_point
-good-curve top e distance pair title most =
+good-through top e distance pair title most =
     let bounds = bounds_from top in
     let ticks = ticks_of e distance pair in
-    let some = some-end e distance pair in
-    let all = holds-all e distance pair in
     let places : (cycle : ℕ) → 1 ≤ cycle → cycle < 1 + e.cycles → IsPlace bounds (begin_of e.cycles cycle) (value_y top ticks (distance_in e distance pair cycle)) =
-    λ cycle first last. (
-    let right = begins e.cycles cycle (omega arith) (omega arith) in
-    y-place top (begin_of e.cycles cycle) (distance_in e distance pair cycle) ticks (omega (arith, right)) some (all.each cycle first (omega arith))) in (
+    λ cycle first last. value-place top e distance pair cycle first (omega arith) in (
       all-points (IsWithin bounds 0) (value_point top e distance pair ticks) 1 e.cycles (λ cycle first last. at-point bounds (begin_of e.cycles cycle) (value_y top ticks (distance_in e distance pair cycle)) (places cycle first last)),
       (all-points IsPoint (value_point top e distance pair ticks) 1 e.cycles (λ cycle first last. is-point bounds (begin_of e.cycles cycle) (value_y top ticks (distance_in e distance pair cycle)) (small top most) (places cycle first last)), omega arith),
     )
 
-pub are-within : (top : ℕ) (e : Parts) (distance : Distance) (pair : NearPair) → top ≤ 40000 → IsPair e pair → AreWithin top e distance pair
+-- In a run of one cycle.
+good-point : (top : ℕ) (e : Parts) (distance : Distance) (pair : NearPair) (title : List ℕ) → top ≤ 40000 → 1 ≤ e.cycles → Good (bounds_from top) (dot_mark ink (value_point top e distance pair (ticks_of e distance pair) 1) title)
+unfolding value_point
+good-point top e distance pair title most some =
+    let ticks = ticks_of e distance pair in
+    let all = holds-all e distance pair in
+    let x = begin_of e.cycles 1 in
+    let y = value_y top ticks (distance_in e distance pair 1) in
+    let right = begins e.cycles 1 some (omega arith) in
+    let shown = shows top (distance_in e distance pair 1) ticks (some-end e distance pair) (all.each 1 (omega arith) some) in
+    let above = shown.above in
+    let below = shown.below in
+    good-dot (bounds_from top) x y ink title (small top most) (omega (arith, right)) (omega (arith, right)) (omega arith) (omega arith)
+
+good-curve : (top : ℕ) (e : Parts) (distance : Distance) (pair : NearPair) (title : List ℕ) → top ≤ 40000 → 1 ≤ e.cycles → Good (bounds_from top) (curve top e distance pair (ticks_of e distance pair) title)
+unfolding curve
+good-curve top e distance pair title most some =
+    let bounds = bounds_from top in
+    let ticks = ticks_of e distance pair in
+    let dot = dot_mark ink (value_point top e distance pair ticks 1) title in
+    let line = line_mark top e distance pair ticks title in
+    elim (cases_Bool (e.cycles == 1)) [
+      | inl one ↦ subst (Good bounds) (sym (cond-true (e.cycles == 1) dot line one)) (good-point top e distance pair title most some)
+      | inr more ↦ subst (Good bounds) (sym (cond-false (e.cycles == 1) dot line more)) (good-through top e distance pair title most)
+    ]
+
+pub are-within : (top : ℕ) (e : Parts) (labels : LabelWords) (distance : Distance) (pair : NearPair) → top ≤ 40000 → IsPair e pair → AreWithin top e labels distance pair
 unfolding distance_marks
-are-within top e distance pair most is =
+are-within top e labels distance pair most is =
     let P = Good (bounds_from top) in
     let ticks = ticks_of e distance pair in
     let some = some-end e distance pair in
     let all = holds-all e distance pair in
-    let heading = heading_of e distance pair in
+    let bounds = bounds_from top in
+    let heading = heading_of e labels distance pair in
     let closest = closest_of e distance pair in
     let value = distance_in e distance pair pair.cycle in
     let shown = shows top value ticks some (all.each pair.cycle is.begun is.in_run) in
     let begun = is.begun in
     let in_run = is.in_run in
     let right = begins e.cycles pair.cycle (omega arith) (omega arith) in
-    let values = all-range P (value_tick top distance ticks) 0 (ticks.count + 1) (λ k first last. good-value-tick top distance ticks k most some last) in
-    let cycles = all-range P (cycle_tick top e.cycles) 1 e.cycles (λ k first last. good-cycle-tick top e.cycles k most first last) in
-    let frame = good-frame top heading closest most in
+    let values = all-range P (value_tick top distance ticks) 0 (ticks.count + 1) (λ k first last. good-tick top distance ticks k most some last) in
+    let cycles = good-ticks bounds e.cycles labels.start (tick_place top) (holds-ticks top most) in
+    let frame = good-frame bounds top plot_height heading closest (small top most) (omega arith) (omega arith) (omega arith) (omega arith) in
     let aim = good-aim top ticks (aim_of e distance pair) most some all.aim in
     let nearest = good-closest top (begin_of e.cycles pair.cycle) (value_y top ticks value) closest most (omega arith) right shown.above shown.below in
-    let line = good-curve top e distance pair heading most in
+    let line = good-curve top e distance pair heading most (omega (arith, begun, in_run)) in
     all-append P (value_ticks top distance ticks) _ values
-    (all-append P (cycle_ticks top e.cycles) _ cycles
-    (all-append P (frame_marks top heading closest) _ frame
+    (all-append P (time_ticks e.cycles labels.start (tick_place top)) _ cycles
+    (all-append P (frame_marks top plot_height heading closest) _ frame
     (all-append P (aim_marks top ticks (aim_of e distance pair)) _ aim
     (all-append P (closest_marks top (begin_of e.cycles pair.cycle) (value_y top ticks value) closest) (curve top e distance pair ticks heading ∷ []) nearest
     (line, tt)))))

@@ -2,6 +2,7 @@
 use Rattle.std.specs.Prelude.{ℕ, ◌+◌, ◌*◌, ◌<◌, ◌≤◌}
 use Rattle.std.specs.List.{AllByRecursion}
 use Rattle.acas_base.specs.Encounter.{Parts}
+use Rattle.labels.specs.Labels.{LabelWords}
 use Rattle.page_marks.specs.Within.{Bounds, IsMarkWithin}
 use Rattle.pair_panels.specs.Distances.{aim_of, distance_in, end_of, ticks_of}
 use Rattle.pair_panels.specs.Panel.{distance_marks, panel_height, plot_bottom, plot_height, plot_top, value_y}
@@ -14,8 +15,8 @@ abbrev pub bounds_from : ℕ → Bounds
 bounds_from top = record { left = 0; top = top; right = 20000; bottom = top + panel_height }
 
 -- All marks of a panel lie within its part of the page, and their numbers fit.
-abbrev pub AreWithin : ℕ → Parts → Distance → NearPair → Type 0
-AreWithin top e distance pair = AllByRecursion (λ mark. IsMarkWithin (bounds_from top) mark × FitsMark mark) (distance_marks top e distance pair)
+abbrev pub AreWithin : ℕ → Parts → LabelWords → Distance → NearPair → Type 0
+AreWithin top e labels distance pair = AllByRecursion (λ mark. IsMarkWithin (bounds_from top) mark × FitsMark mark) (distance_marks top e labels distance pair)
 
 -- How far a distance stands above the lower edge of the box, times the value at the end of the axis, is no more than
 -- its share of the height, and less than one unit below it.

@@ -1,13 +1,12 @@
 // A panel with a distance of two aircraft against time.
-ghost use Rattle.std.specs.Prelude.{◌≡◌, ◌+◌, ◌*◌, ◌<◌, ◌≤◌, ◌^◌, ◌∷◌, [], None, length, map};
-ghost use Rattle.std.specs.Fmt.{decimal};
+ghost use Rattle.std.specs.Prelude.{◌≡◌, ◌+◌, ◌*◌, ◌<◌, ◌≤◌, ◌^◌, ◌∷◌, [], length, map};
 ghost use Rattle.std.specs.List.{flat_map, range_with_len};
 ghost use Rattle.acas_base.specs.Ranges.{IsCycle};
 ghost use Rattle.flight.specs.Inside.{IsInside};
 ghost use Rattle.page_marks.specs.Places.{point_at};
 ghost use Rattle.pair_panels.specs.Distances.{IsAxis, aim_of, distance_in, end_of, ticks_of};
 ghost use Rattle.pair_panels.specs.Nearest.{IsPair};
-ghost use Rattle.pair_panels.specs.Panel.{address_of, aim_at, aim_marks, closest_marks, closest_of, curve, cycle_tick, cycle_tick_at, cycle_ticks, distance_marks, frame_marks, heading_of, panel_height, plot_bottom, plot_marks, tick_text, value_point, value_tick, value_tick_at, value_ticks, value_y};
+ghost use Rattle.pair_panels.specs.Panel.{address_of, aim_at, aim_marks, called, closest_marks, closest_of, curve, distance_marks, heading_of, line_mark, panel_height, plot_bottom, plot_marks, tick_place, tick_text, value_point, value_tick, value_ticks, value_y};
 ghost use Rattle.svg_text.specs.declared.drawing.TheConstants.{LABEL_BYTES};
 
 use crate::distance::{Distance, aim_of, axis_law, distance_in, ticks_of};
@@ -16,7 +15,11 @@ use crate::texts::{aim_text, closest_text, heading_text, tick_text};
 use crate::ticks::Ticks;
 use acas_base::{Address, Encounter};
 use acas_text::Line;
-use page_marks::{area_at, dashed_paint, grid, ink, line_paint, point_at, put_line, put_words};
+use labels::Labels;
+use page_marks::{
+    TickPlace, dashed_paint, ink, line_paint, point_at, put_dot, put_frame, put_time_ticks,
+    put_value_tick, put_words,
+};
 use plot_axes::{Scale, TimeAxis};
 use svg_text::{Anchor, Dash, Drawing, Outline, Point, Shape, Weight};
 
@@ -49,57 +52,6 @@ fn value_y(top: u32, ticks: Ticks, value: u32) -> u32
     top + PLOT_BOTTOM - scale.along(i64::from(value))
 }
 
-// Puts the box and the words over it.
-fn put_frame<D: Drawing>(top: u32, heading: &Line, closest: &Line, drawing: &mut D)
-    requires top { top ≤ 40000 }
-    requires heading { length heading.now ≤ LABEL_BYTES }
-    requires closest { length closest.now ≤ LABEL_BYTES }
-    ensures { D.drew drawing.old drawing.new (frame_marks top heading.now closest.now) }
-{
-    put_words(
-        point_at(2_000, top + 350),
-        260,
-        Anchor::Start,
-        Weight::Bold,
-        heading,
-        drawing,
-    );
-    put_words(
-        point_at(17_800, top + 350),
-        240,
-        Anchor::End,
-        Weight::Regular,
-        closest,
-        drawing,
-    );
-    put_line(
-        Shape::Rect(area_at(2_000, top + PLOT_TOP, 15_800, PLOT_HEIGHT)),
-        ink(),
-        drawing,
-    );
-}
-
-// Puts a line and its distance.
-fn put_value_tick_at<D: Drawing>(y: u32, words: &Line, drawing: &mut D)
-    requires y { y ≤ 50000 }
-    requires words { length words.now ≤ LABEL_BYTES }
-    ensures { D.drew drawing.old drawing.new (value_tick_at y words.now) }
-{
-    let line = Shape::Segment {
-        from: point_at(2_000, y),
-        to: point_at(17_800, y),
-    };
-    put_line(line, grid(), drawing);
-    put_words(
-        point_at(1_880, y + 80),
-        240,
-        Anchor::End,
-        Weight::Regular,
-        words,
-        drawing,
-    );
-}
-
 // The distance of a tick.
 fn tick_value(ticks: Ticks, number: u32) -> u32
     requires axis { IsAxis ticks }
@@ -112,7 +64,7 @@ fn tick_value(ticks: Ticks, number: u32) -> u32
 
 // Puts the tick with a number.
 #[tactic(auto, unfolding(crate::specs::Panel::value_tick))]
-fn put_value_tick<D: Drawing>(
+fn put_tick<D: Drawing>(
     top: u32,
     distance: Distance,
     ticks: Ticks,
@@ -125,7 +77,7 @@ fn put_value_tick<D: Drawing>(
     ensures { D.drew drawing.old drawing.new (value_tick top distance ticks number) }
 {
     let value = tick_value(ticks, number);
-    put_value_tick_at(
+    put_value_tick(
         value_y(top, ticks, value),
         &tick_text(distance, value),
         drawing,
@@ -139,63 +91,20 @@ fn put_value_ticks<D: Drawing>(top: u32, distance: Distance, ticks: Ticks, drawi
     ensures { D.drew drawing.old drawing.new (value_ticks top distance ticks) }
 {
     for number in 0..ticks.count + 1 {
-        put_value_tick(top, distance, ticks, number, drawing);
+        put_tick(top, distance, ticks, number, drawing);
     }
 }
 
-// The number of a cycle.
-fn cycle_text(cycle: u16) -> Line
-    ensures text { result ≡ decimal cycle }
-    ensures short { length result ≤ LABEL_BYTES }
+// Where the ticks of time stand.
+fn tick_place(top: u32) -> TickPlace
+    requires { top ≤ 40000 }
+    ensures { result ≡ tick_place top }
 {
-    let mut line = Line::new();
-    line.u16(cycle);
-    line
-}
-
-// Puts a line and the number of its cycle.
-fn put_cycle_tick_at<D: Drawing>(top: u32, x: u32, cycle: u16, drawing: &mut D)
-    requires top { top ≤ 40000 }
-    requires x { x < 2 ^ 16 }
-    ensures { D.drew drawing.old drawing.new (cycle_tick_at top x cycle) }
-{
-    let line = Shape::Segment {
-        from: point_at(x, top + PLOT_TOP),
-        to: point_at(x, top + PLOT_BOTTOM),
-    };
-    put_line(line, grid(), drawing);
-    put_words(
-        point_at(x, top + PLOT_BOTTOM + 300),
-        240,
-        Anchor::Middle,
-        Weight::Regular,
-        &cycle_text(cycle),
-        drawing,
-    );
-}
-
-// Puts them where a tick stands.
-#[tactic(auto, unfolding(crate::specs::Panel::cycle_tick))]
-fn put_cycle_tick<D: Drawing>(top: u32, time: TimeAxis, cycle: u16, drawing: &mut D)
-    requires top { top ≤ 40000 }
-    requires time { time.start ≡ None }
-    requires first { 1 ≤ cycle }
-    requires last { cycle ≤ time.cycles }
-    ensures { D.drew drawing.old drawing.new (cycle_tick top time.cycles cycle) }
-{
-    if time.is_tick(cycle) {
-        put_cycle_tick_at(top, time.begin(cycle), cycle, drawing);
-    }
-}
-
-// Puts the ticks of time.
-fn put_cycle_ticks<D: Drawing>(top: u32, time: TimeAxis, drawing: &mut D)
-    requires top { top ≤ 40000 }
-    requires time { time.start ≡ None }
-    ensures { D.drew drawing.old drawing.new (cycle_ticks top time.cycles) }
-{
-    for cycle in 1..time.cycles + 1 {
-        put_cycle_tick(top, time, cycle, drawing);
+    TickPlace {
+        top: top + PLOT_TOP,
+        bottom: top + PLOT_BOTTOM,
+        label: top + PLOT_BOTTOM + 300,
+        size: 240,
     }
 }
 
@@ -247,6 +156,31 @@ fn put_points<D: Drawing>(
 }
 
 // Puts the line through them.
+fn put_line_through<D: Drawing>(
+    top: u32,
+    encounter: &Encounter,
+    distance: Distance,
+    pair: NearPair,
+    ticks: Ticks,
+    time: TimeAxis,
+    title: &Line,
+    drawing: &mut D,
+)
+    requires top { top ≤ 40000 }
+    requires pair { IsPair encounter.now pair }
+    requires axis { IsAxis ticks }
+    requires ticks { ticks ≡ ticks_of encounter.now distance pair }
+    requires time { time.cycles ≡ encounter.now.cycles }
+    requires title { length title.now ≤ LABEL_BYTES }
+    ensures { D.drew drawing.old drawing.new (line_mark top encounter.now distance pair ticks title.now ∷ []) }
+{
+    drawing.begin_points(Outline::Open);
+    put_points(top, encounter, distance, pair, ticks, time, drawing);
+    drawing.end_points(Outline::Open, line_paint(ink(), 30), title);
+}
+
+// Puts it, or a dot where there is one cycle alone.
+#[tactic(auto, unfolding(crate::specs::Panel::curve))]
 fn put_curve<D: Drawing>(
     top: u32,
     encounter: &Encounter,
@@ -265,9 +199,12 @@ fn put_curve<D: Drawing>(
     requires title { length title.now ≤ LABEL_BYTES }
     ensures { D.drew drawing.old drawing.new (curve top encounter.now distance pair ticks title.now ∷ []) }
 {
-    drawing.begin_points(Outline::Open);
-    put_points(top, encounter, distance, pair, ticks, time, drawing);
-    drawing.end_points(Outline::Open, line_paint(ink(), 30), title);
+    if encounter.cycles() == 1 {
+        let point = value_point(top, encounter, distance, pair, ticks, time, 1);
+        put_dot(ink(), point, title, drawing);
+    } else {
+        put_line_through(top, encounter, distance, pair, ticks, time, title, drawing);
+    }
 }
 
 // Puts a line of dashes and its words.
@@ -332,14 +269,28 @@ fn address_of(encounter: &Encounter, index: u8) -> Address
     encounter.crafts()[usize::from(index)].address
 }
 
-fn heading_of(encounter: &Encounter, distance: Distance, pair: NearPair) -> Line
+// What an aircraft is called.
+fn called(encounter: &Encounter, labels: &Labels<'_>, index: u8) -> Line
+    requires { index < length encounter.now.crafts }
+    ensures text { result ≡ called encounter.now labels.now index }
+    ensures short { length result ≤ 8 }
+{
+    labels.name(address_of(encounter, index))
+}
+
+fn heading_of(
+    encounter: &Encounter,
+    labels: &Labels<'_>,
+    distance: Distance,
+    pair: NearPair,
+) -> Line
     requires { IsPair encounter.now pair }
-    ensures text { result ≡ heading_of encounter.now distance pair }
+    ensures text { result ≡ heading_of encounter.now labels.now distance pair }
     ensures short { length result ≤ LABEL_BYTES }
 {
     heading_text(
-        address_of(encounter, pair.one),
-        address_of(encounter, pair.other),
+        &called(encounter, labels, pair.one),
+        &called(encounter, labels, pair.other),
         distance,
     )
 }
@@ -348,6 +299,7 @@ fn heading_of(encounter: &Encounter, distance: Distance, pair: NearPair) -> Line
 fn put_plot<D: Drawing>(
     top: u32,
     encounter: &Encounter,
+    labels: &Labels<'_>,
     distance: Distance,
     pair: NearPair,
     ticks: Ticks,
@@ -360,18 +312,18 @@ fn put_plot<D: Drawing>(
     requires axis { IsAxis ticks }
     requires ticks { ticks ≡ ticks_of encounter.now distance pair }
     requires time { time.cycles ≡ encounter.now.cycles }
-    requires start { time.start ≡ None }
-    ensures { D.drew drawing.old drawing.new (plot_marks top encounter.now distance pair ticks) }
+    requires start { time.start ≡ labels.now.start }
+    ensures { D.drew drawing.old drawing.new (plot_marks top encounter.now labels.now distance pair ticks) }
 {
     encounter.valid_law();
     axis_law(encounter, distance, pair);
-    let heading = heading_of(encounter, distance, pair);
+    let heading = heading_of(encounter, labels, distance, pair);
     let value = distance_in(encounter, distance, pair, pair.cycle);
     let closest = closest_text(distance, pair.cycle, value);
     let x = time.begin(pair.cycle);
     put_value_ticks(top, distance, ticks, drawing);
-    put_cycle_ticks(top, time, drawing);
-    put_frame(top, &heading, &closest, drawing);
+    put_time_ticks(time, tick_place(top), drawing);
+    put_frame(top, PLOT_HEIGHT, &heading, &closest, drawing);
     put_aim(top, ticks, aim_of(encounter, distance, pair), drawing);
     put_closest(top, x, value_y(top, ticks, value), &closest, drawing);
     put_curve(
@@ -380,12 +332,14 @@ fn put_plot<D: Drawing>(
 }
 
 /// Draws a distance of a pair against time, from `top` downward, over [`PANEL_HEIGHT`]: a line through the distances of
-/// all cycles, and the closest approach as a circle and a dotted line. With the vertical distance stands ALIM, by the
-/// level of the first aircraft at the closest approach, where there is one.
+/// all cycles, and the closest approach as a circle and a dotted line. In a run of one cycle the line is a dot. With the
+/// vertical distance stands ALIM, by the level of the first aircraft at the closest approach, where there is one. The
+/// heading calls the aircraft as the labels do, and the axis of time has the labels' clock.
 #[tactic(auto, unfolding(crate::specs::Panel::distance_marks))]
 pub fn put_distance<D: Drawing>(
     top: u32,
     encounter: &Encounter,
+    labels: &Labels<'_>,
     distance: Distance,
     pair: NearPair,
     time: TimeAxis,
@@ -395,9 +349,11 @@ pub fn put_distance<D: Drawing>(
     requires pair { IsPair encounter.now pair }
     requires inside { IsInside encounter.now }
     requires time { time.cycles ≡ encounter.now.cycles }
-    requires start { time.start ≡ None }
-    ensures { D.drew drawing.old drawing.new (distance_marks top encounter.now distance pair) }
+    requires start { time.start ≡ labels.now.start }
+    ensures { D.drew drawing.old drawing.new (distance_marks top encounter.now labels.now distance pair) }
 {
     let ticks = ticks_of(encounter, distance, pair);
-    put_plot(top, encounter, distance, pair, ticks, time, drawing);
+    put_plot(
+        top, encounter, labels, distance, pair, ticks, time, drawing,
+    );
 }

@@ -1,15 +1,15 @@
 // What the panels say.
 ghost use Rattle.std.specs.Prelude.{◌≡◌, ◌+◌, ◌++◌, ◌<◌, ◌≤◌, ◌^◌, length};
 ghost use Rattle.acas_text.specs.declared.line.TheConstants.{LINE_BYTES};
-ghost use Rattle.pair_panels.specs.Panel.{aim_text, closest_text, feet_text, heading_text, miles_text, name_of, quarters_text, tick_text, value_text};
+ghost use Rattle.pair_panels.specs.Panel.{aim_text, closest_text, distance_name, feet_text, heading_text, miles_text, quarters_text, tick_text, value_text};
 ghost use Rattle.svg_text.specs.declared.drawing.TheConstants.{LABEL_BYTES};
 
 use crate::distance::Distance;
-use acas_base::Address;
 use acas_text::Line;
+use page_marks::add_words;
 
-fn name_of(distance: Distance) -> &'static str
-    ensures text { result.now ≡ name_of distance }
+fn distance_name(distance: Distance) -> &'static str
+    ensures text { result.now ≡ distance_name distance }
     ensures short { length result.now ≤ 17 }
 {
     match distance {
@@ -18,18 +18,20 @@ fn name_of(distance: Distance) -> &'static str
     }
 }
 
-/// What a panel shows.
+/// What a panel shows of two aircraft with these names.
 #[tactic(auto, unfolding(crate::specs::Panel::heading_text))]
-pub(crate) fn heading_text(one: Address, other: Address, distance: Distance) -> Line
-    ensures text { result ≡ heading_text one other distance }
+pub(crate) fn heading_text(one: &Line, other: &Line, distance: Distance) -> Line
+    requires one { length one.now ≤ 8 }
+    requires other { length other.now ≤ 8 }
+    ensures text { result ≡ heading_text one.now other.now distance }
     ensures short { length result ≤ LABEL_BYTES }
 {
     let mut line = Line::new();
-    line.address(one.value());
+    add_words(&mut line, one);
     line.text(" and ");
-    line.address(other.value());
+    add_words(&mut line, other);
     line.text(": ");
-    line.text(name_of(distance));
+    line.text(distance_name(distance));
     line
 }
 
@@ -43,7 +45,7 @@ fn add_value(line: &mut Line, distance: Distance, cycle: u16, value: u32)
     line.text("cycle ");
     line.u16(cycle);
     line.text(", ");
-    line.text(name_of(distance));
+    line.text(distance_name(distance));
     line.text(" ");
     line.u32(value);
     line.text(" ft");

@@ -9,8 +9,8 @@ loop-number-preserved g c =
     let f = value_tick c.args.top c.args.distance c.args.ticks in
     let n = c.loop-number.number in
     let here : 0 + n ≡ n = omega arith in
-    subst (g.D.Drawing.drew c.args.drawing.now c.put_value_tick.new.drawing) (ap (λ (k : ℕ). flat_map f (range_with_len 0 n) ++ f k) (sym here) ∙ sym (flat-more f 0 n))
-    (g.met.D.Drawing.then _ _ _ _ _ c.loop-number.invariant c.put_value_tick.ensures)
+    subst (g.D.Drawing.drew c.args.drawing.now c.put_tick.new.drawing) (ap (λ (k : ℕ). flat_map f (range_with_len 0 n) ++ f k) (sym here) ∙ sym (flat-more f 0 n))
+    (g.met.D.Drawing.then _ _ _ _ _ c.loop-number.invariant c.put_tick.ensures)
 
 pub returns : goal.returns
 returns g c =

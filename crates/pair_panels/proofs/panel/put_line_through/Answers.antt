@@ -3,7 +3,7 @@ use Rattle.std.specs.List.{range_with_len}
 use Rattle.page_marks.specs.Paints.{ink, line_paint}
 use Rattle.pair_panels.specs.Panel.{value_point}
 use Rattle.svg_text.specs.declared.shapes.Outline.TheVariants as outlines
-use Rattle.pair_panels.proofs.panel.put_curve.Goals as goal
+use Rattle.pair_panels.proofs.panel.put_line_through.Goals as goal
 
 pub returns : goal.returns
 returns g c =

@@ -1,9 +1,0 @@
-use Rattle.pair_panels.proofs.panel.put_value_tick_at.Goals as goal
-
-pub returns : goal.returns
-returns g c =
-    let from = rw c.point_at.ensures at c.put_line.ensures in
-    let to = rw c.point_at-2.ensures at from in
-    let one = rw c.grid.ensures at to in
-    let two = rw c.point_at-3.ensures at c.put_words.ensures in
-    g.met.D.Drawing.then _ _ _ _ _ one two
