@@ -834,16 +834,16 @@ lifted inner outer inside (mark ∷ marks) good = ((wider inner outer inside mar
 above : (lanes below : ℕ) (marks : List Mark) → AllByRecursion (Good lanes) marks → AllByRecursion (GoodPage lanes below) marks
 above lanes below marks good = lifted (bounds_of lanes) (page_bounds lanes below) (record { left = omega arith; top = omega arith; right = omega arith; bottom = omega arith }) marks good
 
-good-panel : (e : Parts) (height top : ℕ) (distance : Distance) (pair : NearPair) → top + 3400 ≤ height → height ≤ 60000 → IsPair e pair → AllByRecursion (GoodTo height) (distance_marks top e distance pair)
-good-panel e height top distance pair high few is =
-    lifted (bounds_from top) (bounds_to height) (record { left = omega arith; top = omega arith; right = omega arith; bottom = omega arith }) (distance_marks top e distance pair) (are-within top e distance pair (omega arith) is)
+good-panel : (it : LabelWords) (e : Parts) (height top : ℕ) (distance : Distance) (pair : NearPair) → top + 3400 ≤ height → top ≤ 40000 → IsPair e pair → AllByRecursion (GoodTo height) (distance_marks top e it distance pair)
+good-panel it e height top distance pair high few is =
+    lifted (bounds_from top) (bounds_to height) (record { left = omega arith; top = omega arith; right = omega arith; bottom = omega arith }) (distance_marks top e it distance pair) (are-within top e it distance pair few is)
 
-good-panels : (e : Parts) (height top : ℕ) → (pair : Option NearPair) → top + panels_height pair ≤ height → height ≤ 60000 → IsNearest e pair → AllByRecursion (GoodTo height) (panel_marks top e pair)
-good-panels e height top None low few nearest = tt
-good-panels e height top (Some pair) low few nearest =
+good-panels : (it : LabelWords) (e : Parts) (height top : ℕ) (pair : Option NearPair) → top + panels_height pair ≤ height → top ≤ 30000 → height ≤ 60000 → IsNearest e pair → AllByRecursion (GoodTo height) (panel_marks top it e pair)
+good-panels it e height top None low high few nearest = tt
+good-panels it e height top (Some pair) low high few nearest =
     let is = is-pair e pair nearest in
-    all-append (GoodTo height) (distance_marks top e Slant pair) (distance_marks (top + 3400) e Vertical pair)
-    (good-panel e height top Slant pair (omega arith) few is) (good-panel e height (top + 3400) Vertical pair (omega arith) few is)
+    all-append (GoodTo height) (distance_marks top e it Slant pair) (distance_marks (top + 3400) e it Vertical pair)
+    (good-panel it e height top Slant pair (omega arith) (omega arith) is) (good-panel it e height (top + 3400) Vertical pair (omega arith) (omega arith) is)
 
 -- ---- all of it
 
@@ -867,7 +867,7 @@ are-good it e J labels valid l few =
     let tall : height ≤ 60000 = omega (arith, most, few) in
     let lanes = all-range (Good n) (craft_marks it e J) 0 (length e.crafts) (λ own first last. good-craft (air_of e) it e J l few own) in
     let bands = good-bands (air_of e) e J l n few in
-    let panels = good-panels e height (panels_top n) (nearest_pair e) (omega arith) tall (nearest-is e valid) in
+    let panels = good-panels it e height (panels_top n) (nearest_pair e) (omega arith) (omega (arith, few)) tall (nearest-is e valid) in
     let legend = good-legend height (legend_top e) tall (omega arith) in
     let list = good-list height (list_top e) it e.cycles tall (omega arith) in (
       above n below (head_marks e J) (good-head e J n few),

@@ -1,8 +1,7 @@
 // How the marks of the labels are drawn.
-ghost use Rattle.std.specs.Prelude.{◌≡◌, ◌+◌, ◌++◌, ◌*◌, ◌<◌, ◌≤◌, ◌^◌, length, option_to_list};
+ghost use Rattle.std.specs.Prelude.{◌≡◌, ◌+◌, ◌*◌, ◌<◌, ◌≤◌, ◌^◌, length, option_to_list};
 ghost use Rattle.std.specs.Fmt.{decimal};
 ghost use Rattle.std.specs.List.{flat_map};
-ghost use Rattle.acas_text.specs.declared.line.TheConstants.{LINE_BYTES};
 ghost use Rattle.picture.specs.Marked.{IsMarked, count_among, mark_text, marked_at};
 ghost use Rattle.picture.specs.MarkedDrawn.{letter_text, letter_x, line_at, line_of, lines_marks, list_height, list_marks, mark_title, row_at, row_number, row_of};
 ghost use Rattle.picture.specs.Layout.{plot_bottom};
@@ -12,7 +11,7 @@ use crate::layout::{COURSE_TOP, plot_bottom};
 use crate::marked::{Marked, count_among, marked_at};
 use acas_text::Line;
 use labels::Labels;
-use page_marks::{dashed_paint, note, point_at, put_over, put_words};
+use page_marks::{add_words, dashed_paint, note, point_at, put_over, put_words};
 use plot_axes::TimeAxis;
 use svg_text::{Anchor, Dash, Drawing, Shape, Weight};
 
@@ -32,17 +31,6 @@ fn letter_text(place: usize) -> Line
     line
 }
 
-// Adds the bytes of another line.
-fn add_line(line: &mut Line, piece: &Line)
-    requires { length line.old + length piece.now ≤ LINE_BYTES }
-    ensures added { line.new ≡ line.old ++ piece.now }
-    ensures longer { length line.new ≡ length line.old + length piece.now }
-{
-    for byte in piece.bytes() {
-        line.byte(*byte);
-    }
-}
-
 // Its letter, its cycle and its text.
 #[tactic(auto, unfolding(crate::specs::MarkedDrawn::mark_title, crate::specs::MarkedDrawn::letter_text))]
 fn mark_title(labels: &Labels<'_>, marked: Marked) -> Line
@@ -57,7 +45,7 @@ fn mark_title(labels: &Labels<'_>, marked: Marked) -> Line
     line.text(", cycle ");
     line.u16(marked.cycle);
     line.text(", ");
-    add_line(&mut line, &labels.mark_text(marked.place));
+    add_words(&mut line, &labels.mark_text(marked.place));
     line
 }
 

@@ -1,5 +1,5 @@
 // The picture.
-ghost use Rattle.std.specs.Prelude.{◌≡◌, ◌∷◌, [], ◌≤◌, IfSome, None, length};
+ghost use Rattle.std.specs.Prelude.{◌≡◌, ◌∷◌, [], ◌≤◌, IfSome, length};
 ghost use Rattle.acas_io.specs.Stream.{Puts};
 ghost use Rattle.flight.specs.Inside.{IsInside};
 ghost use Rattle.pair_panels.specs.Nearest.{IsPair};
@@ -115,6 +115,7 @@ fn put_lanes_section<S: LineSink>(
 
 fn put_panels_section<S: LineSink>(
     top: u32,
+    labels: &Labels<'_>,
     encounter: &Encounter,
     pair: Option<NearPair>,
     axis: TimeAxis,
@@ -124,11 +125,11 @@ fn put_panels_section<S: LineSink>(
     requires pair { IfSome pair (IsPair encounter.now) }
     requires inside { IsInside encounter.now }
     requires axis { axis.cycles ≡ encounter.now.cycles }
-    requires start { axis.start ≡ None }
-    ensures { S.took sink.old sink.new (section_lines (section (panel_marks top encounter.now pair))) }
+    requires start { axis.start ≡ labels.now.start }
+    ensures { S.took sink.old sink.new (section_lines (section (panel_marks top labels.now encounter.now pair))) }
 {
     begin_section(sink, Clip::Whole);
-    put_panels(top, encounter, pair, axis, sink);
+    put_panels(top, labels, encounter, pair, axis, sink);
     end_section(sink);
 }
 
@@ -162,18 +163,6 @@ fn axis_of(labels: &Labels<'_>, encounter: &Encounter) -> TimeAxis
     TimeAxis {
         cycles: encounter.cycles(),
         start: labels.start(),
-    }
-}
-
-// The axis of cycles, without a clock.
-fn cycles_of(encounter: &Encounter) -> TimeAxis
-    ensures cycles { result.cycles ≡ encounter.now.cycles }
-    ensures start { result.start ≡ None }
-{
-    encounter.valid_law();
-    TimeAxis {
-        cycles: encounter.cycles(),
-        start: None,
     }
 }
 
@@ -218,7 +207,7 @@ impl Text for Picture<'_> {
         put_messages_section(deliveries, axis, sink);
         put_lanes_section(labels, state, axis, sink);
         let top = panels_top(lanes);
-        put_panels_section(top, encounter, pair, cycles_of(encounter), sink);
+        put_panels_section(top, labels, encounter, pair, axis, sink);
         let below = top + panels;
         put_legend_section(below, sink);
         put_list_section(below + LEGEND_HEIGHT, labels, axis, sink);

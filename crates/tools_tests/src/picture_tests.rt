@@ -18,6 +18,7 @@ use crate::serial_runs::played;
 use acas_base::{CraftSpec, Encounter, Kind};
 use acas_io::{MemSink, Sink};
 use deliveries::Deliveries;
+use distances::{ADDRESSES, Headings, NAMES};
 use frame::{FIFTHS, ONE, TIMES, Tick, add_head, add_legend, add_time};
 use labels::Labels;
 use marks::Page;
@@ -123,11 +124,16 @@ fn one_cycle(alloc: Global) -> Result<Page, AllocError> {
 const REVERSAL: &str = "Encounter of 2 aircraft (2 RA, 0 TA, 0 XPDR), 31 cycles";
 
 // What stands between the axis of time and the list of marks, where the first aircraft has this name.
-fn add_reversal(page: &mut Page, name: &str, ticks: &[Tick]) -> Result<(), AllocError> {
+fn add_reversal(
+    page: &mut Page,
+    name: &str,
+    headings: Headings,
+    ticks: &[Tick],
+) -> Result<(), AllocError> {
     altitude::add_reversal(page, name)?;
     messages::add_reversal(page)?;
     bars::add_reversal(page, name)?;
-    distances::add_meeting(page, ticks)?;
+    distances::add_meeting(page, headings, ticks)?;
     add_legend(page)
 }
 
@@ -137,7 +143,7 @@ fn reversal(alloc: Global) -> Result<Page, AllocError> {
     add_head(&mut page, 823, REVERSAL, "12 messages sent")?;
     add_time(&mut page, &FIFTHS, "cycle")?;
     labelled::add_none(&mut page)?;
-    add_reversal(&mut page, "400A01", &FIFTHS)?;
+    add_reversal(&mut page, "400A01", ADDRESSES, &FIFTHS)?;
     labelled::add_none(&mut page)?;
     page.closing()?;
     Ok(page)
@@ -149,7 +155,7 @@ fn labelled_reversal(alloc: Global) -> Result<Page, AllocError> {
     add_head(&mut page, 923, REVERSAL, "12 messages sent")?;
     add_time(&mut page, &TIMES, "time")?;
     labelled::add_lines(&mut page)?;
-    add_reversal(&mut page, "AB-12", &FIFTHS)?;
+    add_reversal(&mut page, "AB-12", NAMES, &TIMES)?;
     labelled::add_list(&mut page)?;
     page.closing()?;
     Ok(page)
@@ -169,7 +175,7 @@ fn transponder_only(alloc: Global) -> Result<Page, AllocError> {
     altitude::add_transponder(&mut page)?;
     messages::add_none(&mut page)?;
     bars::add_transponder(&mut page)?;
-    distances::add_meeting(&mut page, &FIFTHS)?;
+    distances::add_meeting(&mut page, ADDRESSES, &FIFTHS)?;
     add_legend(&mut page)?;
     labelled::add_none(&mut page)?;
     page.closing()?;

@@ -1,7 +1,7 @@
 // Expected values: as in picture_tests.rt. The two panels of the nearest pair: its slant range, and its vertical
 // distance.
 use super::frame::{ONE, Tick, add_ticks};
-use super::marks::{BLACK, FRAME, GRID, Page, drawn, edged};
+use super::marks::{BLACK, FRAME, GRID, Page, drawn, edged, filled};
 use std::alloc::AllocError;
 
 // A line across a panel: where it stands on a page with two lanes, and what it says.
@@ -23,11 +23,10 @@ const FEET: [Level; 5] = [
     (11970, "800 ft"),
 ];
 
-// A panel: its top, its name, the levels that it names, the level of ALIM, what it says of the closest approach, and
-// where that is. All as on a page with two lanes.
+// A panel: its top, the levels that it names, the level of ALIM, what it says of the closest approach, and where that
+// is. All as on a page with two lanes.
 struct Panel {
     top: u32,
-    name: &'static str,
     levels: [Level; 5],
     alim: Option<u32>,
     closest: &'static str,
@@ -35,9 +34,18 @@ struct Panel {
     y: u32,
 }
 
-const RANGE: &str = "400A01 and 400B02: slant range";
+// The headings of the two panels: of the slant range, and of the vertical distance.
+pub type Headings = (&'static str, &'static str);
 
-const VERTICAL: &str = "400A01 and 400B02: vertical distance";
+pub const ADDRESSES: Headings = (
+    "400A01 and 400B02: slant range",
+    "400A01 and 400B02: vertical distance",
+);
+
+pub const NAMES: Headings = (
+    "AB-12 and 400B02: slant range",
+    "AB-12 and 400B02: vertical distance",
+);
 
 // Both aircraft fly towards each other to the end.
 const RANGES: [u32; 31] = [
@@ -65,13 +73,13 @@ fn add_levels(page: &mut Page, levels: &[Level]) -> Result<(), AllocError> {
 }
 
 // The words above a panel.
-fn add_names(page: &mut Page, panel: &Panel) -> Result<(), AllocError> {
+fn add_names(page: &mut Page, panel: &Panel, heading: &str) -> Result<(), AllocError> {
     let y = page.low(panel.top).saturating_sub(150);
     page.words(
         (2000, y),
         "font-size=\"260\" font-weight=\"bold\" fill=\"#222222\"",
         "",
-        panel.name,
+        heading,
     )?;
     page.words(
         (17800, y),
@@ -101,7 +109,12 @@ fn add_alim(page: &mut Page, alim: Option<u32>) -> Result<(), AllocError> {
 }
 
 // A panel without the line of its distances.
-fn add_panel(page: &mut Page, panel: &Panel, ticks: &[Tick]) -> Result<(), AllocError> {
+fn add_panel(
+    page: &mut Page,
+    panel: &Panel,
+    heading: &str,
+    ticks: &[Tick],
+) -> Result<(), AllocError> {
     let top = page.low(panel.top);
     let foot = top.saturating_add(2300);
     let y = page.low(panel.y);
@@ -113,7 +126,7 @@ fn add_panel(page: &mut Page, panel: &Panel, ticks: &[Tick]) -> Result<(), Alloc
         foot,
         "font-size=\"240\" text-anchor=\"middle\" fill=\"#222222\"",
     )?;
-    add_names(page, panel)?;
+    add_names(page, panel, heading)?;
     page.rect((2000, top), (15800, 2300), FRAME, "")?;
     add_alim(page, panel.alim)?;
     page.line(
@@ -127,7 +140,6 @@ fn add_panel(page: &mut Page, panel: &Panel, ticks: &[Tick]) -> Result<(), Alloc
 
 const ONE_RANGE: Panel = Panel {
     top: 8570,
-    name: RANGE,
     levels: MILES,
     alim: None,
     closest: "closest approach: cycle 1, slant range 91200 ft",
@@ -137,7 +149,6 @@ const ONE_RANGE: Panel = Panel {
 
 const ONE_HEIGHT: Panel = Panel {
     top: 11970,
-    name: VERTICAL,
     levels: FEET,
     alim: Some(12545),
     closest: "closest approach: cycle 1, vertical distance 300 ft",
@@ -147,7 +158,6 @@ const ONE_HEIGHT: Panel = Panel {
 
 const LAST_RANGE: Panel = Panel {
     top: 8570,
-    name: RANGE,
     levels: MILES,
     alim: None,
     closest: "closest approach: cycle 31, slant range 45601 ft",
@@ -157,7 +167,6 @@ const LAST_RANGE: Panel = Panel {
 
 const LAST_HEIGHT: Panel = Panel {
     top: 11970,
-    name: VERTICAL,
     levels: FEET,
     alim: Some(12545),
     closest: "closest approach: cycle 31, vertical distance 400 ft",
@@ -165,24 +174,29 @@ const LAST_HEIGHT: Panel = Panel {
     y: 13120,
 };
 
-// One cycle, 91,200 ft and 300 ft apart.
+// One cycle, 91,200 ft and 300 ft apart. The lines are dots.
 pub fn add_one_cycle(page: &mut Page) -> Result<(), AllocError> {
-    let paint = drawn(BLACK, 30, "");
+    let (range, height) = ADDRESSES;
     page.lines("<g>\n")?;
-    add_panel(page, &ONE_RANGE, &ONE)?;
-    page.polyline(1, &[9144], paint, RANGE)?;
-    add_panel(page, &ONE_HEIGHT, &ONE)?;
-    page.polyline(1, &[13408], paint, VERTICAL)?;
+    add_panel(page, &ONE_RANGE, range, &ONE)?;
+    page.circle((2000, 9144), 40, filled(BLACK), range)?;
+    add_panel(page, &ONE_HEIGHT, height, &ONE)?;
+    page.circle((2000, 13408), 40, filled(BLACK), height)?;
     page.lines("</g>\n")
 }
 
 // All pictures of 31 cycles have the same distances.
-pub fn add_meeting(page: &mut Page, ticks: &[Tick]) -> Result<(), AllocError> {
+pub fn add_meeting(
+    page: &mut Page,
+    headings: Headings,
+    ticks: &[Tick],
+) -> Result<(), AllocError> {
+    let (range, height) = headings;
     let paint = drawn(BLACK, 30, "");
     page.lines("<g>\n")?;
-    add_panel(page, &LAST_RANGE, ticks)?;
-    page.low_polyline(&RANGES, paint, RANGE)?;
-    add_panel(page, &LAST_HEIGHT, ticks)?;
-    page.low_polyline(&HEIGHTS, paint, VERTICAL)?;
+    add_panel(page, &LAST_RANGE, range, ticks)?;
+    page.low_polyline(&RANGES, paint, range)?;
+    add_panel(page, &LAST_HEIGHT, height, ticks)?;
+    page.low_polyline(&HEIGHTS, paint, height)?;
     page.lines("</g>\n")
 }
