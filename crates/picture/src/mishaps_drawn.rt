@@ -105,7 +105,7 @@ fn put_stroke<D: Drawing>(from: Point, to: Point, title: &Line, drawing: &mut D)
 // Puts two strokes that cross each other.
 fn put_cross_at<D: Drawing>(x: u32, y: u32, title: &Line, drawing: &mut D)
     requires x { x ≤ 20000 }
-    requires y { y ≤ 30000 }
+    requires y { y ≤ 40000 }
     requires title { length title.now ≤ LABEL_BYTES }
     ensures { D.drew drawing.old drawing.new (cross_at x y title.now) }
 {
