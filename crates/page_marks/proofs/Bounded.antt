@@ -1,5 +1,5 @@
 -- Marks that lie within bounds, and whose numbers fit.
-use Rattle.std.proofs.Common.{ℕ, zero, suc, ◌+◌, ◌^◌, ◌<◌, ◌≤◌, List, [], ◌∷◌, ◌++◌, arith}
+use Rattle.std.proofs.Common.{◌≡◌, ℕ, zero, suc, ◌+◌, ◌^◌, ◌<◌, ◌≤◌, List, [], ◌∷◌, ◌++◌, ap, ◌∙◌, arith, add-one}
 use Rattle.std.proofs.lemmas.Int.{ints}
 use Rattle.std.specs.Prelude.{map}
 use Rattle.std.specs.List.{AllByRecursion, flat_map, range_with_len}
@@ -43,6 +43,16 @@ all-left P Q (x ∷ xs) h = (h.0.0, all-left P Q xs h.1)
 pub all-right : {X : Type 0} (P Q : X → Type 0) (xs : List X) → AllByRecursion (λ x. P x × Q x) xs → AllByRecursion Q xs
 all-right P Q [] h = tt
 all-right P Q (x ∷ xs) h = (h.0.1, all-right P Q xs h.1)
+
+-- What is made of one number more.
+by-suc : {X : Type 0} (f : ℕ → X) (first n : ℕ) → map f (range_with_len first (suc n)) ≡ map f (range_with_len first n) ++ f (first + n) ∷ []
+by-suc f first zero = ap (λ (k : ℕ). f k ∷ []) (omega arith)
+by-suc f first (suc n) =
+    let next : (first + 1) + n ≡ first + suc n = omega arith in
+    ap (λ xs. f first ∷ xs) (by-suc f (first + 1) n ∙ ap (λ (k : ℕ). map f (range_with_len (first + 1) n) ++ f k ∷ []) next)
+
+pub map-more : {X : Type 0} (f : ℕ → X) (first n : ℕ) → map f (range_with_len first (n + 1)) ≡ map f (range_with_len first n) ++ f (first + n) ∷ []
+map-more f first n = ap (λ (k : ℕ). map f (range_with_len first k)) (add-one n) ∙ by-suc f first n
 
 -- ---- wider bounds
 

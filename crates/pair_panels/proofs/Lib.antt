@@ -1,5 +1,4 @@
 pub mod Far
 pub mod Best
 pub mod Axis
-pub mod Mapping
 pub mod Placing

@@ -64,13 +64,7 @@ fn tick_value(ticks: Ticks, number: u32) -> u32
 
 // Puts the tick with a number.
 #[tactic(auto, unfolding(crate::specs::Panel::value_tick))]
-fn put_tick<D: Drawing>(
-    top: u32,
-    distance: Distance,
-    ticks: Ticks,
-    number: u32,
-    drawing: &mut D,
-)
+fn put_tick<D: Drawing>(top: u32, distance: Distance, ticks: Ticks, number: u32, drawing: &mut D)
     requires top { top ≤ 40000 }
     requires axis { IsAxis ticks }
     requires number { number ≤ ticks.count }
@@ -353,7 +347,5 @@ pub fn put_distance<D: Drawing>(
     ensures { D.drew drawing.old drawing.new (distance_marks top encounter.now labels.now distance pair) }
 {
     let ticks = ticks_of(encounter, distance, pair);
-    put_plot(
-        top, encounter, labels, distance, pair, ticks, time, drawing,
-    );
+    put_plot(top, encounter, labels, distance, pair, ticks, time, drawing);
 }

@@ -33,11 +33,12 @@ use Rattle.reasons.specs.Explained.{Explains, GoesOn, IsExplained, untested, sta
 use Rattle.reasons.specs.Fields.{tenths_of}
 use Rattle.reasons.specs.Reasons.{reason_of}
 use Rattle.reasons.specs.Seen.{seen_of}
-use Rattle.reasons.specs.Shown.{continued_after, continued_of, is_projected, projected_of, seconds_of, shown_of, tested_of}
+use Rattle.reasons.specs.Shown.{continued_after, continued_of, is_projected, projected_of, shown_of, tested_of}
 use Rattle.reasons.specs.declared.rules.Rule.{Rule}
 use Rattle.reasons.specs.declared.rules.Rule.TheVariants.{Starts, Reverses, Weakens}
 use Rattle.reasons.specs.declared.seen.Seen.{Seen}
 use Rattle.test_seconds.proofs.Testing.{altitude-goes, range-goes}
+use Rattle.test_seconds.specs.Pair.{seconds_of}
 
 -- ---- the tests
 

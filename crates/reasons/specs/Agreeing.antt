@@ -10,9 +10,9 @@ use Rattle.reasons.specs.declared.reason.Reason.{Reason}
 use Rattle.reasons.specs.declared.rules.Rule.TheVariants.{Starts, Reverses, Weakens}
 use Rattle.reasons.specs.declared.shown.Continued.{Continued}
 use Rattle.reasons.specs.declared.shown.Projected.{Projected}
-use Rattle.reasons.specs.declared.shown.TestSeconds.{TestSeconds}
 use Rattle.reasons.specs.declared.shown.Tested.{Tested}
 use Rattle.test_seconds.specs.Seconds.{is_within}
+use Rattle.test_seconds.specs.declared.pair.TestSeconds.{TestSeconds}
 
 -- Both tests have seconds, and these are no more than their tau.
 abbrev pub are_within_tau : TestSeconds → Bool

@@ -14,9 +14,9 @@ use Rattle.reasons.specs.declared.rules.Rule.{Rule}
 use Rattle.reasons.specs.declared.rules.Rule.TheVariants as rules
 use Rattle.reasons.specs.declared.shown.Continued.{Continued}
 use Rattle.reasons.specs.declared.shown.Projected.{Projected}
-use Rattle.reasons.specs.declared.shown.TestSeconds.{TestSeconds}
 use Rattle.reasons.specs.declared.shown.Tested.{Tested}
 use Rattle.reasons.specs.declared.told.Told.{Told}
+use Rattle.test_seconds.specs.declared.pair.TestSeconds.{TestSeconds}
 
 -- A column of a text about such values.
 pub record Column (T : Type 0) : Type 0 where

@@ -7,7 +7,6 @@ use Rattle.acas_base.specs.declared.advisory.Cell.TheVariants.{Clear, Traffic, R
 use Rattle.acas_base.specs.declared.advisory.Intent.{Intent}
 use Rattle.acas_base.specs.declared.advisory.Sense.{Sense}
 use Rattle.acas_base.specs.declared.advisory.Sense.TheVariants.{Up, Down}
-use Rattle.acas_base.specs.declared.level.Row.{Row}
 use Rattle.acas_base.specs.declared.view.View.{View}
 use Rattle.craft_view.specs.declared.motion.Motion.{Motion}
 use Rattle.craft_view.specs.declared.own.OwnAircraft.{OwnAircraft}
@@ -17,20 +16,11 @@ use Rattle.reasons.specs.declared.shown.Best.{Best}
 use Rattle.reasons.specs.declared.shown.Continued.{Continued}
 use Rattle.reasons.specs.declared.shown.Projected.{Projected}
 use Rattle.reasons.specs.declared.shown.Shown.{Shown}
-use Rattle.reasons.specs.declared.shown.TestSeconds.{TestSeconds}
 use Rattle.reasons.specs.declared.shown.Tested.{Tested}
 use Rattle.strength_pick.specs.Alim.{has_alim}
-use Rattle.test_seconds.specs.Seconds.{altitude_seconds, range_seconds}
+use Rattle.test_seconds.specs.Pair.{pair_seconds}
 
 -- ---- where the pair is tested
-
--- What both tests need with the thresholds of a row.
-unfoldable pub seconds_of : Motion → Row → TestSeconds
-seconds_of m row = record {
-  range = range_seconds m.range.est m.range.rate row;
-  altitude = altitude_seconds (m.target.est -ℤ m.own.est) (m.target.rate -ℤ m.own.rate) row;
-  tau = unsigned_abs row.tau;
-}
 
 -- What is tracked, and what is tested with the thresholds of own aircraft.
 unfoldable pub tested_of : OwnAircraft → View → Motion → Tested
@@ -40,8 +30,8 @@ tested_of own view m = record {
   height = tenths_of (m.target.est -ℤ m.own.est);
   height_rate = tenths_a_minute_of (m.target.rate -ℤ m.own.rate);
   own_rate = tenths_a_minute_of m.own.rate;
-  ta = seconds_of m own.traffic;
-  ra = option_map (seconds_of m) own.resolution;
+  ta = (pair_seconds own m).ta;
+  ra = (pair_seconds own m).ra;
   traffic = view.traffic;
   threat = view.threat;
 }

@@ -9,13 +9,14 @@ ghost use Rattle.reasons.specs.Fields.{nothing, with_field, with_fields};
 
 use crate::reason::Reason;
 use crate::rules::Rule;
-use crate::shown::{Best, Continued, Projected, TestSeconds, Tested};
+use crate::shown::{Best, Continued, Projected, Tested};
 use crate::told::Told;
 use acas_base::{Cell, Rank};
 use acas_lines::fixed_line;
 use acas_text::Line;
 use advisory_report::{CELL_BYTES, add_cell, complement_text, sense_text, strength_digit};
 use flight::Meas;
+use test_seconds::TestSeconds;
 
 /// Adds a field with nothing in it for each of these commas.
 fn add_nothing(line: &mut Line, commas: &str)

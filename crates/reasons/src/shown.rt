@@ -5,28 +5,17 @@ ghost use Rattle.craft_view.specs.KnownTracks.{IsMotion};
 ghost use Rattle.craft_view.specs.Own.{AreRows};
 ghost use Rattle.reasons.specs.Bounds.{IsModerate, IsSeen};
 ghost use Rattle.reasons.specs.Fields.{tenths_of};
-ghost use Rattle.reasons.specs.Shown.{best_of, continued_after, continued_of, is_projected, projected_of, seconds_of, shown_of, tested_of};
-ghost use Rattle.sens_table.specs.Levels.{IsTableRow};
+ghost use Rattle.reasons.specs.Shown.{best_of, continued_after, continued_of, is_projected, projected_of, shown_of, tested_of};
+ghost use Rattle.test_seconds.specs.Pair.{pair_seconds};
 
 use crate::seen::Seen;
 use crate::tenths::{tenths_a_minute_of, tenths_of};
-use acas_base::{Cell, Intent, Rank, Row, Sense, Strength, View, separation, strongest};
+use acas_base::{Cell, Intent, Rank, Sense, Strength, View, separation, strongest};
 use craft_view::{Motion, OwnAircraft};
 use flight::Meas;
 use sense_pick::pick;
 use strength_pick::{has_alim, is_fresh_after, least};
-use test_seconds::{altitude_seconds, range_seconds};
-
-/// What the tests of an advisory need with the thresholds of a row.
-#[derive(Clone, Copy, Debug, PartialEq, Eq)]
-pub struct TestSeconds {
-    /// The least whole seconds of the range test; none where the range doesn't close.
-    pub range: Option<u32>,
-    /// The least whole seconds of the altitude test; none where the altitude difference doesn't close.
-    pub altitude: Option<u32>,
-    /// Tau of the row, in s: a test holds where its seconds are no more.
-    pub tau: u16,
-}
+use test_seconds::{TestSeconds, height_of, height_rate_of, pair_seconds};
 
 /// What own aircraft saw of a pair that is tested: what is tracked, and what the tests gave.
 #[derive(Clone, Copy, Debug, PartialEq, Eq)]
@@ -111,50 +100,6 @@ pub struct Shown {
     pub projected: Option<Projected>,
 }
 
-// How far the other aircraft is above own one.
-fn height_of(motion: &Motion) -> i64
-    requires { IsMotion motion.now }
-    ensures value { result ≡ motion.now.target.est -ℤ motion.now.own.est }
-    ensures bound { unsigned_abs result ≤ 2 ^ 28 }
-{
-    motion.target.est - motion.own.est
-}
-
-// How fast that grows.
-fn height_rate_of(motion: &Motion) -> i64
-    requires { IsMotion motion.now }
-    ensures value { result ≡ motion.now.target.rate -ℤ motion.now.own.rate }
-    ensures bound { unsigned_abs result ≤ 2 ^ 28 }
-{
-    motion.target.rate - motion.own.rate
-}
-
-// What both tests need with the thresholds of a row.
-#[tactic(auto, unfolding(crate::specs::Shown::seconds_of))]
-fn seconds_of(motion: &Motion, row: &Row) -> TestSeconds
-    requires motion { IsMotion motion.now }
-    requires row { IsTableRow row.now }
-    ensures { result ≡ seconds_of motion.now row.now }
-{
-    TestSeconds {
-        range: range_seconds(motion.range.est, motion.range.rate, row),
-        altitude: altitude_seconds(height_of(motion), height_rate_of(motion), row),
-        tau: row.tau.unsigned_abs() as u16,
-    }
-}
-
-// The same, where there is a row.
-fn seconds_if_any(motion: &Motion, row: &Option<Row>) -> Option<TestSeconds>
-    requires motion { IsMotion motion.now }
-    requires row { IfSome row.now IsTableRow }
-    ensures { result ≡ option_map (seconds_of motion.now) row.now }
-{
-    match row {
-        None => None,
-        Some(row) => Some(seconds_of(motion, row)),
-    }
-}
-
 // What is tracked, and what the tests gave.
 #[tactic(auto, unfolding(crate::specs::Shown::tested_of))]
 fn tested_of(own: &OwnAircraft, view: &View, motion: &Motion) -> Tested
@@ -162,14 +107,15 @@ fn tested_of(own: &OwnAircraft, view: &View, motion: &Motion) -> Tested
     requires motion { IsMotion motion.now }
     ensures { result ≡ tested_of own.now view.now motion.now }
 {
+    let seconds = pair_seconds(own, motion);
     Tested {
         range: tenths_of(motion.range.est),
         range_rate: tenths_of(motion.range.rate),
         height: tenths_of(height_of(motion)),
         height_rate: tenths_a_minute_of(height_rate_of(motion)),
         own_rate: tenths_a_minute_of(motion.own.rate),
-        ta: seconds_of(motion, &own.traffic),
-        ra: seconds_if_any(motion, &own.resolution),
+        ta: seconds.ta,
+        ra: seconds.ra,
         traffic: view.traffic,
         threat: view.threat,
     }

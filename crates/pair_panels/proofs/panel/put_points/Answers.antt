@@ -1,7 +1,7 @@
 use Rattle.std.proofs.Common.{◌≡◌, ℕ, ◌+◌, ◌-◌, [], ◌∷◌, ◌++◌, sym, ap, ◌∙◌, subst, arith}
 use Rattle.std.specs.Prelude.{map}
 use Rattle.std.specs.List.{range_with_len}
-use Rattle.pair_panels.proofs.Mapping.{map-more}
+use Rattle.page_marks.proofs.Bounded.{map-more}
 use Rattle.pair_panels.specs.Panel.{value_point}
 use Rattle.pair_panels.proofs.panel.put_points.Goals as goal
 
