@@ -6,3 +6,6 @@ pub mod Messaging
 pub mod Changing
 pub mod Befallen
 pub mod Placing
+pub mod Listing
+pub mod Calling
+pub mod Hearing

@@ -14,4 +14,7 @@ pub mod Mishaps
 pub mod MishapsDrawn
 pub mod Panels
 pub mod Picture
+pub mod Calls
+pub mod Heard
+pub mod HeardLaws
 pub mod Laws
