@@ -158,9 +158,9 @@ good-rest top count most =
     elim (cases_Bool (count == 0)) [
       | inl zero_is ↦ subst P (sym (cond-true (count == 0) none some zero_is)) (good-words-at top 0 (codes "nothing") most (omega arith))
       | inr above ↦ subst P (sym (cond-false (count == 0) none some above)) (elim (cases_Bool (nat_le count 22)) [
-          | inl few ↦ subst P (sym (cond-true (nat_le count 22) [] more few)) tt
-          | inr many ↦ subst P (sym (cond-false (nat_le count 22) [] more many)) (good-words-at top 22 (more_text (count - 22)) most (omega arith))
-        ])
+        | inl few ↦ subst P (sym (cond-true (nat_le count 22) [] more few)) tt
+        | inr many ↦ subst P (sym (cond-false (nat_le count 22) [] more many)) (good-words-at top 22 (more_text (count - 22)) most (omega arith))
+      ])
     ]
 
 good-heading : (top : ℕ) → top ≤ 40000 → AllByRecursion (Good (list_from top)) (heading_marks top)

@@ -7,5 +7,4 @@ pub mod Changing
 pub mod Befallen
 pub mod Placing
 pub mod Listing
-pub mod Calling
 pub mod Hearing

@@ -110,13 +110,7 @@ fn put_sense<D: Drawing>(y: u32, shown: &Composite, title: &Line, drawing: &mut 
 }
 
 // Puts the words of a line.
-fn put_line_words<D: Drawing>(
-    y: u32,
-    label: &Line,
-    name: &Line,
-    phrase: &Line,
-    drawing: &mut D,
-)
+fn put_line_words<D: Drawing>(y: u32, label: &Line, name: &Line, phrase: &Line, drawing: &mut D)
     requires y { y ≤ 46470 }
     requires label { length label.now ≤ LABEL_BYTES }
     requires name { length name.now ≤ LABEL_BYTES }
@@ -150,13 +144,7 @@ fn put_line_words<D: Drawing>(
 }
 
 // Puts the line of a call.
-fn put_line_with<D: Drawing>(
-    y: u32,
-    address: Address,
-    name: &Line,
-    call: &Call,
-    drawing: &mut D,
-)
+fn put_line_with<D: Drawing>(y: u32, address: Address, name: &Line, call: &Call, drawing: &mut D)
     requires least { 750 ≤ y }
     requires most { y ≤ 46470 }
     requires name { length name.now ≤ LABEL_BYTES }
@@ -268,12 +256,7 @@ fn put_cycle<D: Drawing>(
 }
 
 // Puts all of them, and gives how many calls there are.
-fn put_calls<D: Drawing>(
-    top: u32,
-    state: &AirState,
-    labels: &Labels<'_>,
-    drawing: &mut D,
-) -> u32
+fn put_calls<D: Drawing>(top: u32, state: &AirState, labels: &Labels<'_>, drawing: &mut D) -> u32
     requires top { top ≤ 40000 }
     ensures drawn { D.drew drawing.old drawing.new (listed top state.now.encounter labels.now 0 (calls state.now.encounter state.now.journal)) }
     ensures count { result ≡ length (calls state.now.encounter state.now.journal) }
@@ -335,12 +318,7 @@ fn put_heading<D: Drawing>(top: u32, drawing: &mut D)
 /// Draws what the crews heard from `top` downward, over [`HEARD_HEIGHT`], to the right of the plan: a line for each of
 /// the first 22 calls, by cycle and then by index, and how many more there are.
 #[tactic(auto, unfolding(crate::specs::Heard::heard_marks))]
-pub fn put_heard<D: Drawing>(
-    top: u32,
-    state: &AirState,
-    labels: &Labels<'_>,
-    drawing: &mut D,
-)
+pub fn put_heard<D: Drawing>(top: u32, state: &AirState, labels: &Labels<'_>, drawing: &mut D)
     requires { top ≤ 40000 }
     ensures { D.drew drawing.old drawing.new (heard_marks top state.now.encounter state.now.journal labels.now) }
 {
