@@ -7,3 +7,5 @@ pub mod Changing
 pub mod Befallen
 pub mod Marking
 pub mod Placing
+pub mod Listing
+pub mod Hearing

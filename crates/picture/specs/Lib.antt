@@ -16,4 +16,7 @@ pub mod Marked
 pub mod MarkedDrawn
 pub mod Panels
 pub mod Picture
+pub mod Calls
+pub mod Heard
+pub mod HeardLaws
 pub mod Laws

@@ -1,0 +1,95 @@
+-- What the crews heard, as a list on the page.
+use Rattle.std.specs.Prelude.{ℕ, ◌+◌, ◌-◌, ◌*◌, ◌==◌, Bool, if◌then◌else◌, nat_le, nat_lt, List, [], ◌∷◌, ◌++◌, codes, length, take}
+use Rattle.std.specs.Fmt.{decimal}
+use Rattle.acas_base.specs.Encounter.{Parts}
+use Rattle.acas_base.specs.declared.entry.Entry.{Entry}
+use Rattle.acas_text.specs.Hex.{hex}
+use Rattle.advisory_report.specs.Composite.{word_of}
+use Rattle.advisory_report.specs.Phrases.{is_clear, phrase_text}
+use Rattle.advisory_report.specs.declared.composite.Composite.{Composite}
+use Rattle.air_journal.specs.Airs.{address_of}
+use Rattle.labels.specs.Labels.{LabelWords, name_of}
+use Rattle.page_marks.specs.Paints.{box_marks, letters}
+use Rattle.page_marks.specs.Places.{area_at, point_at}
+use Rattle.picture.specs.Bars.{advised}
+use Rattle.picture.specs.Calls.{calls}
+use Rattle.picture.specs.declared.call.Call.{Call}
+use Rattle.svg_text.specs.Marks.{Mark, worded}
+use Rattle.svg_text.specs.declared.shapes.Anchor.TheVariants as anchors
+use Rattle.svg_text.specs.declared.shapes.Weight.TheVariants as weights
+
+-- ---- words
+
+-- What a cycle is called.
+unfoldable pub cycle_label : ℕ → List ℕ
+cycle_label cycle = decimal cycle
+
+-- A phrase in quotes.
+unfoldable pub quoted : List ℕ → List ℕ
+quoted phrase = codes "\"" ++ phrase ++ codes "\""
+
+unfoldable pub call_title : ℕ → ℕ → Composite → List ℕ
+call_title address cycle shown = hex 6 address ++ codes ", cycle " ++ decimal cycle ++ codes ", " ++ word_of shown
+
+unfoldable pub more_text : ℕ → List ℕ
+more_text count = codes "and " ++ decimal count ++ codes " more"
+
+-- ---- where the lines stand
+
+abbrev pub most_lines : ℕ
+most_lines = 22
+
+-- The line with a number, from 0.
+abbrev pub line_y : ℕ → ℕ → ℕ
+line_y top number = top + 750 + 260 * number
+
+-- ---- marks
+
+-- A box that tells the sense of what is shown; none where nothing is.
+unfoldable pub sense_marks : ℕ → Composite → List ℕ → List Mark
+sense_marks y shown title = if is_clear shown then [] else box_marks (advised shown) (area_at 8800 (y - 170) 160 190) title
+
+-- The cycle, the aircraft and the phrase.
+abbrev pub words_marks : ℕ → List ℕ → List ℕ → List ℕ → List Mark
+words_marks y label name phrase =
+    worded (letters (point_at 10150 y) 240 anchors.End weights.Regular) label []
+    ∷ worded (letters (point_at 10300 y) 240 anchors.Start weights.Bold) name []
+    ∷ worded (letters (point_at 11700 y) 240 anchors.Start weights.Regular) phrase [] ∷ []
+
+abbrev pub line_with : ℕ → ℕ → List ℕ → Call → List Mark
+line_with y address name call =
+    sense_marks y call.shown (call_title address call.cycle call.shown)
+    ++ words_marks y (cycle_label call.cycle) name (quoted (phrase_text call.heard))
+
+unfoldable pub line_marks : ℕ → Parts → LabelWords → ℕ → Call → List Mark
+line_marks top e labels number call = line_with (line_y top number) (address_of e call.own) (name_of labels (address_of e call.own)) call
+
+-- Those of calls, the first of which has this number.
+abbrev pub lines : ℕ → Parts → LabelWords → ℕ → List Call → List Mark
+lines top e labels number [] = []
+lines top e labels number (call ∷ rest) = line_marks top e labels number call ++ lines top e labels (number + 1) rest
+
+-- The same, where only calls with a number below 22 have a line.
+unfoldable pub call_marks : ℕ → Parts → LabelWords → ℕ → Call → List Mark
+call_marks top e labels number call = if nat_lt number most_lines then line_marks top e labels number call else []
+
+abbrev pub listed : ℕ → Parts → LabelWords → ℕ → List Call → List Mark
+listed top e labels number [] = []
+listed top e labels number (call ∷ rest) = call_marks top e labels number call ++ listed top e labels (number + 1) rest
+
+abbrev pub words_at : ℕ → List ℕ → List Mark
+words_at y words = worded (letters (point_at 10300 y) 240 anchors.Start weights.Regular) words [] ∷ []
+
+-- What stands below the lines: how many calls have none. Where there is no call, it says so.
+unfoldable pub rest_marks : ℕ → ℕ → List Mark
+rest_marks top count =
+    if count == 0 then words_at (line_y top 0) (codes "nothing")
+    else (if nat_le count most_lines then [] else words_at (line_y top most_lines) (more_text (count - most_lines)))
+
+abbrev pub heading_marks : ℕ → List Mark
+heading_marks top = worded (letters (point_at 8800 (top + 350)) 260 anchors.Start weights.Bold) (codes "what the crews heard") [] ∷ []
+
+-- A line for each of the first 22 calls.
+unfoldable pub heard_marks : ℕ → Parts → List Entry → LabelWords → List Mark
+heard_marks top e journal labels =
+    heading_marks top ++ (lines top e labels 0 (take most_lines (calls e journal)) ++ rest_marks top (length (calls e journal)))

@@ -1,0 +1,4 @@
+pub mod Showing
+pub mod Lengths
+pub mod Mapping
+pub mod Placing

@@ -1,0 +1,9 @@
+use Rattle.std.proofs.Common.{◌-◌}
+use Rattle.std.specs.Prelude.{map}
+use Rattle.std.specs.List.{range_with_len}
+use Rattle.plan_panel.specs.Places.{plan_point}
+use Rattle.plan_panel.proofs.flights.put_points.Given as goal
+
+-- It passed through the points of the cycles so far.
+abbrev pub invariant-loop-cycle : goal.invariant-loop-cycle
+invariant-loop-cycle g l = g.D.Drawing.passed l.fn.drawing l.drawing (map (plan_point l.chart.top l.chart.encounter.now l.own) (range_with_len 1 (l.cycle - 1)))
