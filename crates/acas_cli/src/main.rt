@@ -30,12 +30,13 @@ fn words_of<R: Env + Alloc<A = Global>>(rt: &R) -> io::Result<Vec<String>> {
 
 // What is written on standard error where the words are no command. It is in pieces, since a long text takes minutes to
 // prove.
-const USAGE: [&str; 5] = [
+const USAGE: [&str; 6] = [
     "usage: acas serial | play | tracks | fly ADDRESS .. | vary alt|x|y|late ",
     "ADDRESS FIRST COUNT STEP | vary lose | vary swap | many | audit | sum | ",
     "gen NUMBER CRAFTS CYCLES | reports | sweep NUMBER COUNT CRAFTS CYCLES | ",
     "response | watch | resume | why | places | messages | summary | ",
-    "picture | compare | explain | decode WORD | --help | --version",
+    "picture [hh:mm:ss] [ADDRESS=NAME ..] [CYCLE=TEXT ..] | compare | ",
+    "explain | decode WORD | --help | --version",
 ];
 
 // The message on standard error, but for the usage.
@@ -52,8 +53,8 @@ fn message(status: Status) -> &'static str {
 // Writes the message of a status on standard error, where it has one.
 fn tell(rt: &HostRuntime, status: Status) {
     if status == Status::Usage {
-        let [one, two, three, four, five] = USAGE;
-        let _ = eprintln!(rt; "{one}{two}{three}{four}{five}");
+        let [one, two, three, four, five, six] = USAGE;
+        let _ = eprintln!(rt; "{one}{two}{three}{four}{five}{six}");
         return;
     }
     let text = message(status);

@@ -9,7 +9,7 @@ use Rattle.acas_io.specs.Faults.{Rose, one_more}
 use Rattle.acas_io.specs.Stream.{Grew, Puts}
 use Rattle.acas_top.specs.Ends.{Answered, Ended, IsAnswer, IsTooLong, IsUnread, Passed, WasPut, WasRead, status_after}
 use Rattle.acas_top.specs.Statuses.{status_number}
-use Rattle.acas_top.specs.Words.{AreNoCommand, AreNoFlight, AreNoPlain, AreNoQuiet, AreNoRun, IsCommand, Say, limit_of, most}
+use Rattle.acas_top.specs.Words.{AreNoCommand, AreNoFlight, AreNoList, AreNoPicture, AreNoPlain, AreNoQuiet, AreNoRun, IsCommand, Say, limit_of, most}
 use Rattle.acas_top.specs.Given.{answer_status, answer_text}
 use Rattle.acas_top.specs.declared.answers.Answer.{Answer}
 use Rattle.acas_top.specs.declared.answers.Answer.TheVariants.{Compared, Decoded, ExplainedRefusal, ExplainedWrong, Faultless, Judged, Made, Many as AnswerMany, Recorded, Refused, RightEncounter, RightRecording, Shown, Summed, Swept, Told, Unmet, Varied}
@@ -84,6 +84,7 @@ limit-said words (commands.OfPlain (Show Help)) (inr (inl said)) = sym (ap limit
 limit-said words (commands.OfPlain (Show Help)) (inr (inr said)) = sym (ap limit-by said)
 limit-said words (commands.OfPlain (Show Version)) said = sym (ap limit-by said)
 limit-said words (commands.OfFlight names) said = sym (ap limit-by said.is)
+limit-said words (commands.OfPicture labels) said = sym (ap limit-by said.is)
 limit-said words (commands.OfRun Play) said = sym (ap limit-by said)
 limit-said words (commands.OfRun Sum) said = sym (ap limit-by said)
 
@@ -108,6 +109,7 @@ only-serial words bytes text (commands.OfPlain (Show Help)) (inr (inr said)) als
 only-serial words bytes text (commands.OfPlain (Show Version)) said also plays = absurd (clash (codes "serial") words _ _ said also refl refl)
 only-serial words bytes text (commands.OfPlain plain) said also plays = absurd (clash (codes "serial") words _ _ said also refl refl)
 only-serial words bytes text (commands.OfFlight names) said also plays = absurd (clash (codes "serial") words _ _ said.is also refl refl)
+only-serial words bytes text (commands.OfPicture labels) said also plays = absurd (clash (codes "serial") words _ _ said.is also refl refl)
 only-serial words bytes text (commands.OfRun Play) said also plays = absurd (clash (codes "serial") words _ _ said also refl refl)
 only-serial words bytes text (commands.OfRun Sum) said also plays = absurd (clash (codes "serial") words _ _ said also refl refl)
 
@@ -143,6 +145,7 @@ done-play run words old new bytes text IsPut said answers read put also = record
 pub none-at-all : (words : List (List ℕ)) → AreNoQuiet words → AreNoRun words → AreNoCommand words
 none-at-all words quiet threaded (commands.OfPlain command) is = quiet.0 command is
 none-at-all words quiet threaded (commands.OfFlight names) is = quiet.1 names
+none-at-all words quiet threaded (commands.OfPicture labels) is = quiet.2 labels
 none-at-all words quiet threaded (commands.OfRun run) is = threaded run
 
 -- What a call says of words that say none of its commands, where it is a part of a call with more commands.
@@ -162,10 +165,15 @@ wider-ends all part ended = record {
   complete = λ some. ended.complete (λ none. some (all none));
 }
 
+-- What the call of `picture` with labels says of words that don't say `fly`.
+pub picture-ends : {S K : Type 0} {words : List (List ℕ)} {status : Status} {left : S → Option (List ℕ)} {reads : S → ℕ} {source source_new : S} {written : K → Option (List ℕ)} {writes : K → ℕ} {sink sink_new : K}
+    → AreNoFlight words → Ended (AreNoPicture words) words status left reads source source_new written writes sink sink_new → Ended (AreNoList words) words status left reads source source_new written writes sink sink_new
+picture-ends no_flight ended = wider-ends (λ no_picture. (no_flight, no_picture)) (λ none. none.1) ended
+
 -- What the call of `fly` says of words that say no plain command.
 pub flight-ends : {S K : Type 0} {words : List (List ℕ)} {status : Status} {left : S → Option (List ℕ)} {reads : S → ℕ} {source source_new : S} {written : K → Option (List ℕ)} {writes : K → ℕ} {sink sink_new : K}
-    → AreNoPlain words → Ended (AreNoFlight words) words status left reads source source_new written writes sink sink_new → Ended (AreNoQuiet words) words status left reads source source_new written writes sink sink_new
-flight-ends no_plain ended = wider-ends (λ no_flight. (no_plain, no_flight)) (λ none. none.1) ended
+    → AreNoPlain words → Ended (AreNoList words) words status left reads source source_new written writes sink sink_new → Ended (AreNoQuiet words) words status left reads source source_new written writes sink sink_new
+flight-ends no_plain ended = wider-ends (λ no_list. (no_plain, no_list)) (λ none. none.1) ended
 
 -- A count that is one more rose.
 risen : (before now : ℕ) → now ≡ one_more before → Rose before now
@@ -196,7 +204,7 @@ unsaid-ends none = record {
 pub plain-ends : {S K : Type 0} {words : List (List ℕ)} {status : Status} {left : S → Option (List ℕ)} {reads : S → ℕ} {source source_new : S} {written : K → Option (List ℕ)} {writes : K → ℕ} {sink sink_new : K}
     → AreNoRun words → Ended (AreNoQuiet words) words status left reads source source_new written writes sink sink_new → Ended (AreNoCommand words) words status left reads source source_new written writes sink sink_new
 plain-ends {words = words} no_run ended =
-    wider-ends (λ quiet. none-at-all words quiet no_run) (λ none. (λ plain. none (commands.OfPlain plain), λ names. none (commands.OfFlight names) tt)) ended
+    wider-ends (λ quiet. none-at-all words quiet no_run) (λ none. (λ plain. none (commands.OfPlain plain), (λ names. none (commands.OfFlight names) tt, λ labels. none (commands.OfPicture labels) tt))) ended
 
 -- Another command that the words say, and that reads nothing, leaves the source as it was, too.
 still-unread : {S : Type 0} (words : List (List ℕ)) (command : Command) {source source_new : S} → Say words command → (limit_of command ≡ None → source_new ≡ source)
@@ -328,9 +336,15 @@ own-put statuses.Refused text old new faults now is grew same = (refl, tt, grew,
 own-put statuses.Wrong text old new faults now is grew same = (refl, tt, grew, same)
 own-put own text old new faults now is grew same = absurd is
 
--- The whole text of an answer was put out and its status is given, or a write failed.
+-- A whole text was put out and the status of its answer is given, or a write failed.
+pub text-put : {T E : Type 0} (own status : Status) (text : List ℕ) (put : Result T E) (old new : Option (List ℕ)) (faults now : ℕ) → IsAnswer own → status ≡ status_after own put
+    → Puts old new faults now text put → WasPut status own text old new faults now
+text-put own status text (Ok unit) old new faults now is same puts =
+    subst (λ (s : Status). WasPut s own text old new faults now) (sym same) (own-put own text old new faults now is puts.0 puts.1)
+text-put own status text (Err error) old new faults now is same puts = subst (λ (s : Status). WasPut s own text old new faults now) (sym same) puts
+
+-- The same of an answer.
 pub was-put : {T E : Type 0} (answer : Answer) (own status : Status) (put : Result T E) (old new : Option (List ℕ)) (faults now : ℕ) → own ≡ answer_status answer → status ≡ status_after own put
     → Puts old new faults now (answer_text answer) put → WasPut status (answer_status answer) (answer_text answer) old new faults now
-was-put answer own status (Ok unit) old new faults now is same puts =
-    subst (λ (s : Status). WasPut s (answer_status answer) (answer_text answer) old new faults now) (sym (same ∙ is)) (own-put (answer_status answer) (answer_text answer) old new faults now (is-answer answer) puts.0 puts.1)
-was-put answer own status (Err error) old new faults now is same puts = subst (λ (s : Status). WasPut s (answer_status answer) (answer_text answer) old new faults now) (sym same) puts
+was-put answer own status put old new faults now is same puts =
+    text-put (answer_status answer) status (answer_text answer) put old new faults now (is-answer answer) (same ∙ ap (λ (s : Status). status_after s put) is) puts

@@ -34,7 +34,8 @@ use Rattle.acas_top.specs.declared.words.Plain.TheVariants.{Audit, Compare, Deco
 use Rattle.acas_top.specs.declared.words.Threaded.{Threaded}
 use Rattle.acas_top.specs.declared.words.Threaded.TheVariants.{Play, Sum}
 use Rattle.acas_base.specs.Encounter.{Parts}
-use Rattle.acas_top.specs.Telling.{Tells}
+use Rattle.acas_top.specs.Telling.{Describes, Draws, Tells}
+use Rattle.labels.specs.Labels.{LabelWords}
 use Rattle.enc_file.specs.Records.{records_of}
 use Rattle.track_text.specs.Conditions.{IsRefused}
 use Rattle.track_text.specs.Reading.{Says as SaysTracks}
@@ -89,21 +90,31 @@ wrong-only law bytes text other Done wrong is = absurd (not-wrong law bytes othe
 wrong-only law bytes text other Wrong wrong is = refl
 wrong-only law bytes text other also wrong is = absurd is
 
--- What a tool tells of isn't wrong.
-not-told : HasOneVerdict → (tool : Tool) (bytes text other : List ℕ) → Tells tool bytes text → IsWrong bytes other → ⊥
-not-told law tool bytes text other told wrong =
+-- What a text describes isn't wrong.
+not-told : HasOneVerdict → (lines : Parts → List Entry → List (List ℕ)) (bytes text other : List ℕ) → Describes lines bytes text → IsWrong bytes other → ⊥
+not-told law lines bytes text other told wrong =
     let same = law bytes (verdicts.Legal (length told.state.journal)) (verdicts.Wrong wrong.line wrong.reason) (record { state = told.state; recording = told.recording; count = refl }) wrong.is in
     cc
 
 told-only : HasOneVerdict → (tool : Tool) (bytes text other : List ℕ) (also : Status) → Tells tool bytes text → AnswersPlain (Tell tool) bytes also other → Done ≡ also
 told-only law tool bytes text other Done told is = refl
-told-only law tool bytes text other Wrong told is = absurd (not-told law tool bytes text other told is)
+told-only law tool bytes text other Wrong told is = absurd (not-told law _ bytes text other told is)
 told-only law tool bytes text other also told is = absurd is
 
 untold-only : HasOneVerdict → (tool : Tool) (bytes text other : List ℕ) (also : Status) → IsWrong bytes text → AnswersPlain (Tell tool) bytes also other → Wrong ≡ also
-untold-only law tool bytes text other Done wrong is = absurd (not-told law tool bytes other text is wrong)
+untold-only law tool bytes text other Done wrong is = absurd (not-told law _ bytes other text is wrong)
 untold-only law tool bytes text other Wrong wrong is = refl
 untold-only law tool bytes text other also wrong is = absurd is
+
+drawn-only : HasOneVerdict → (labels : LabelWords) (bytes text other : List ℕ) (also : Status) → Draws labels bytes text → Answers (commands.OfPicture labels) bytes also other → Done ≡ also
+drawn-only law labels bytes text other Done drawn is = refl
+drawn-only law labels bytes text other Wrong drawn is = absurd (not-told law _ bytes text other drawn is)
+drawn-only law labels bytes text other also drawn is = absurd is
+
+undrawn-only : HasOneVerdict → (labels : LabelWords) (bytes text other : List ℕ) (also : Status) → IsWrong bytes text → Answers (commands.OfPicture labels) bytes also other → Wrong ≡ also
+undrawn-only law labels bytes text other Done wrong is = absurd (not-told law _ bytes other text is wrong)
+undrawn-only law labels bytes text other Wrong wrong is = refl
+undrawn-only law labels bytes text other also wrong is = absurd is
 
 -- At most one thing is loaded from bytes as a beginning.
 abbrev pub HasOnePart : Type 0
@@ -340,6 +351,9 @@ one-plain laws (Show page) bytes text other status also is other_is = absurd is
 pub one-status : HaveLaws → (command : Command) (bytes text other : List ℕ) (status also : Status) → Answers command bytes status text → Answers command bytes also other → status ≡ also
 one-status laws (commands.OfPlain plain) bytes text other status also is other_is = one-plain laws plain bytes text other status also is other_is
 one-status laws (commands.OfFlight names) bytes text other status also is other_is = one-flight laws.flight names bytes text other status also is other_is
+one-status laws (commands.OfPicture labels) bytes text other Done also is other_is = drawn-only laws.verdict labels bytes text other also is other_is
+one-status laws (commands.OfPicture labels) bytes text other Wrong also is other_is = undrawn-only laws.verdict labels bytes text other also is other_is
+one-status laws (commands.OfPicture labels) bytes text other status also is other_is = absurd is
 one-status laws (commands.OfRun run) bytes text other Done also is other_is = ran-only run bytes text other also is other_is
 one-status laws (commands.OfRun run) bytes text other Refused also is other_is = not-run-only run bytes text other also is other_is
 one-status laws (commands.OfRun run) bytes text other status also is other_is = absurd is

@@ -22,7 +22,7 @@ use Rattle.acas_top.specs.declared.words.Plain.TheVariants.{Audit, Compare, Deco
 use Rattle.acas_top.specs.declared.words.Threaded.{Threaded}
 use Rattle.acas_top.specs.declared.words.Threaded.TheVariants.{Play, Sum}
 use Rattle.acas_top.specs.Sweeping.{Sweeps}
-use Rattle.acas_top.specs.Telling.{Tells}
+use Rattle.acas_top.specs.Telling.{Draws, Tells}
 use Rattle.acas_top.specs.Varying.{IsNotVaried, Varies}
 use Rattle.air_journal.specs.Airs.{air_of}
 use Rattle.air_journal.specs.States.{State}
@@ -281,6 +281,9 @@ AnswersPlain (Show page) bytes status text = ⊥
 abbrev pub Answers : Command → List ℕ → Status → List ℕ → Type 0
 Answers (commands.OfPlain plain) bytes status text = AnswersPlain plain bytes status text
 Answers (commands.OfFlight names) bytes status text = AnswersFlight names bytes status text
+Answers (commands.OfPicture labels) bytes Done text = Draws labels bytes text
+Answers (commands.OfPicture labels) bytes Wrong text = IsWrong bytes text
+Answers (commands.OfPicture labels) bytes status text = ⊥
 Answers (commands.OfRun run) bytes Done text = Runs run bytes text
 Answers (commands.OfRun run) bytes Refused text = Refuses bytes text
 Answers (commands.OfRun run) bytes status text = ⊥

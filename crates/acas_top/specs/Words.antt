@@ -1,11 +1,12 @@
 -- The commands: which words say them, and how much they read.
-use Rattle.std.specs.Prelude.{◌≡◌, ℕ, ◌<◌, ◌≤◌, ◌^◌, ◌⊎◌, if◌then◌else◌, true, List, [], ◌∷◌, Option, None, Some, codes}
+use Rattle.std.specs.Prelude.{◌≡◌, ℕ, ◌<◌, ◌≤◌, ◌^◌, ◌⊎◌, if◌then◌else◌, true, List, [], ◌∷◌, Option, None, Some, codes, length}
 use Rattle.std.specs.Fmt.{decimal}
 use Rattle.acas_base.specs.Ranges.{IsCycle}
 use Rattle.acas_base.specs.declared.TheConstants.{CRAFTS}
 use Rattle.acas_text.specs.Hex.{hex}
 use Rattle.address_words.specs.Addresses.{are_addresses}
 use Rattle.fault_text.specs.Lines.{begins_recording}
+use Rattle.labels.specs.Labels.{LabelWords, labels_in}
 use Rattle.variation_words.specs.Words.{IsInRange as IsVariation, words_of}
 use Rattle.acas_top.specs.declared.words.TheConstants.{ENCOUNTER_BYTES, RECORDING_BYTES}
 use Rattle.acas_top.specs.Commands.{Command}
@@ -41,6 +42,7 @@ IsInRange (Show page) = Unit {0}
 abbrev pub IsCommand : Command → Type 0
 IsCommand (commands.OfPlain plain) = IsInRange plain
 IsCommand (commands.OfFlight names) = Unit {0}
+IsCommand (commands.OfPicture labels) = Unit {0}
 IsCommand (commands.OfRun run) = Unit {0}
 
 -- The word of a tool.
@@ -69,6 +71,13 @@ pub record SayFlight (words names : List (List ℕ)) : Type 0 where
   pub is : words ≡ codes "fly" ∷ names
   pub addresses : are_addresses names ≡ true
 
+-- The words say `picture` and these labels, by one word at least.
+pub record SayPicture (words : List (List ℕ)) (labels : LabelWords) : Type 0 where
+  pub rest : List (List ℕ)
+  pub is : words ≡ codes "picture" ∷ rest
+  pub some : 1 ≤ length rest
+  pub said : labels_in rest ≡ Some labels
+
 -- The words say a plain command.
 abbrev pub SayPlain : List (List ℕ) → Plain → Type 0
 SayPlain words Serial = words ≡ codes "serial" ∷ []
@@ -89,6 +98,7 @@ SayPlain words (Show page) = SayPage words page
 abbrev pub Say : List (List ℕ) → Command → Type 0
 Say words (commands.OfPlain plain) = SayPlain words plain
 Say words (commands.OfFlight names) = SayFlight words names
+Say words (commands.OfPicture labels) = SayPicture words labels
 Say words (commands.OfRun run) = words ≡ threaded_word run ∷ []
 
 -- The words say no command.
@@ -103,9 +113,17 @@ AreNoPlain words = (plain : Plain) → IsInRange plain → SayPlain words plain 
 abbrev pub AreNoFlight : List (List ℕ) → Type 0
 AreNoFlight words = (names : List (List ℕ)) → SayFlight words names → ⊥
 
+-- The words don't say `picture` and labels.
+abbrev pub AreNoPicture : List (List ℕ) → Type 0
+AreNoPicture words = (labels : LabelWords) → SayPicture words labels → ⊥
+
+-- The words say neither of the commands that end with a list of words.
+abbrev pub AreNoList : List (List ℕ) → Type 0
+AreNoList words = AreNoFlight words × AreNoPicture words
+
 -- The words say no command that waits for nobody.
 abbrev pub AreNoQuiet : List (List ℕ) → Type 0
-AreNoQuiet words = AreNoPlain words × AreNoFlight words
+AreNoQuiet words = AreNoPlain words × AreNoList words
 
 -- The words say no run in threads.
 abbrev pub AreNoRun : List (List ℕ) → Type 0
@@ -141,4 +159,5 @@ plain_limit (Show page) = None
 abbrev pub limit_of : Command → Option Limit
 limit_of (commands.OfPlain plain) = plain_limit plain
 limit_of (commands.OfFlight names) = Some limits.Encounter
+limit_of (commands.OfPicture labels) = Some limits.Recording
 limit_of (commands.OfRun run) = Some limits.Encounter

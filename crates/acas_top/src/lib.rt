@@ -4,6 +4,7 @@
 
 mod answers;
 mod counts;
+mod drawing;
 mod explaining;
 mod flying;
 mod many;

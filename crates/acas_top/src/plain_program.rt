@@ -5,29 +5,49 @@ ghost use Rattle.acas_io.specs.Stream.{Grew};
 ghost use Rattle.acas_top.specs.Commands.{Command, OfPlain};
 ghost use Rattle.acas_top.specs.Answers.{Answers, Plays};
 ghost use Rattle.acas_top.specs.Ends.{DoneAs, Ended};
-ghost use Rattle.acas_top.specs.Words.{AreNoFlight, AreNoQuiet};
+ghost use Rattle.acas_top.specs.Words.{AreNoList, AreNoPicture, AreNoQuiet};
 
-use crate::answers::answer_to;
+use crate::answers::{Answer, answer_to};
+use crate::drawing::{Drawable, drawable, write_picture};
 use crate::flying::answer_flight;
 use crate::streams::{put_answer, read_input};
-use crate::words::{Limit, parse_flight, parse_plain};
+use crate::words::{Limit, parse_flight, parse_picture, parse_plain};
 use crate::{Plain, Status};
 use acas_io::{Sink, Source};
 use air_rules::serial_law;
 use comparison::split_law;
 use followed_advice::following_law;
 use pieces::cut_law;
-use rec_audit::verdict_law;
+use rec_audit::{Verdict, verdict_law};
 use std::alloc::Global;
 use std::thread::Threads;
 use track_text::once_law;
 
-// Runs `fly`, where the words say it.
+// Runs `picture` with labels, where the words say it.
+fn draw<S: Source, K: Sink>(alloc: Global, words: &[String], source: &mut S, sink: &mut K) -> Status
+    ensures { Ended (AreNoPicture (map string_bytes words.now)) (map string_bytes words.now) result S.left S.faults source.old source.new K.written K.faults sink.old sink.new }
+{
+    let Some(labels) = parse_picture(words) else {
+        return Status::Usage;
+    };
+    match read_input(alloc, Some(Limit::Recording), source) {
+        Ok(bytes) => match drawable(alloc, bytes.as_slice()) {
+            Ok(Drawable::Legal(deliveries)) => write_picture(&deliveries, &labels, sink),
+            Ok(Drawable::Wrong(line, reason)) => {
+                put_answer(Answer::Judged(Verdict::Wrong(line, reason)), sink)
+            }
+            Err(_) => Status::OutOfMemory,
+        },
+        Err(status) => status,
+    }
+}
+
+// Runs `fly` or `picture` with labels, where the words say one of them.
 fn fly<S: Source, K: Sink>(alloc: Global, words: &[String], source: &mut S, sink: &mut K) -> Status
-    ensures { Ended (AreNoFlight (map string_bytes words.now)) (map string_bytes words.now) result S.left S.faults source.old source.new K.written K.faults sink.old sink.new }
+    ensures { Ended (AreNoList (map string_bytes words.now)) (map string_bytes words.now) result S.left S.faults source.old source.new K.written K.faults sink.old sink.new }
 {
     let Some(names) = parse_flight(words) else {
-        return Status::Usage;
+        return draw(alloc, words, source, sink);
     };
     match read_input(alloc, Some(Limit::Encounter), source) {
         Ok(bytes) => match answer_flight(alloc, names, bytes.as_slice()) {
@@ -59,6 +79,7 @@ fn fly<S: Source, K: Sink>(alloc: Global, words: &[String], source: &mut S, sink
 ///   line of its verdict.
 /// - `reports`, `response`, `watch`, `why`, `places`, `messages`, `summary` and `picture` read a recording, and write a
 ///   text about it, or a drawing. Where the recording is wrong, they write the line of its verdict.
+/// - `picture` with labels, which are words of its own, writes the drawing with these labels.
 /// - `compare` reads two recordings, one after the other, and writes what differs between them. Where one of them is
 ///   wrong, it writes the line of the verdict.
 /// - `explain` reads a recording, a text of tracks or an encounter: bytes that begin with `recording,` or `tracks,` are

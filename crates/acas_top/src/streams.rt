@@ -40,8 +40,8 @@ pub(crate) fn read_input<S: Source>(
     }
 }
 
-// The status with which the command ends: that of its answer, or WriteFault where a write failed.
-fn status_after(own: Status, put: Result<(), Failed>) -> Status
+/// The status with which the command ends: that of its answer, or WriteFault where a write failed.
+pub(crate) fn status_after(own: Status, put: Result<(), Failed>) -> Status
     ensures { result ≡ status_after own put }
 {
     match put {

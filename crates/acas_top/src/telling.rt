@@ -8,6 +8,7 @@ use acas_lines::{LineSink, Text};
 use air_journal::AirState;
 use deliveries::Deliveries;
 use journal_tables::{Messages, Places};
+use labels::Labels;
 use pair_watch::Watch;
 use picture::Picture;
 use ra_report::Reports;
@@ -53,6 +54,18 @@ fn put_summary<S: LineSink>(deliveries: &Deliveries, sink: &mut S)
     deliveries.put(sink);
 }
 
+// Puts the picture of a recording, without labels.
+fn put_picture<S: LineSink>(deliveries: &Deliveries, sink: &mut S)
+    ensures { S.took sink.old sink.new (tool_lines Tool.Picture deliveries.now.encounter deliveries.now.journal) }
+{
+    let labels = Labels::none();
+    Picture {
+        deliveries,
+        labels: &labels,
+    }
+    .put(sink);
+}
+
 impl Text for Told {
     ghost use Rattle.acas_top.specs.Given.{told_lines};
 
@@ -61,7 +74,7 @@ impl Text for Told {
     fn put<S: LineSink>(&self, sink: &mut S) {
         match self {
             Told::Messages(messages) => messages.put(sink),
-            Told::Picture(deliveries) => Picture(deliveries).put(sink),
+            Told::Picture(deliveries) => put_picture(deliveries, sink),
             Told::Places(state) => Places(state).put(sink),
             Told::Reports(state) => Reports(state).put(sink),
             Told::Response(state) => Response(state).put(sink),

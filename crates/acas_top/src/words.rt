@@ -2,7 +2,7 @@
 ghost use Rattle.std.specs.Prelude.{◌≡◌, ◌≢◌, [], ◌∷◌, codes, IfNone, IfSome, map};
 ghost use Rattle.std.specs.String.{string_bytes};
 ghost use Rattle.acas_top.specs.Commands.{OfPlain, OfRun};
-ghost use Rattle.acas_top.specs.Words.{AreNoFlight, AreNoPlain, AreNoRun, IsInRange, Say, SayFlight, SayPage, greatest, most, plain_limit, tool_word};
+ghost use Rattle.acas_top.specs.Words.{AreNoFlight, AreNoPicture, AreNoPlain, AreNoRun, IsInRange, Say, SayFlight, SayPage, SayPicture, greatest, most, plain_limit, tool_word};
 ghost use Rattle.acas_top.specs.declared.words.Page.{Page};
 ghost use Rattle.acas_top.specs.declared.words.Tool.{Tool};
 
@@ -10,6 +10,7 @@ use acas_base::CRAFTS;
 use acas_text::parse_within;
 use address_words::are_addresses;
 use fault_text::begins_recording;
+use labels::Labels;
 use variation_words::Variation;
 
 /// The most bytes that a command reads of an encounter's text.
@@ -34,7 +35,7 @@ pub enum Limit {
 pub enum Tool {
     /// `messages`: each resolution message, and what became of its copies, as a table.
     Messages,
-    /// `picture`: the advisories of each aircraft against time, drawn as SVG.
+    /// `picture`: the advisories of each aircraft against time, drawn as SVG, without labels.
     Picture,
     /// `places`: where each aircraft was in each cycle, and what its crew was advised, as a table.
     Places,
@@ -405,6 +406,22 @@ pub(crate) fn parse_flight(words: &[String]) -> Option<&[String]>
         [word, names @ ..] => {
             if word.as_str() == "fly" && are_addresses(names) {
                 return Some(names);
+            }
+            None
+        }
+        [] => None,
+    }
+}
+
+/// The labels that `picture` has, or none where the words don't say `picture` and labels.
+pub(crate) fn parse_picture(words: &[String]) -> Option<Labels<'_>>
+    ensures some { IfSome result (SayPicture (map string_bytes words.now)) }
+    ensures none { IfNone result (AreNoPicture (map string_bytes words.now)) }
+{
+    match words {
+        [word, labels @ ..] => {
+            if word.as_str() == "picture" && !labels.is_empty() {
+                return Labels::parse(labels);
             }
             None
         }

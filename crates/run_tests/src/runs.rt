@@ -1,6 +1,7 @@
 // Whole runs, and what their tests share.
 mod answered;
 mod compared;
+mod drawn;
 mod faults;
 mod followed;
 mod judged;

@@ -1,0 +1,1 @@
+use Rattle.acas_top.proofs.words.parse_picture.Goals as goal
