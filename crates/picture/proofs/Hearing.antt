@@ -20,7 +20,8 @@ use Rattle.page_marks.specs.Paints.{box_marks}
 use Rattle.page_marks.specs.Places.{area_at}
 use Rattle.picture.specs.Bars.{advised}
 use Rattle.picture.specs.Calls.{call_from, call_in, call_where, call_with, calls}
-use Rattle.picture.specs.Heard.{call_title, cycle_label, heading_marks, heard_marks, line_marks, line_with, line_y, lines, more_text, most_lines, quoted, rest_marks, sense_marks, words_at, words_marks}
+use Rattle.plot_axes.specs.Time.{label_of}
+use Rattle.picture.specs.Heard.{call_title, heading_marks, heard_marks, line_marks, line_with, line_y, lines, more_text, most_lines, quoted, rest_marks, sense_marks, words_at, words_marks}
 use Rattle.picture.specs.HeardLaws.{AreInList, AreReported, IsReported, list_from}
 use Rattle.picture.specs.Shown.{shown_in}
 use Rattle.picture.specs.declared.call.Call.{Call}
@@ -127,7 +128,7 @@ good-line top number e labels call most few =
     let y = line_y top number in
     let address = address_of e call.own in
     let name = name_of labels address in
-    let label = cycle_label call.cycle in
+    let label = label_of labels.start call.cycle in
     let phrase = quoted (phrase_text call.heard) in
     let one = good-words bounds 10150 y 240 anchors.End weights.Regular label [] (omega arith) (small top most) (place top 10150 y (omega arith) (omega arith) (omega arith) (omega arith)) in
     let two = good-words bounds 10300 y 240 anchors.Start weights.Bold name [] (omega arith) (small top most) (place top 10300 y (omega arith) (omega arith) (omega arith) (omega arith)) in

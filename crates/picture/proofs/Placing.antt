@@ -1,7 +1,7 @@
 -- All marks lie within the page, and their numbers fit.
 use Rattle.std.proofs.Common.{ℕ, zero, suc, ◌+◌, ◌-◌, ◌*◌, ◌^◌, ◌<◌, ◌≤◌, Bool, List, [], ◌∷◌, ◌++◌, Option, Some, None, codes, eqb, eq-eqb, eqb-true, length, ne_eqb, sym, ap, subst, arith, inl, inr}
 use Rattle.std.proofs.lemmas.Bool.{cases_Bool, cases_eq, cond-false, cond-true, ltb-false, ltb-true}
-use Rattle.std.specs.Prelude.{◌%◌, ◌/◌, ◌==◌, ℤ, filter, nat_lt, slice_get, take}
+use Rattle.std.specs.Prelude.{◌%◌, ◌/◌, ◌==◌, ℤ, IfSome, filter, nat_lt, slice_get, take}
 use Rattle.std.specs.Fmt.{decimal}
 use Rattle.std.specs.Option.{option_map_or}
 use Rattle.std.specs.List.{AllByRecursion, flat_map, range_with_len}
@@ -36,7 +36,7 @@ use Rattle.picture.specs.Mishaps.{sent_rows}
 use Rattle.picture.specs.MishapsDrawn.{count_marks, count_words, count_x, cross_at, cross_marks, drawn_row, hollow_marks, lost_y, messages_marks, mishaps_marks, row_shaft, row_title, sign_marks, stroke, third_of}
 use Rattle.picture.specs.Laws.{IsSound}
 use Rattle.page_marks.specs.Paints.{blue, box_marks, dashed_paint, filled, grid, halo, hatched, ink, letters, line_paint, note, plain, purple, vermilion}
-use Rattle.picture.specs.Picture.{below_of, lanes_of, legend_top, list_top, page, picture_lines, sections}
+use Rattle.picture.specs.Picture.{below_of, lanes_of, legend_top, list_top, plan_top, page, picture_lines, sections}
 use Rattle.picture.specs.Shown.{goes_on, is_shown, shown_in, shown_rows}
 use Rattle.picture.specs.Time.{axis_name, box_and_name, tick_place, time_marks}
 use Rattle.page_marks.proofs.Bounded.{AreSmall, IsPlace, wider, all-append, all-left, all-over, all-points, all-range, all-right, at-point, is-point, good-box as box-in, good-boxes as boxes-in, good-circle as circle-in, good-halo as halo-in, good-line as line-in, good-words as words-in}
@@ -52,7 +52,18 @@ use Rattle.pair_panels.specs.Panel.{distance_marks}
 use Rattle.pair_panels.specs.declared.distance.Distance.{Distance}
 use Rattle.pair_panels.specs.declared.distance.Distance.TheVariants.{Slant, Vertical}
 use Rattle.pair_panels.specs.declared.nearest.NearPair.{NearPair}
-use Rattle.picture.specs.Panels.{panel_marks, panels_height}
+use Rattle.picture.proofs.Hearing.{are-in-list}
+use Rattle.picture.specs.Heard.{heard_marks}
+use Rattle.picture.specs.HeardLaws.{list_from}
+use Rattle.picture.specs.Panels.{approach_of, both_marks, panel_marks, panels_height, tested_marks}
+use Rattle.plan_panel.proofs.Placing.{are-within as plan-within}
+use Rattle.plan_panel.specs.Laws.{part_from}
+use Rattle.plan_panel.specs.Marks.{IsApproach, plan_marks}
+use Rattle.seconds_panel.proofs.Placing.{are-within as seconds-within}
+use Rattle.seconds_panel.specs.Laws.{bounds_from as seconds_part}
+use Rattle.seconds_panel.specs.Own.{own_of}
+use Rattle.seconds_panel.specs.Panel.{seconds_marks}
+use Rattle.seconds_panel.specs.declared.own.TestedPair.{TestedPair}
 use Rattle.picture.specs.declared.bar.Bar.{Bar}
 use Rattle.picture.specs.declared.marked.Marked.{Marked}
 use Rattle.picture.specs.declared.messages_drawn.Shaft.{Shaft}
@@ -838,20 +849,43 @@ good-panel : (it : LabelWords) (e : Parts) (height top : ℕ) (distance : Distan
 good-panel it e height top distance pair high few is =
     lifted (bounds_from top) (bounds_to height) (record { left = omega arith; top = omega arith; right = omega arith; bottom = omega arith }) (distance_marks top e it distance pair) (are-within top e it distance pair few is)
 
+good-tested : (it : LabelWords) (e : Parts) (height top : ℕ) (tested : Option TestedPair) → top + 3100 ≤ height → top ≤ 40000 → AllByRecursion (GoodTo height) (tested_marks top it e tested)
+good-tested it e height top None high few = tt
+good-tested it e height top (Some tested) high few =
+    lifted (seconds_part top) (bounds_to height) (record { left = omega arith; top = omega arith; right = omega arith; bottom = omega arith }) (seconds_marks top e it tested) (seconds-within top e it tested few)
+
 good-panels : (it : LabelWords) (e : Parts) (height top : ℕ) (pair : Option NearPair) → top + panels_height pair ≤ height → top ≤ 30000 → height ≤ 60000 → IsNearest e pair → AllByRecursion (GoodTo height) (panel_marks top it e pair)
 good-panels it e height top None low high few nearest = tt
 good-panels it e height top (Some pair) low high few nearest =
     let is = is-pair e pair nearest in
-    all-append (GoodTo height) (distance_marks top e it Slant pair) (distance_marks (top + 3400) e it Vertical pair)
-    (good-panel it e height top Slant pair (omega arith) (omega arith) is) (good-panel it e height (top + 3400) Vertical pair (omega arith) (omega arith) is)
+    let tested = own_of e pair.one pair.other in
+    all-append (GoodTo height) (both_marks top it e pair) (tested_marks (top + 3400 + 3400) it e tested)
+    (all-append (GoodTo height) (distance_marks top e it Slant pair) (distance_marks (top + 3400) e it Vertical pair)
+    (good-panel it e height top Slant pair (omega arith) (omega arith) is) (good-panel it e height (top + 3400) Vertical pair (omega arith) (omega arith) is))
+    (good-tested it e height (top + 3400 + 3400) tested (omega arith) (omega arith))
+
+-- ---- the plan and what the crews heard
+
+is-approach : (e : Parts) (pair : Option NearPair) → IsNearest e pair → IfSome (approach_of pair) (IsApproach e)
+is-approach e None nearest = tt
+is-approach e (Some pair) nearest = let is = is-pair e pair nearest in record { one = is.one; other = is.other; begun = is.begun; in_run = is.in_run }
+
+good-plan : (it : LabelWords) (e : Parts) (height top : ℕ) (pair : Option NearPair) → top + 6600 ≤ height → top ≤ 40000 → 1 ≤ e.cycles → IsNearest e pair → AllByRecursion (GoodTo height) (plan_marks top e it.start it (approach_of pair))
+good-plan it e height top pair low high some nearest =
+    lifted (part_from top) (bounds_to height) (record { left = omega arith; top = omega arith; right = omega arith; bottom = omega arith }) (plan_marks top e it.start it (approach_of pair))
+    (plan-within top e it.start it (approach_of pair) high some (is-approach e pair nearest)).panel
+
+good-heard : (it : LabelWords) (e : Parts) (J : List Entry) (height top : ℕ) → top + 6600 ≤ height → top ≤ 40000 → AllByRecursion (GoodTo height) (heard_marks top e J it)
+good-heard it e J height top low high =
+    lifted (list_from top) (bounds_to height) (record { left = omega arith; top = omega arith; right = omega arith; bottom = omega arith }) (heard_marks top e J it) (are-in-list top e J it high)
 
 -- ---- all of it
 
-panels-most : (pair : Option NearPair) → panels_height pair ≤ 6800
+panels-most : (pair : Option NearPair) → panels_height pair ≤ 9900
 panels-most None = omega arith
 panels-most (Some pair) = omega arith
 
-below-most : (it : LabelWords) (e : Parts) → AreLabels it → below_of it e ≤ 17200
+below-most : (it : LabelWords) (e : Parts) → AreLabels it → below_of it e ≤ 26900
 below-most it e labels =
     let panels = panels-most (nearest_pair e) in
     let few = labels.few in
@@ -868,6 +902,9 @@ are-good it e J labels valid l few =
     let lanes = all-range (Good n) (craft_marks it e J) 0 (length e.crafts) (λ own first last. good-craft (air_of e) it e J l few own) in
     let bands = good-bands (air_of e) e J l n few in
     let panels = good-panels it e height (panels_top n) (nearest_pair e) (omega arith) (omega (arith, few)) tall (nearest-is e valid) in
+    let panels_low = panels-most (nearest_pair e) in
+    let plan = good-plan it e height (plan_top e) (nearest_pair e) (omega arith) (omega (arith, few, panels_low)) valid.run.length.0 (nearest-is e valid) in
+    let heard = good-heard it e J height (plan_top e) (omega arith) (omega (arith, few, panels_low)) in
     let legend = good-legend height (legend_top e) tall (omega arith) in
     let list = good-list height (list_top e) it e.cycles tall (omega arith) in (
       above n below (head_marks e J) (good-head e J n few),
@@ -879,7 +916,7 @@ are-good it e J labels valid l few =
             above n below (bands_marks e J) bands,
             (
               above n below (altitude_marks it e) (good-altitude it e n few),
-              (above n below (messages_marks e J) (good-messages e J l few), (above n below (lanes_marks it e J) lanes, (panels, (legend, (list, tt))))),
+              (above n below (messages_marks e J) (good-messages e J l few), (above n below (lanes_marks it e J) lanes, (panels, (plan, (heard, (legend, (list, tt))))))),
             ),
           ),
         ),
@@ -893,7 +930,7 @@ each-section P Q (s ∷ rest) h =
     let more = each-section P Q rest h.1 in
     ((all-left P Q s.marks h.0, more.0), (all-right P Q s.marks h.0, more.1))
 
-fits-page : (lanes below : ℕ) → lanes ≤ 16 → below ≤ 17200 → FitsFrame (frame_of lanes below)
+fits-page : (lanes below : ℕ) → lanes ≤ 16 → below ≤ 26900 → FitsFrame (frame_of lanes below)
 fits-page lanes below few small_below = record {
   width = omega arith;
   height = omega arith;

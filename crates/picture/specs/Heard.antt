@@ -14,15 +14,12 @@ use Rattle.page_marks.specs.Places.{area_at, point_at}
 use Rattle.picture.specs.Bars.{advised}
 use Rattle.picture.specs.Calls.{calls}
 use Rattle.picture.specs.declared.call.Call.{Call}
+use Rattle.plot_axes.specs.Time.{label_of}
 use Rattle.svg_text.specs.Marks.{Mark, worded}
 use Rattle.svg_text.specs.declared.shapes.Anchor.TheVariants as anchors
 use Rattle.svg_text.specs.declared.shapes.Weight.TheVariants as weights
 
 -- ---- words
-
--- What a cycle is called.
-unfoldable pub cycle_label : ℕ → List ℕ
-cycle_label cycle = decimal cycle
 
 -- A phrase in quotes.
 unfoldable pub quoted : List ℕ → List ℕ
@@ -49,20 +46,20 @@ line_y top number = top + 750 + 260 * number
 unfoldable pub sense_marks : ℕ → Composite → List ℕ → List Mark
 sense_marks y shown title = if is_clear shown then [] else box_marks (advised shown) (area_at 8800 (y - 170) 160 190) title
 
--- The cycle, the aircraft and the phrase.
+-- The cycle or its time of day, the aircraft and the phrase.
 abbrev pub words_marks : ℕ → List ℕ → List ℕ → List ℕ → List Mark
 words_marks y label name phrase =
     worded (letters (point_at 10150 y) 240 anchors.End weights.Regular) label []
     ∷ worded (letters (point_at 10300 y) 240 anchors.Start weights.Bold) name []
     ∷ worded (letters (point_at 11700 y) 240 anchors.Start weights.Regular) phrase [] ∷ []
 
-abbrev pub line_with : ℕ → ℕ → List ℕ → Call → List Mark
-line_with y address name call =
+abbrev pub line_with : ℕ → ℕ → List ℕ → List ℕ → Call → List Mark
+line_with y address label name call =
     sense_marks y call.shown (call_title address call.cycle call.shown)
-    ++ words_marks y (cycle_label call.cycle) name (quoted (phrase_text call.heard))
+    ++ words_marks y label name (quoted (phrase_text call.heard))
 
 unfoldable pub line_marks : ℕ → Parts → LabelWords → ℕ → Call → List Mark
-line_marks top e labels number call = line_with (line_y top number) (address_of e call.own) (name_of labels (address_of e call.own)) call
+line_marks top e labels number call = line_with (line_y top number) (address_of e call.own) (label_of labels.start call.cycle) (name_of labels (address_of e call.own)) call
 
 -- Those of calls, the first of which has this number.
 abbrev pub lines : ℕ → Parts → LabelWords → ℕ → List Call → List Mark

@@ -53,11 +53,11 @@ plot_height lanes = 100 + 960 * lanes
 abbrev pub panels_top : ℕ → ℕ
 panels_top lanes = 6150 + 960 * lanes
 
--- How high the legend is. It begins where the panels end.
+-- How high the legend is. It begins where the plan ends.
 abbrev pub legend_height : ℕ
 legend_height = 1600
 
--- How high the page is without panels and without a list of marks.
+-- How high the page is without panels, without the plan and without a list of marks.
 abbrev pub page_height : ℕ → ℕ
 page_height lanes = 7750 + 960 * lanes
 
@@ -65,7 +65,7 @@ page_height lanes = 7750 + 960 * lanes
 abbrev pub plot_area : ℕ → Area
 plot_area lanes = area_at 2000 plot_top 15800 (plot_height lanes)
 
--- The page, with so much more for panels and for a list of marks.
+-- The page, with so much more for panels, for the plan and for a list of marks.
 abbrev pub frame_of : ℕ → ℕ → Frame
 frame_of lanes below = record { width = page_width; height = page_height lanes + below; window = plot_area lanes }
 

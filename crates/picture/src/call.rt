@@ -18,6 +18,9 @@ pub(crate) struct Call {
     pub own: u8,
     pub shown: Composite,
     pub heard: Aural,
+
+    ghost begun: { 1 ≤ cycle },
+    ghost run: { cycle ≤ 600 },
 }
 
 fn is_silent(aural: Aural) -> bool
@@ -39,6 +42,8 @@ fn call_where(call: Call) -> Option<Call>
 
 // The call of a commit with these cells, if it has one.
 fn call_from(cycle: u16, own: u8, before: &Composite, cells: Option<&Cells>) -> Option<Call>
+    requires first { 1 ≤ cycle }
+    requires last { cycle ≤ 600 }
     ensures value { result ≡ call_from cycle own before.now (option_copied cells.entry) }
     ensures own { IfSome result (λ call. call.own ≡ own) }
 {
@@ -57,7 +62,8 @@ fn call_from(cycle: u16, own: u8, before: &Composite, cells: Option<&Cells>) -> 
 /// The call of an aircraft's commit of a cycle, if it has one.
 #[tactic(auto, unfolding(crate::specs::Calls::call_in))]
 pub(crate) fn call_in(state: &AirState, cycle: u16, own: u8) -> Option<Call>
-    requires { 1 ≤ cycle }
+    requires first { 1 ≤ cycle }
+    requires last { cycle ≤ 600 }
     ensures value { result ≡ call_in state.now.journal cycle own }
     ensures own { IfSome result (λ call. call.own ≡ own) }
 {

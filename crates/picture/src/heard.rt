@@ -2,7 +2,7 @@
 ghost use Rattle.std.specs.Prelude.{◌≡◌, ◌+◌, ◌-◌, ◌*◌, ◌<◌, ◌≤◌, ◌∷◌, [], length, option_to_list};
 ghost use Rattle.std.specs.Fmt.{decimal};
 ghost use Rattle.picture.specs.Calls.{call_in, calls, calls_at, calls_in};
-ghost use Rattle.picture.specs.Heard.{call_marks, call_title, cycle_label, heading_marks, heard_marks, line_marks, line_with, line_y, listed, more_text, quoted, rest_marks, sense_marks, words_at, words_marks};
+ghost use Rattle.picture.specs.Heard.{call_marks, call_title, heading_marks, heard_marks, line_marks, line_with, line_y, listed, more_text, quoted, rest_marks, sense_marks, words_at, words_marks};
 ghost use Rattle.svg_text.specs.declared.drawing.TheConstants.{LABEL_BYTES};
 
 use crate::altitude::address_of;
@@ -10,6 +10,7 @@ use crate::bars::advised;
 use crate::call::{Call, call_in};
 use crate::phrases::phrase;
 use crate::shown::is_clear;
+use crate::time::axis_of;
 use acas_base::{Address, Encounter};
 use acas_lines::fixed_line;
 use acas_text::Line;
@@ -20,23 +21,12 @@ use page_marks::{area_at, point_at, put_box, put_words};
 use svg_text::{Anchor, Drawing, Weight};
 
 /// How much of the page the list takes below its top.
-pub const HEARD_HEIGHT: u32 = 6_600;
+pub(crate) const HEARD_HEIGHT: u32 = 6_600;
 
 // The most lines.
 const MOST_LINES: u32 = 22;
 
 // ---- words
-
-// What a cycle is called.
-#[tactic(auto, unfolding(crate::specs::Heard::cycle_label))]
-fn cycle_label(cycle: u16) -> Line
-    ensures text { result ≡ cycle_label cycle }
-    ensures short { length result ≤ LABEL_BYTES }
-{
-    let mut line = Line::new();
-    line.u16(cycle);
-    line
-}
 
 // A phrase in quotes.
 #[tactic(auto, unfolding(crate::specs::Heard::quoted))]
@@ -144,21 +134,23 @@ fn put_line_words<D: Drawing>(y: u32, label: &Line, name: &Line, phrase: &Line, 
 }
 
 // Puts the line of a call.
-fn put_line_with<D: Drawing>(y: u32, address: Address, name: &Line, call: &Call, drawing: &mut D)
+fn put_line_with<D: Drawing>(
+    y: u32,
+    address: Address,
+    label: &Line,
+    name: &Line,
+    call: &Call,
+    drawing: &mut D,
+)
     requires least { 750 ≤ y }
     requires most { y ≤ 46470 }
+    requires label { length label.now ≤ LABEL_BYTES }
     requires name { length name.now ≤ LABEL_BYTES }
-    ensures { D.drew drawing.old drawing.new (line_with y address name.now call.now) }
+    ensures { D.drew drawing.old drawing.new (line_with y address label.now name.now call.now) }
 {
     let title = call_title(address, call.cycle, &call.shown);
     put_sense(y, &call.shown, &title, drawing);
-    put_line_words(
-        y,
-        &cycle_label(call.cycle),
-        name,
-        &quoted(phrase(call.heard)),
-        drawing,
-    );
+    put_line_words(y, label, name, &quoted(phrase(call.heard)), drawing);
 }
 
 #[tactic(auto, unfolding(crate::specs::Heard::line_marks))]
@@ -179,6 +171,7 @@ fn put_call_line<D: Drawing>(
     put_line_with(
         line_y(top, number),
         address,
+        &axis_of(labels, encounter).label(call.cycle),
         &labels.name(address),
         call,
         drawing,
@@ -215,7 +208,8 @@ fn put_call_of<D: Drawing>(
     drawing: &mut D,
 ) -> u32
     requires top { top ≤ 40000 }
-    requires cycle { 1 ≤ cycle }
+    requires first { 1 ≤ cycle }
+    requires last { cycle ≤ 600 }
     requires own { own < length state.now.encounter.crafts }
     requires number { number ≤ 9600 }
     ensures drawn { D.drew drawing.old drawing.new (listed top state.now.encounter labels.now number (calls_at state.now.journal cycle own)) }
@@ -242,6 +236,7 @@ fn put_cycle<D: Drawing>(
 ) -> u32
     requires top { top ≤ 40000 }
     requires cycle { 1 ≤ cycle }
+    requires last { cycle ≤ 600 }
     requires first { first ≤ 9584 }
     ensures drawn { D.drew drawing.old drawing.new (listed top state.now.encounter labels.now first (calls_in state.now.journal (length state.now.encounter.crafts) cycle)) }
     ensures next { result ≡ first + length (calls_in state.now.journal (length state.now.encounter.crafts) cycle) }
@@ -318,7 +313,7 @@ fn put_heading<D: Drawing>(top: u32, drawing: &mut D)
 /// Draws what the crews heard from `top` downward, over [`HEARD_HEIGHT`], to the right of the plan: a line for each of
 /// the first 22 calls, by cycle and then by index, and how many more there are.
 #[tactic(auto, unfolding(crate::specs::Heard::heard_marks))]
-pub fn put_heard<D: Drawing>(top: u32, state: &AirState, labels: &Labels<'_>, drawing: &mut D)
+pub(crate) fn put_heard<D: Drawing>(top: u32, state: &AirState, labels: &Labels<'_>, drawing: &mut D)
     requires { top ≤ 40000 }
     ensures { D.drew drawing.old drawing.new (heard_marks top state.now.encounter state.now.journal labels.now) }
 {

@@ -89,7 +89,7 @@ pub(crate) fn panels_top(lanes: u32) -> u32
     6_150 + LANE * lanes
 }
 
-// How high the page is without panels and without a list of marks.
+// How high the page is without panels, without the plan and without a list of marks.
 fn page_height(lanes: u32) -> u32
     requires { lanes ≤ 16 }
     ensures value { result ≡ page_height lanes }
@@ -98,10 +98,10 @@ fn page_height(lanes: u32) -> u32
     7_750 + LANE * lanes
 }
 
-/// The page, with so much more for panels and for a list of marks.
+/// The page, with so much more for panels, for the plan and for a list of marks.
 pub(crate) fn frame_of(lanes: u32, below: u32) -> Frame
     requires lanes { lanes ≤ 16 }
-    requires below { below ≤ 20000 }
+    requires below { below ≤ 30000 }
     ensures { result ≡ frame_of lanes below }
 {
     Frame {

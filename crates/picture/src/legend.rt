@@ -14,7 +14,7 @@ use svg_text::{Anchor, Drawing, Weight};
 
 // Puts a box and what it means.
 fn put_item<D: Drawing>(top: u32, x: u32, advised: Advised, words: &str, drawing: &mut D)
-    requires top { top ≤ 30000 }
+    requires top { top ≤ 40000 }
     requires x { x ≤ 20000 }
     requires words { length words.now ≤ LABEL_BYTES }
     ensures { D.drew drawing.old drawing.new (item_marks top x advised words.now) }
@@ -53,7 +53,7 @@ fn sample_shaft(x: u32, y: u32) -> Shaft
 
 // Puts a sign and what it means.
 fn put_sample<D: Drawing>(top: u32, x: u32, y: u32, sign: Sign, words: &str, drawing: &mut D)
-    requires top { top ≤ 30000 }
+    requires top { top ≤ 40000 }
     requires left { 2000 ≤ x }
     requires right { x ≤ 17000 }
     requires y { y ≤ 31000 }
@@ -73,7 +73,7 @@ fn put_sample<D: Drawing>(top: u32, x: u32, y: u32, sign: Sign, words: &str, dra
 
 /// Puts the legend, from `top` downward.
 pub(crate) fn put_legend<D: Drawing>(top: u32, drawing: &mut D)
-    requires { top ≤ 30000 }
+    requires { top ≤ 40000 }
     ensures { D.drew drawing.old drawing.new (legend_marks top) }
 {
     put_item(top, 2_000, Advised::Traffic, "traffic", drawing);

@@ -7,25 +7,28 @@ ghost use Rattle.picture.specs.Altitude.{altitude_marks};
 ghost use Rattle.picture.specs.Bands.{bands_marks};
 ghost use Rattle.picture.specs.Bars.{lanes_marks};
 ghost use Rattle.picture.specs.Head.{head_marks, title_text};
+ghost use Rattle.picture.specs.Heard.{heard_marks};
 ghost use Rattle.picture.specs.Legend.{legend_marks};
 ghost use Rattle.picture.specs.MarkedDrawn.{lines_marks, list_marks};
 ghost use Rattle.picture.specs.MishapsDrawn.{messages_marks};
-ghost use Rattle.picture.specs.Panels.{panel_marks};
+ghost use Rattle.picture.specs.Panels.{approach_of, panel_marks};
 ghost use Rattle.picture.specs.Picture.{picture_text, section};
 ghost use Rattle.picture.specs.Time.{time_marks};
+ghost use Rattle.plan_panel.specs.Marks.{plan_marks};
 ghost use Rattle.svg_text.specs.Documents.{section_lines};
 ghost use Rattle.svg_text.specs.declared.drawing.TheConstants.{LABEL_BYTES};
 
 use crate::altitude::put_altitude;
 use crate::bands::put_bands;
 use crate::head::{description, put_head, title_text};
+use crate::heard::put_heard;
 use crate::lanes::put_lanes;
 use crate::layout::{LEGEND_HEIGHT, active_among, frame_of, panels_top};
 use crate::legend::put_legend;
 use crate::marked_drawn::{list_height, put_lines, put_list};
 use crate::messages::put_messages;
-use crate::panels::{panels_height, put_panels};
-use crate::time::put_time;
+use crate::panels::{approach_of, panels_height, put_panels};
+use crate::time::{axis_of, put_time};
 use acas_base::Encounter;
 use acas_io::{Failed, Sink};
 use acas_lines::{LineSink, Text, write_text};
@@ -34,6 +37,7 @@ use air_journal::AirState;
 use deliveries::Deliveries;
 use labels::Labels;
 use pair_panels::{NearPair, nearest_pair};
+use plan_panel::{PLAN_HEIGHT, put_plan};
 use plot_axes::TimeAxis;
 use svg_text::{Clip, begin_drawing, begin_section, end_drawing, end_section};
 
@@ -133,8 +137,37 @@ fn put_panels_section<S: LineSink>(
     end_section(sink);
 }
 
+fn put_plan_section<S: LineSink>(
+    top: u32,
+    labels: &Labels<'_>,
+    encounter: &Encounter,
+    pair: Option<NearPair>,
+    axis: TimeAxis,
+    sink: &mut S,
+)
+    requires top { top ≤ 40000 }
+    requires pair { IfSome pair (IsPair encounter.now) }
+    requires axis { axis.cycles ≡ encounter.now.cycles }
+    requires start { axis.start ≡ labels.now.start }
+    ensures { S.took sink.old sink.new (section_lines (section (plan_marks top encounter.now labels.now.start labels.now (approach_of pair)))) }
+{
+    begin_section(sink, Clip::Whole);
+    let nearest = approach_of(encounter, pair);
+    put_plan(top, encounter, axis, labels, nearest, sink);
+    end_section(sink);
+}
+
+fn put_heard_section<S: LineSink>(top: u32, labels: &Labels<'_>, state: &AirState, sink: &mut S)
+    requires { top ≤ 40000 }
+    ensures { S.took sink.old sink.new (section_lines (section (heard_marks top state.now.encounter state.now.journal labels.now))) }
+{
+    begin_section(sink, Clip::Whole);
+    put_heard(top, state, labels, sink);
+    end_section(sink);
+}
+
 fn put_legend_section<S: LineSink>(top: u32, sink: &mut S)
-    requires { top ≤ 30000 }
+    requires { top ≤ 40000 }
     ensures { S.took sink.old sink.new (section_lines (section (legend_marks top))) }
 {
     begin_section(sink, Clip::Whole);
@@ -154,22 +187,10 @@ fn put_list_section<S: LineSink>(top: u32, labels: &Labels<'_>, axis: TimeAxis, 
 
 // ---- all of it
 
-// The axis of time.
-fn axis_of(labels: &Labels<'_>, encounter: &Encounter) -> TimeAxis
-    ensures cycles { result.cycles ≡ encounter.now.cycles }
-    ensures start { result.start ≡ labels.now.start }
-{
-    encounter.valid_law();
-    TimeAxis {
-        cycles: encounter.cycles(),
-        start: labels.start(),
-    }
-}
-
 /// The picture of a state, as SVG: a head, an axis of time, the altitude of each aircraft with bands where it advises,
-/// a lane for each aircraft that advises, the distances of the two aircraft that come nearest, and a legend. In a lane
-/// stands a bar for each longest row of cycles with one word of the report, which isn't CLEAR, and one corrective mark.
-/// Between the lanes stands an arrow for each take of a message that changes the complement in force, a cross for each
+/// a lane for each aircraft that advises, the distances of the two aircraft that come nearest and the seconds that the
+/// tests of one of them need, the plan, what the crews heard, and a legend. In a lane stands a bar for each longest row
+/// of cycles with one word of the report, which isn't CLEAR, and one corrective mark. Between the lanes stands an arrow for each take of a message that changes the complement in force, a cross for each
 /// maximal row of lost messages of two aircraft, and a hollow head for each one of spoilt messages. The state comes
 /// with what became of its messages.
 ///
@@ -197,7 +218,8 @@ impl Text for Picture<'_> {
         let title = title_text(encounter);
         let pair = nearest_pair(encounter);
         let panels = panels_height(pair);
-        let frame = frame_of(lanes, panels + list_height(labels, axis.cycles));
+        let below = panels + PLAN_HEIGHT;
+        let frame = frame_of(lanes, below + list_height(labels, axis.cycles));
         begin_drawing(sink, &frame, &title, &description());
         put_head_section(state, &title, sink);
         put_time_section(axis, lanes, sink);
@@ -208,9 +230,12 @@ impl Text for Picture<'_> {
         put_lanes_section(labels, state, axis, sink);
         let top = panels_top(lanes);
         put_panels_section(top, labels, encounter, pair, axis, sink);
-        let below = top + panels;
-        put_legend_section(below, sink);
-        put_list_section(below + LEGEND_HEIGHT, labels, axis, sink);
+        let plan = top + panels;
+        put_plan_section(plan, labels, encounter, pair, axis, sink);
+        put_heard_section(plan, labels, state, sink);
+        let legend = plan + PLAN_HEIGHT;
+        put_legend_section(legend, sink);
+        put_list_section(legend + LEGEND_HEIGHT, labels, axis, sink);
         end_drawing(sink);
     }
 }

@@ -4,10 +4,24 @@ ghost use Rattle.picture.specs.Layout.{plot_bottom};
 ghost use Rattle.picture.specs.Time.{axis_name, box_and_name, tick_place, time_marks};
 
 use crate::layout::{COURSE_TOP, plot_area, plot_bottom};
+use acas_base::Encounter;
 use acas_lines::fixed_line;
+use labels::Labels;
 use page_marks::{TickPlace, ink, point_at, put_line, put_time_ticks, put_words};
 use plot_axes::TimeAxis;
 use svg_text::{Anchor, Drawing, Shape, Weight};
+
+/// The axis of time of a picture.
+pub(crate) fn axis_of(labels: &Labels<'_>, encounter: &Encounter) -> TimeAxis
+    ensures cycles { result.cycles ≡ encounter.now.cycles }
+    ensures start { result.start ≡ labels.now.start }
+{
+    encounter.valid_law();
+    TimeAxis {
+        cycles: encounter.cycles(),
+        start: labels.start(),
+    }
+}
 
 // Where the ticks stand.
 fn tick_place(lanes: u32) -> TickPlace

@@ -8,6 +8,7 @@ mod altitude;
 mod bars;
 mod distances;
 mod frame;
+mod further;
 mod labelled;
 mod marks;
 mod messages;
@@ -58,11 +59,23 @@ fn pictured(alloc: Global, enc: &Encounter) -> Result<Vec<u8>, Fail>
     pictured_with(alloc, enc, &[])
 }
 
-// Whether the picture of the serial run of an encounter is this one.
+// Whether all lines of one text stand in another one, in order.
+fn stands_in(text: &[u8], want: &[u8]) -> bool {
+    let mut rest = text.split(|byte| *byte == b'\n');
+    for line in want.split(|byte| *byte == b'\n') {
+        if rest.find(|other| *other == line).is_none() {
+            return false;
+        }
+    }
+    true
+}
+
+// Whether the picture of the serial run of an encounter has these lines, in order. The other ones are those of the
+// seconds, the plan and the list of calls, of which `further` has rows.
 fn is_drawn(alloc: Global, enc: &Encounter, want: &[u8]) -> Result<bool, Fail>
     requires { IsInside enc.now }
 {
-    Ok(pictured(alloc, enc)?.as_slice() == want)
+    Ok(stands_in(pictured(alloc, enc)?.as_slice(), want))
 }
 
 // Two aircraft of these kinds that fly towards each other, the second one at this altitude. One of them may climb from
@@ -105,7 +118,7 @@ fn one_cycle(alloc: Global) -> Result<Page, AllocError> {
     let mut page = Page::new(alloc, 0);
     add_head(
         &mut page,
-        823,
+        1308,
         "Encounter of 2 aircraft (0 RA, 2 TA, 0 XPDR), 1 cycles",
         "0 messages sent",
     )?;
@@ -140,7 +153,7 @@ fn add_reversal(
 // Of examples/reversal.enc.
 fn reversal(alloc: Global) -> Result<Page, AllocError> {
     let mut page = Page::new(alloc, 0);
-    add_head(&mut page, 823, REVERSAL, "12 messages sent")?;
+    add_head(&mut page, 1308, REVERSAL, "12 messages sent")?;
     add_time(&mut page, &FIFTHS, "cycle")?;
     labelled::add_none(&mut page)?;
     add_reversal(&mut page, "400A01", ADDRESSES, &FIFTHS)?;
@@ -152,7 +165,7 @@ fn reversal(alloc: Global) -> Result<Page, AllocError> {
 // The same with a clock, a name and five marks in the run. They make the page higher by 2,000.
 fn labelled_reversal(alloc: Global) -> Result<Page, AllocError> {
     let mut page = Page::with_list(alloc, 2000);
-    add_head(&mut page, 923, REVERSAL, "12 messages sent")?;
+    add_head(&mut page, 1408, REVERSAL, "12 messages sent")?;
     add_time(&mut page, &TIMES, "time")?;
     labelled::add_lines(&mut page)?;
     add_reversal(&mut page, "AB-12", NAMES, &TIMES)?;
@@ -166,7 +179,7 @@ fn transponder_only(alloc: Global) -> Result<Page, AllocError> {
     let mut page = Page::new(alloc, 960);
     add_head(
         &mut page,
-        775,
+        1260,
         "Encounter of 2 aircraft (1 RA, 0 TA, 1 XPDR), 31 cycles",
         "0 messages sent",
     )?;
@@ -197,7 +210,7 @@ fn draws_a_reversal(alloc: Global) -> Result<bool, Fail> {
 fn draws_labels(alloc: Global) -> Result<bool, Fail> {
     let turning = meeting(alloc, 31, (Kind::Ra, Kind::Ra), 35_000, Some(1))?;
     let text = pictured_with(alloc, &turning, &labelled::WORDS)?;
-    Ok(text.as_slice() == labelled_reversal(alloc)?.bytes())
+    Ok(stands_in(text.as_slice(), labelled_reversal(alloc)?.bytes()))
 }
 
 // The first aircraft has no lane, so the second one has the first lane.
@@ -213,6 +226,18 @@ fn draws_what_is_shown(rt: HostRuntime) -> Result<(), Fail> {
     assert!(rt; draws_a_reversal(alloc)?);
     assert!(rt; draws_labels(alloc)?);
     assert!(rt; draws_the_active_aircraft(alloc)?);
+    Ok(())
+}
+
+#[test]
+fn draws_seconds_plan_and_calls(rt: HostRuntime) -> Result<(), Fail> {
+    let alloc = rt.alloc();
+    let turning = meeting(alloc, 31, (Kind::Ra, Kind::Ra), 35_000, Some(1))?;
+    assert!(rt; stands_in(pictured(alloc, &turning)?.as_slice(), further::REVERSAL.as_bytes()));
+    let text = pictured_with(alloc, &turning, &labelled::WORDS)?;
+    assert!(rt; stands_in(text.as_slice(), further::LABELLED.as_bytes()));
+    let short = meeting(alloc, 1, (Kind::Ta, Kind::Ta), 35_300, None)?;
+    assert!(rt; stands_in(pictured(alloc, &short)?.as_slice(), further::ONE_CYCLE.as_bytes()));
     Ok(())
 }
 

@@ -1,18 +1,7 @@
 // What `picture` writes with labels. Expected values: by hand from "The picture" in docs/FORMATS.md.
-use super::{APART, ONE_CYCLE, answers, recording, run};
+use super::{APART, ONE_CYCLE, answers, lines_with, recording, run};
 use acas_top::Status;
 use std::test::Fail;
-
-// How many lines of a text end so.
-fn lines_ending(text: &[u8], end: &[u8]) -> u64 {
-    let mut count = 0u64;
-    for line in text.split(|byte| *byte == b'\n') {
-        if line.ends_with(end) {
-            count = count.saturating_add(1);
-        }
-    }
-    count
-}
 
 // Words that say no labels: no word has this form, an address has two names, or a mark tells the time without a clock.
 const NO_LABELS: [&str; 5] = [
@@ -40,10 +29,10 @@ fn labels_stand_in_the_picture(rt: HostRuntime) -> Result<(), Fail> {
     let drawn = run(&rt, words, played.as_slice())?;
     let text = drawn.sink.bytes();
     assert!(rt; drawn.status == Status::Done);
-    assert!(rt; lines_ending(text, b">BTC-2937</text>") > 0);
-    assert!(rt; lines_ending(text, b">400A01</text>") == 0);
-    assert!(rt; lines_ending(text, b">400B02</text>") > 0);
-    assert!(rt; lines_ending(text, b">00:00:00</text>") > 0);
-    assert!(rt; lines_ending(text, b"CONTACT</text>") == 1);
+    assert!(rt; lines_with(text, b"BTC-2937") > 0);
+    assert!(rt; lines_with(text, b"400A01") == 0);
+    assert!(rt; lines_with(text, b"400B02") > 0);
+    assert!(rt; lines_with(text, b"00:00:00") > 0);
+    assert!(rt; lines_with(text, b"CONTACT") == 1);
     Ok(())
 }

@@ -101,17 +101,17 @@ pub fn add_time(page: &mut Page, ticks: &[Tick], name: &str) -> Result<(), Alloc
 
 // A bar of the legend.
 fn add_sample(page: &mut Page, x: u32, paint: Paint) -> Result<(), AllocError> {
-    let y = page.low(15070);
+    let y = page.low(24770);
     page.rect((x, y), (700, 280), paint, "")
 }
 
 // A line that ends in a cross.
 fn add_lost_sample(page: &mut Page) -> Result<(), AllocError> {
     let stroke = drawn(BLACK, 40, "");
-    let top = page.low(15080);
-    let middle = page.low(15213);
-    let high = page.low(15143);
-    let low = page.low(15283);
+    let top = page.low(24780);
+    let middle = page.low(24913);
+    let high = page.low(24843);
+    let low = page.low(24983);
     page.line((14900, top), (14900, middle), stroke, "")?;
     page.line((14830, high), (14970, low), stroke, "")?;
     page.line((14830, low), (14970, high), stroke, "")
@@ -119,9 +119,9 @@ fn add_lost_sample(page: &mut Page) -> Result<(), AllocError> {
 
 // A line of dashes that ends in a hollow head.
 fn add_spoilt_sample(page: &mut Page) -> Result<(), AllocError> {
-    let top = page.low(15010);
-    let neck = page.low(15230);
-    let tip = page.low(15410);
+    let top = page.low(24710);
+    let neck = page.low(24930);
+    let tip = page.low(25110);
     page.line((16800, top), (16800, neck), drawn(BLACK, 40, "100 70"), "")?;
     page.corners(
         [(16710, neck), (16890, neck), (16800, tip)],
@@ -139,28 +139,28 @@ fn add_remark(page: &mut Page, x: u32, y: u32, words: &str) -> Result<(), AllocE
 pub fn add_legend(page: &mut Page) -> Result<(), AllocError> {
     page.lines("<g>\n")?;
     add_sample(page, 2000, edged(TRAFFIC, BLACK, 12))?;
-    add_remark(page, 2850, 15300, "traffic")?;
+    add_remark(page, 2850, 25000, "traffic")?;
     add_sample(page, 5200, edged(UP, BLACK, 12))?;
-    add_remark(page, 6050, 15300, "up")?;
+    add_remark(page, 6050, 25000, "up")?;
     add_sample(page, 8400, edged(DOWN, BLACK, 12))?;
     add_sample(page, 8400, HATCHED)?;
-    add_remark(page, 9250, 15300, "down")?;
+    add_remark(page, 9250, 25000, "down")?;
     add_sample(page, 11600, edged("#F3E6F1", "#8E4585", 50))?;
-    add_remark(page, 12450, 15300, "up and down")?;
+    add_remark(page, 12450, 25000, "up and down")?;
     add_lost_sample(page)?;
-    add_remark(page, 15100, 15300, "lost")?;
+    add_remark(page, 15100, 25000, "lost")?;
     add_spoilt_sample(page)?;
-    add_remark(page, 17000, 15300, "spoilt")?;
+    add_remark(page, 17000, 25000, "spoilt")?;
     add_remark(
         page,
         2000,
-        15770,
+        25470,
         "A tall bar: corrective advice. A low bar: preventive advice, or traffic alone.",
     )?;
     add_remark(
         page,
         2000,
-        16120,
+        25820,
         "An arrow: a message that changes what is in force, in the colour of the sense that it leaves.",
     )?;
     page.lines("</g>\n")
