@@ -7,7 +7,8 @@ ghost use Rattle.svg_text.specs.declared.drawing.TheConstants.{LABEL_BYTES};
 
 use crate::altitude::address_of;
 use crate::bars::advised;
-use crate::call::{Call, call_in};
+use crate::call::Call;
+use crate::calls::call_in;
 use crate::phrases::phrase;
 use crate::shown::is_clear;
 use crate::time::axis_of;
@@ -165,6 +166,8 @@ fn put_call_line<D: Drawing>(
     requires top { top ≤ 40000 }
     requires number { number < 22 }
     requires own { call.now.own < length encounter.now.crafts }
+    requires first { 1 ≤ call.now.cycle }
+    requires last { call.now.cycle ≤ 600 }
     ensures { D.drew drawing.old drawing.new (line_marks top encounter.now labels.now number call.now) }
 {
     let address = address_of(encounter, call.own);
@@ -190,6 +193,8 @@ fn put_call<D: Drawing>(
 )
     requires top { top ≤ 40000 }
     requires own { call.now.own < length encounter.now.crafts }
+    requires first { 1 ≤ call.now.cycle }
+    requires last { call.now.cycle ≤ 600 }
     ensures { D.drew drawing.old drawing.new (call_marks top encounter.now labels.now number call.now) }
 {
     if number < MOST_LINES {

@@ -38,7 +38,7 @@ fn put_item<D: Drawing>(top: u32, x: u32, advised: Advised, words: &str, drawing
 fn sample_shaft(x: u32, y: u32) -> Shaft
     requires left { 2000 ≤ x }
     requires right { x ≤ 17000 }
-    requires y { y ≤ 31000 }
+    requires y { y ≤ 39000 }
     ensures value { result ≡ sample_shaft x y }
     ensures near { IsShaft result }
 {
@@ -56,7 +56,7 @@ fn put_sample<D: Drawing>(top: u32, x: u32, y: u32, sign: Sign, words: &str, dra
     requires top { top ≤ 40000 }
     requires left { 2000 ≤ x }
     requires right { x ≤ 17000 }
-    requires y { y ≤ 31000 }
+    requires y { y ≤ 39000 }
     requires words { length words.now ≤ LABEL_BYTES }
     ensures { D.drew drawing.old drawing.new (sample_marks top x y sign words.now) }
 {
@@ -73,7 +73,7 @@ fn put_sample<D: Drawing>(top: u32, x: u32, y: u32, sign: Sign, words: &str, dra
 
 /// Puts the legend, from `top` downward.
 pub(crate) fn put_legend<D: Drawing>(top: u32, drawing: &mut D)
-    requires { top ≤ 40000 }
+    requires { top ≤ 38500 }
     ensures { D.drew drawing.old drawing.new (legend_marks top) }
 {
     put_item(top, 2_000, Advised::Traffic, "traffic", drawing);

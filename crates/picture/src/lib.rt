@@ -14,6 +14,7 @@ mod bands;
 mod bar;
 mod bars;
 mod call;
+mod calls;
 mod course;
 mod head;
 mod heard;

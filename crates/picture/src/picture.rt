@@ -167,7 +167,7 @@ fn put_heard_section<S: LineSink>(top: u32, labels: &Labels<'_>, state: &AirStat
 }
 
 fn put_legend_section<S: LineSink>(top: u32, sink: &mut S)
-    requires { top ≤ 40000 }
+    requires { top ≤ 38500 }
     ensures { S.took sink.old sink.new (section_lines (section (legend_marks top))) }
 {
     begin_section(sink, Clip::Whole);
