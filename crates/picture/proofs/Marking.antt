@@ -67,7 +67,7 @@ count-below it first last place (suc n) within met =
     elim (cases_eq place n) [
       | inl same ↦
           (let next : counted (is_from first last (mark_cycle it n)) (count_among it first last n) ≡ here + 1 =
-              (ap (λ (k : ℕ). counted (is_from first last (mark_cycle it k)) (count_among it first last k)) (sym same) ∙ ap (λ (b : Bool). counted b here) met) in
+          (ap (λ (k : ℕ). counted (is_from first last (mark_cycle it k)) (count_among it first last k)) (sym same) ∙ ap (λ (b : Bool). counted b here) met) in
           subst (λ (k : ℕ). here + 1 ≤ k) step (omega (arith, next)))
       | inr other ↦
           (let before = count-below it first last place n (omega (arith, other)) met in

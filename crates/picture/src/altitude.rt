@@ -209,14 +209,7 @@ fn put_named<D: Drawing>(
     ensures { D.drew drawing.old drawing.new (named_course encounter.now own address name.now) }
 {
     encounter.valid_law();
-    put_line_of(
-        encounter,
-        axis,
-        time,
-        own,
-        &address_text(address),
-        drawing,
-    );
+    put_line_of(encounter, axis, time, own, &address_text(address), drawing);
     put_words(
         point_at(
             name_x(own),

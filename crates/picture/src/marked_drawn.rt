@@ -211,13 +211,7 @@ fn put_row_of<D: Drawing>(
 }
 
 // Puts the row of the mark at a place of the list, where it is drawn.
-fn put_row<D: Drawing>(
-    top: u32,
-    labels: &Labels<'_>,
-    axis: TimeAxis,
-    place: usize,
-    drawing: &mut D,
-)
+fn put_row<D: Drawing>(top: u32, labels: &Labels<'_>, axis: TimeAxis, place: usize, drawing: &mut D)
     requires top { top ≤ 40000 }
     requires axis { axis.start ≡ labels.now.start }
     requires place { place < length labels.now.marks }
@@ -230,12 +224,7 @@ fn put_row<D: Drawing>(
 }
 
 /// Puts the list of marks, from `top` downward.
-pub(crate) fn put_list<D: Drawing>(
-    top: u32,
-    labels: &Labels<'_>,
-    axis: TimeAxis,
-    drawing: &mut D,
-)
+pub(crate) fn put_list<D: Drawing>(top: u32, labels: &Labels<'_>, axis: TimeAxis, drawing: &mut D)
     requires top { top ≤ 40000 }
     requires axis { axis.start ≡ labels.now.start }
     ensures { D.drew drawing.old drawing.new (list_marks top labels.now axis.cycles) }

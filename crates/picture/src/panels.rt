@@ -41,15 +41,7 @@ fn put_both<D: Drawing>(
     requires start { time.start ≡ labels.now.start }
     ensures { D.drew drawing.old drawing.new (both_marks top labels.now encounter.now pair) }
 {
-    put_distance(
-        top,
-        encounter,
-        labels,
-        Distance::Slant,
-        pair,
-        time,
-        drawing,
-    );
+    put_distance(top, encounter, labels, Distance::Slant, pair, time, drawing);
     let below = top + PANEL_HEIGHT;
     put_distance(
         below,

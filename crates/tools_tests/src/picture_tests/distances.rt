@@ -49,9 +49,8 @@ pub const NAMES: Headings = (
 
 // Both aircraft fly towards each other to the end.
 const RANGES: [u32; 31] = [
-    9144, 9173, 9202, 9231, 9259, 9288, 9317, 9346, 9375, 9403, 9432, 9461, 9490,
-    9518, 9547, 9576, 9605, 9633, 9662, 9691, 9720, 9749, 9777, 9806, 9835, 9864,
-    9892, 9921, 9950, 9979, 10007,
+    9144, 9173, 9202, 9231, 9259, 9288, 9317, 9346, 9375, 9403, 9432, 9461, 9490, 9518, 9547, 9576,
+    9605, 9633, 9662, 9691, 9720, 9749, 9777, 9806, 9835, 9864, 9892, 9921, 9950, 9979, 10007,
 ];
 
 // They are at one altitude until one of them climbs.
@@ -186,11 +185,7 @@ pub fn add_one_cycle(page: &mut Page) -> Result<(), AllocError> {
 }
 
 // All pictures of 31 cycles have the same distances.
-pub fn add_meeting(
-    page: &mut Page,
-    headings: Headings,
-    ticks: &[Tick],
-) -> Result<(), AllocError> {
+pub fn add_meeting(page: &mut Page, headings: Headings, ticks: &[Tick]) -> Result<(), AllocError> {
     let (range, height) = headings;
     let paint = drawn(BLACK, 30, "");
     page.lines("<g>\n")?;
