@@ -254,8 +254,8 @@ good-lines top e pair own other most =
     let good = λ (series : Series). good-series top e pair own other series most in
     all-append P (marks TrafficTau) _ (good TrafficTau)
     (all-append P (marks ResolutionTau) _ (good ResolutionTau)
-    (all-append P (marks TrafficRange) _ (good TrafficRange)
-    (all-append P (marks ResolutionRange) _ (good ResolutionRange) (good ResolutionAltitude))))
+    (all-append P (marks ResolutionRange) _ (good ResolutionRange)
+    (all-append P (marks TrafficRange) _ (good TrafficRange) (good ResolutionAltitude))))
 
 pub are-within : (top : ℕ) (e : Parts) (labels : LabelWords) (pair : TestedPair) → top ≤ 40000 → AreWithin top e labels pair
 unfolding seconds_marks

@@ -64,13 +64,13 @@ legend_marks top =
     ++ (legend_at (top + 1900) ResolutionAltitude
     ++ legend_at (top + 2300) ResolutionTau)))
 
--- The lines: tau first, so that the others lie over it.
+-- The lines: tau first, so that the others lie over it, and the solid line below the two broken ones.
 unfoldable pub lines_marks : ℕ → Parts → TestedPair → List ℕ → List ℕ → List Mark
 lines_marks top e pair own other =
     series_marks top e pair own other TrafficTau
     ++ (series_marks top e pair own other ResolutionTau
-    ++ (series_marks top e pair own other TrafficRange
     ++ (series_marks top e pair own other ResolutionRange
+    ++ (series_marks top e pair own other TrafficRange
     ++ series_marks top e pair own other ResolutionAltitude)))
 
 -- All marks of the panel, of aircraft with these names.

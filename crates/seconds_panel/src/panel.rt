@@ -107,8 +107,8 @@ fn put_lines<D: Drawing>(
 {
     put_series(top, seconds, names, Series::TrafficTau, time, drawing);
     put_series(top, seconds, names, Series::ResolutionTau, time, drawing);
-    put_series(top, seconds, names, Series::TrafficRange, time, drawing);
     put_series(top, seconds, names, Series::ResolutionRange, time, drawing);
+    put_series(top, seconds, names, Series::TrafficRange, time, drawing);
     put_series(
         top,
         seconds,
