@@ -1,7 +1,7 @@
 -- The calls are those of the report, and their lines stand in the list.
-use Rattle.std.proofs.Common.{◌≡◌, ℕ, zero, suc, ◌+◌, ◌-◌, ◌*◌, ◌<◌, ◌≤◌, Bool, true, false, not, List, [], ◌∷◌, ◌++◌, Option, Some, None, cond, length, take, refl, sym, ap, ◌∙◌, subst, arith, inl, inr}
+use Rattle.std.proofs.Common.{◌≡◌, ℕ, zero, suc, ◌+◌, ◌-◌, ◌<◌, ◌≤◌, true, false, List, [], ◌∷◌, ◌++◌, Option, Some, None, cond, length, take, refl, sym, ap, ◌∙◌, subst, arith, inl, inr}
 use Rattle.std.proofs.lemmas.Bool.{cases_Bool, cond-false, cond-true}
-use Rattle.std.specs.Prelude.{◌==◌, ◌||◌, codes, nat_le}
+use Rattle.std.specs.Prelude.{◌==◌, codes, nat_le}
 use Rattle.std.specs.List.{AllByRecursion}
 use Rattle.acas_base.specs.Encounter.{Parts}
 use Rattle.acas_base.specs.declared.advisory.Cells.{Cells}
@@ -21,7 +21,7 @@ use Rattle.page_marks.specs.Places.{area_at}
 use Rattle.picture.specs.Bars.{advised}
 use Rattle.picture.specs.Calls.{call_from, call_in, call_where, call_with, calls}
 use Rattle.plot_axes.specs.Time.{label_of}
-use Rattle.picture.specs.Heard.{call_title, heading_marks, heard_marks, line_marks, line_with, line_y, lines, more_text, most_lines, quoted, rest_marks, sense_marks, words_at, words_marks}
+use Rattle.picture.specs.Heard.{call_title, heading_marks, heard_marks, line_marks, line_y, lines, more_text, quoted, rest_marks, sense_marks, words_at, words_marks}
 use Rattle.picture.specs.HeardLaws.{AreInList, AreReported, IsReported, list_from}
 use Rattle.picture.specs.Shown.{shown_in}
 use Rattle.picture.specs.declared.call.Call.{Call}

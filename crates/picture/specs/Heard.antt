@@ -1,5 +1,5 @@
 -- What the crews heard, as a list on the page.
-use Rattle.std.specs.Prelude.{ℕ, ◌+◌, ◌-◌, ◌*◌, ◌==◌, Bool, if◌then◌else◌, nat_le, nat_lt, List, [], ◌∷◌, ◌++◌, codes, length, take}
+use Rattle.std.specs.Prelude.{ℕ, ◌+◌, ◌-◌, ◌*◌, ◌==◌, if◌then◌else◌, nat_le, nat_lt, List, [], ◌∷◌, ◌++◌, codes, length, take}
 use Rattle.std.specs.Fmt.{decimal}
 use Rattle.acas_base.specs.Encounter.{Parts}
 use Rattle.acas_base.specs.declared.entry.Entry.{Entry}

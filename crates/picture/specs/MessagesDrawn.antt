@@ -59,9 +59,9 @@ pub record IsShaft (shaft : Shaft) : Type 0 where
   pub tail : shaft.tail_x ≤ 17870
   pub tip : shaft.tip_x ≤ 17870
   pub left : 1930 ≤ shaft.tip_x
-  pub begins : shaft.tail_y ≤ 32000
-  pub neck : shaft.neck_y ≤ 32000
-  pub ends : shaft.tip_y ≤ 32000
+  pub begins : shaft.tail_y ≤ 39500
+  pub neck : shaft.neck_y ≤ 39500
+  pub ends : shaft.tip_y ≤ 39500
 
 -- ---- its marks
 

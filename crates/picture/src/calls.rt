@@ -2,7 +2,6 @@
 ghost use Rattle.std.specs.Prelude.{◌≡◌, ◌≤◌, IfSome, option_copied};
 ghost use Rattle.advisory_report.specs.Phrases.{aural_of};
 ghost use Rattle.advisory_report.specs.Report.{is_silent};
-ghost use Rattle.air_journal.specs.Cells.{commit_cells};
 ghost use Rattle.picture.specs.Calls.{call_from, call_in, call_where};
 ghost use Rattle.picture.specs.Shown.{shown_in};
 

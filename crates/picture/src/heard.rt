@@ -1,6 +1,5 @@
 // What the crews heard, as a list on the page.
-ghost use Rattle.std.specs.Prelude.{◌≡◌, ◌+◌, ◌-◌, ◌*◌, ◌<◌, ◌≤◌, ◌∷◌, [], length, option_to_list};
-ghost use Rattle.std.specs.Fmt.{decimal};
+ghost use Rattle.std.specs.Prelude.{◌≡◌, ◌+◌, ◌-◌, ◌*◌, ◌<◌, ◌≤◌, length};
 ghost use Rattle.picture.specs.Calls.{call_in, calls, calls_at, calls_in};
 ghost use Rattle.picture.specs.Heard.{call_marks, call_title, heading_marks, heard_marks, line_marks, line_with, line_y, listed, more_text, quoted, rest_marks, sense_marks, words_at, words_marks};
 ghost use Rattle.svg_text.specs.declared.drawing.TheConstants.{LABEL_BYTES};

@@ -1,5 +1,5 @@
 -- Where the marks of the plan stand.
-use Rattle.std.proofs.Common.{◌≡◌, ℕ, ◌+◌, ◌-◌, ◌*◌, ◌<◌, ◌≤◌, List, [], ◌∷◌, ◌++◌, Option, Some, None, ℤ, pos, ◌+ℤ◌, ◌-ℤ◌, ◌≤ℤ◌, length, unsigned_abs, refl, sym, ap, ap₂, ◌∙◌, subst, arith, inl, inr}
+use Rattle.std.proofs.Common.{◌≡◌, ℕ, ◌+◌, ◌-◌, ◌*◌, ◌<◌, ◌≤◌, List, [], ◌∷◌, ◌++◌, Option, Some, None, ℤ, pos, ◌-ℤ◌, ◌≤ℤ◌, length, unsigned_abs, refl, sym, ap, ap₂, ◌∙◌, subst, arith, inl, inr}
 use Rattle.std.proofs.Math.Nat.{div-le_of_le-mul}
 use Rattle.std.proofs.lemmas.Bool.{cases_Bool, cond-false, cond-true}
 use Rattle.std.proofs.lemmas.Int.{ints}
@@ -17,7 +17,7 @@ use Rattle.page_marks.specs.Within.{AreInside, Bounds, IsMarkWithin, IsWithin}
 use Rattle.plan_panel.proofs.Lengths.{across, is-length, upward, whole-is}
 use Rattle.plan_panel.proofs.Showing.{holds-all}
 use Rattle.plan_panel.specs.Laws.{AreShown, AreWithin, IsShare, box_from, part_from}
-use Rattle.plan_panel.specs.Marks.{IsApproach, address_of, approach_marks, approach_title, approach_with, bar_marks, bar_width, between_marks, cross_marks, dash_of, dot, flight_marks, flight_paint, flight_points, flight_with, flights, flown_marks, frame_marks, heading, length_for, length_text, line_marks, moment_text, name_marks, name_y, plan_marks, start_marks, tick_marks, ticks}
+use Rattle.plan_panel.specs.Marks.{IsApproach, address_of, approach_marks, approach_title, bar_marks, bar_width, between_marks, cross_marks, dot, flight_marks, flight_paint, flight_points, flights, flown_marks, frame_marks, heading, length_for, length_text, line_marks, moment_text, name_marks, name_y, plan_marks, start_marks, tick_marks, ticks}
 use Rattle.plan_panel.specs.Places.{IsOn, box_bottom, box_height, box_left, box_top, box_width, placed, plan_point, view_of, x_in, y_in}
 use Rattle.plan_panel.specs.declared.panel.Approach.{Approach}
 use Rattle.plan_panel.specs.declared.view.Axis.{Axis}
@@ -30,7 +30,6 @@ use Rattle.svg_text.specs.Marks.{Mark, traced, worded}
 use Rattle.svg_text.specs.declared.shapes.Anchor.TheVariants as anchors
 use Rattle.svg_text.specs.declared.shapes.Dash.TheVariants as dashes
 use Rattle.svg_text.specs.declared.shapes.Outline.TheVariants as outlines
-use Rattle.svg_text.specs.declared.shapes.Point.{Point}
 use Rattle.svg_text.specs.declared.shapes.Weight.TheVariants as weights
 
 -- ---- places

@@ -1,11 +1,11 @@
 -- What holds of the plan.
-use Rattle.std.specs.Prelude.{◌≡◌, ℕ, ◌+◌, ◌-◌, ◌*◌, ◌<◌, ◌≤◌, ◌≤ℤ◌, ◌-ℤ◌, unsigned_abs, length, Option, IfSome}
+use Rattle.std.specs.Prelude.{◌≡◌, ℕ, ◌+◌, ◌-◌, ◌*◌, ◌<◌, ◌≤◌, ◌≤ℤ◌, ◌-ℤ◌, unsigned_abs, length, Option}
 use Rattle.std.specs.List.{AllByRecursion}
 use Rattle.acas_base.specs.Encounter.{Parts}
 use Rattle.flight.specs.Flight.{position}
 use Rattle.labels.specs.Labels.{LabelWords}
 use Rattle.page_marks.specs.Within.{Bounds, IsMarkWithin}
-use Rattle.plan_panel.specs.Marks.{IsApproach, flown_marks, panel_height, plan_marks}
+use Rattle.plan_panel.specs.Marks.{flown_marks, panel_height, plan_marks}
 use Rattle.plan_panel.specs.Places.{box_bottom, box_height, box_left, box_top, box_width, view_of, x_in, y_in}
 use Rattle.plan_panel.specs.declared.panel.Approach.{Approach}
 use Rattle.svg_text.specs.Fitting.{FitsMark}

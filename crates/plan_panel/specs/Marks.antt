@@ -1,5 +1,5 @@
 -- The marks of the plan.
-use Rattle.std.specs.Prelude.{ℕ, ◌+◌, ◌-◌, ◌*◌, ◌/◌, ◌%◌, ◌<◌, ◌≤◌, ◌==◌, if◌then◌else◌, nat_le, nat_lt, pos, List, [], ◌∷◌, ◌++◌, codes, length, map, Option, Some, None, IfSome}
+use Rattle.std.specs.Prelude.{ℕ, ◌+◌, ◌-◌, ◌*◌, ◌/◌, ◌%◌, ◌<◌, ◌≤◌, ◌==◌, if◌then◌else◌, nat_le, nat_lt, pos, List, [], ◌∷◌, ◌++◌, codes, length, map, Option, Some, None}
 use Rattle.std.specs.Fmt.{decimal}
 use Rattle.std.specs.List.{flat_map, range_with_len}
 use Rattle.acas_base.specs.Encounter.{Parts, address_in}
@@ -7,7 +7,7 @@ use Rattle.acas_text.specs.Hex.{hex}
 use Rattle.labels.specs.Labels.{LabelWords, name_of}
 use Rattle.page_marks.specs.Paints.{dashed_paint, ink, letters, line_paint, plain}
 use Rattle.page_marks.specs.Places.{area_at, point_at}
-use Rattle.plan_panel.specs.Places.{box_bottom, box_height, box_left, box_top, box_width, plan_point, view_of, x_in, y_in}
+use Rattle.plan_panel.specs.Places.{box_height, box_left, box_top, box_width, plan_point, view_of, x_in, y_in}
 use Rattle.plan_panel.specs.declared.panel.Approach.{Approach}
 use Rattle.plot_axes.specs.Scale.{along}
 use Rattle.plot_axes.specs.Steps.{step_for}

@@ -1,4 +1,4 @@
-use Rattle.std.proofs.Common.{◌≡◌, ◌+◌, ◌-◌, ◌*◌, ◌≤◌, length}
+use Rattle.std.proofs.Common.{◌≡◌, ◌-◌, ◌*◌, ◌≤◌, length}
 use Rattle.std.specs.List.{flat_map, range_with_len}
 use Rattle.picture.specs.Calls.{calls_in}
 use Rattle.picture.specs.Heard.{listed}

@@ -1,4 +1,4 @@
-use Rattle.std.proofs.Common.{ℕ, List, subst}
+use Rattle.std.proofs.Common.{subst}
 use Rattle.picture.proofs.Listing.{listed-is}
 use Rattle.picture.specs.Calls.{calls}
 use Rattle.picture.specs.Heard.{heard_marks}
