@@ -147,7 +147,7 @@ pub fn aural_of(before: &Composite, after: &Composite) -> Aural
 }
 
 /// How it is written in the report; `-` where nothing is said.
-pub(crate) fn phrase(aural: Aural) -> &'static str
+pub fn phrase(aural: Aural) -> &'static str
     ensures text { result.now ≡ phrase_text aural }
     ensures short { length result.now ≤ 32 }
 {

@@ -10,7 +10,7 @@ mod report;
 mod stretches;
 mod words;
 
-pub use aural::{Aural, aural_of, has_advice};
+pub use aural::{Aural, aural_of, has_advice, phrase};
 pub use cells::{CELL_BYTES, add_cell, sense_letter, strength_digit};
 pub use composite::{Composite, composite_of, shown, word};
 pub use report::{is_quiet, line};

@@ -12,12 +12,11 @@ use Rattle.page_marks.specs.Frame.{dot_mark}
 use Rattle.page_marks.specs.Places.{point_at}
 use Rattle.page_marks.specs.Paints.{ink, letters, line_paint}
 use Rattle.picture.specs.declared.span.Span.{Span}
+use Rattle.plan_panel.specs.Marks.{dash_of}
 use Rattle.plot_axes.specs.Scale.{along}
 use Rattle.plot_axes.specs.Time.{begin_of}
 use Rattle.svg_text.specs.Marks.{Mark, figure, traced, worded}
 use Rattle.svg_text.specs.declared.shapes.Anchor.TheVariants as anchors
-use Rattle.svg_text.specs.declared.shapes.Dash.{Dash}
-use Rattle.svg_text.specs.declared.shapes.Dash.TheVariants as dashes
 use Rattle.svg_text.specs.declared.shapes.Fill.TheVariants as fills
 use Rattle.svg_text.specs.declared.shapes.Outline.TheVariants as outlines
 use Rattle.svg_text.specs.declared.shapes.Paint.{Paint}
@@ -35,10 +34,6 @@ course_y e own cycle = altitude_y (axis_of e) (height_in e own cycle)
 
 unfoldable pub course_point : Parts → ℕ → ℕ → Point
 course_point e own cycle = point_at (begin_of e.cycles cycle) (course_y e own cycle)
-
--- Four kinds of lines, in turn.
-unfoldable pub dash_of : ℕ → Dash
-dash_of own = if own % 4 == 0 then dashes.Solid else (if own % 4 == 1 then dashes.Long else (if own % 4 == 2 then dashes.Sparse else dashes.LongAndDot))
 
 abbrev pub course_paint : ℕ → Paint
 course_paint own = record { fill = fills.Nothing; stroke = Some (record { color = ink; width = 30; dash = dash_of own }) }

@@ -4,7 +4,7 @@ ghost use Rattle.std.specs.List.{range_with_len};
 ghost use Rattle.acas_base.specs.Ranges.{IsCycle};
 ghost use Rattle.acas_text.specs.Hex.{hex};
 ghost use Rattle.air_journal.specs.Airs.{address_of};
-ghost use Rattle.picture.specs.Altitude.{altitude_marks, altitude_y, axis_marks, course_line, course_marks, course_paint, course_point, course_points, course_y, courses, dash_of, height_text, name_x, named_course};
+ghost use Rattle.picture.specs.Altitude.{altitude_marks, altitude_y, axis_marks, course_line, course_marks, course_paint, course_point, course_points, course_y, courses, height_text, name_x, named_course};
 ghost use Rattle.picture.specs.Heights.{IsOn, axis_of};
 ghost use Rattle.svg_text.specs.Marks.{traced};
 ghost use Rattle.svg_text.specs.declared.drawing.TheConstants.{LABEL_BYTES};
@@ -18,8 +18,9 @@ use acas_base::{Address, Encounter};
 use acas_text::Line;
 use labels::Labels;
 use page_marks::{ink, point_at, put_dot, put_line, put_words};
+use plan_panel::dash_of;
 use plot_axes::{Scale, TimeAxis};
-use svg_text::{Anchor, Dash, Drawing, Fill, Outline, Paint, Point, Shape, Stroke, Weight};
+use svg_text::{Anchor, Drawing, Fill, Outline, Paint, Point, Shape, Stroke, Weight};
 
 // How far down an altitude stands.
 #[tactic(auto, unfolding(crate::specs::Altitude::altitude_y))]
@@ -95,21 +96,6 @@ fn put_points<D: Drawing>(
 {
     for cycle in 1..time.cycles + 1 {
         drawing.point(course_point(encounter, axis, time, own, cycle));
-    }
-}
-
-#[tactic(auto, unfolding(crate::specs::Altitude::dash_of))]
-fn dash_of(own: u8) -> Dash
-    ensures { result ≡ dash_of own }
-{
-    if own % 4 == 0 {
-        Dash::Solid
-    } else if own % 4 == 1 {
-        Dash::Long
-    } else if own % 4 == 2 {
-        Dash::Sparse
-    } else {
-        Dash::LongAndDot
     }
 }
 

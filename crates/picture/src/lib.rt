@@ -33,7 +33,6 @@ mod mishaps;
 mod mishaps_drawn;
 mod onsets;
 mod panels;
-mod phrases;
 mod picture;
 mod shown;
 mod side;

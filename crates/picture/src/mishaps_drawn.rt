@@ -82,7 +82,7 @@ fn third_of(from: u32, to: u32) -> u32
 fn lost_y(shaft: Shaft) -> u32
     requires { IsShaft shaft }
     ensures value { result ≡ lost_y shaft }
-    ensures most { result ≤ 32320 }
+    ensures most { result ≤ 39820 }
 {
     if shaft.tail_y < shaft.tip_y {
         shaft.tail_y + third_of(shaft.tail_y, shaft.tip_y)
