@@ -1,15 +1,17 @@
 -- Which marks of the labels are drawn, and how many.
-use Rattle.std.proofs.Common.{◌≡◌, ◌≢◌, ℕ, zero, suc, ◌+◌, ◌<◌, ◌≤◌, Bool, true, false, eqb, List, [], ◌∷◌, ◌++◌, Option, Some, None, add-one, eq-eqb, length, length-append, ne_eqb, refl, sym, ap, ◌∙◌, subst, arith, inl, inr}
-use Rattle.std.proofs.lemmas.Bool.{and_from, and_parts, cases_Bool, cases_eq, cond-false, cond-true, le-leb, leb-true}
+use Rattle.std.proofs.Common.{◌≡◌, ◌≢◌, ℕ, zero, suc, ◌+◌, ◌-◌, ◌*◌, ◌<◌, ◌≤◌, Bool, true, false, eqb, List, [], ◌∷◌, ◌++◌, Option, Some, None, add-one, eq-eqb, length, length-append, ne_eqb, refl, sym, ap, ◌∙◌, subst, arith, inl, inr}
+use Rattle.std.proofs.lemmas.Bool.{and_from, and_parts, cases_Bool, cases_eq, cond-false, cond-true, le-leb, leb-true, ltb-false}
 use Rattle.std.proofs.lemmas.Grind.{flat_map-append}
 use Rattle.std.proofs.lemmas.List.Elements.{filter-append}
-use Rattle.std.specs.Prelude.{filter, nat_le, option_to_list}
+use Rattle.std.specs.Prelude.{filter, nat_le, nat_lt, option_to_list}
 use Rattle.std.specs.List.{AllByRecursion, flat_map}
 use Rattle.labels.specs.Labels.{LabelWords}
 use Rattle.page_marks.proofs.Bounded.{all-append}
-use Rattle.picture.specs.Laws.{AreMarked, ArePlaced, is_at}
+use Rattle.picture.specs.Laws.{AreBeside, AreMarked, ArePlaced, is_at}
 use Rattle.picture.specs.Marked.{IsMarked, all_marked, count_among, counted, is_from, mark_cycle, marked, marked_among, marked_at}
+use Rattle.picture.specs.MarkedDrawn.{letter_of, letter_x}
 use Rattle.picture.specs.declared.marked.Marked.{Marked}
+use Rattle.plot_axes.specs.Time.{begin_of}
 use Rattle.svg_text.specs.Marks.{Mark}
 
 -- ---- one place more
@@ -186,10 +188,38 @@ once-then it cycles place (suc n) within met =
           step ∙ (omega (arith, before, last)))
     ]
 
+-- ---- where the letters stand
+
+letters-apart : (x less more : ℕ) → more ≤ 26 → less + 1 ≤ more → AreBeside (letter_x x less) (letter_x x more)
+unfolding letter_x
+letters-apart x less more few order = elim (cases_Bool (nat_lt x 9900)) [
+  | inl met ↦
+      (let one = cond-true (nat_lt x 9900) (x + 180 * less) (x - 180 * less) met in
+      let other = cond-true (nat_lt x 9900) (x + 180 * more) (x - 180 * more) met in
+      inl (omega (arith, one, other)))
+  | inr unmet ↦
+      (let right = ltb-false x 9900 unmet in
+      let one = cond-false (nat_lt x 9900) (x + 180 * less) (x - 180 * less) unmet in
+      let other = cond-false (nat_lt x 9900) (x + 180 * more) (x - 180 * more) unmet in
+      inr (omega (arith, right, one, other)))
+]
+
+are-beside : (it : LabelWords) (cycles : ℕ) (one other : Marked) → IsMarked it cycles one → IsMarked it cycles other → length it.marks ≤ 26 → one.cycle ≡ other.cycle → one.place < other.place → AreBeside (letter_of it cycles one) (letter_of it cycles other)
+are-beside it cycles one other is also few same before =
+    let c = one.cycle in
+    let here = le-leb c c (omega arith) in
+    let counts = subst (λ (k : ℕ). is_from c c k ≡ true) is.cycle (and_from (nat_le c c) (nat_le c c) here here) in
+    let order = count-below it c c one.place other.place before counts in
+    let most = count-most it c c other.place in
+    let there = also.there in
+    subst (λ (k : ℕ). AreBeside (letter_of it cycles one) (letter_x (begin_of cycles k) (count_among it k k other.place))) same
+    (letters-apart (begin_of cycles c) (count_among it c c one.place) (count_among it c c other.place) (omega (arith, most, there, few)) order)
+
 pub are-marked : (it : LabelWords) (cycles : ℕ) → AreMarked it cycles (all_marked it cycles)
 are-marked it cycles = record {
   each = each-marked it cycles (length it.marks) (omega arith);
   in_order = are-placed it cycles (length it.marks);
   once = λ place there begun run. once-then it cycles place (length it.marks) there
       (and_from (nat_le 1 (mark_cycle it place)) (nat_le (mark_cycle it place) cycles) (le-leb 1 (mark_cycle it place) begun) (le-leb (mark_cycle it place) cycles run));
+  apart = λ one other is also few same before. are-beside it cycles one other is also few same before;
 }

@@ -36,6 +36,10 @@ letter_x x before = if nat_lt x 9900 then x + 180 * before else x - 180 * before
 abbrev pub marked_before : LabelWords → Marked → ℕ
 marked_before it marked = count_among it marked.cycle marked.cycle marked.place
 
+-- Where its letter stands.
+abbrev pub letter_of : LabelWords → ℕ → Marked → ℕ
+letter_of it cycles marked = letter_x (begin_of cycles marked.cycle) (marked_before it marked)
+
 -- A line through the altitudes and the lanes, and over it the letter.
 abbrev pub line_at : ℕ → ℕ → ℕ → List ℕ → List ℕ → List Mark
 line_at lanes x at letter title =
@@ -45,7 +49,7 @@ line_at lanes x at letter title =
 -- It stands where the cycle of the mark begins.
 unfoldable pub line_of : LabelWords → ℕ → ℕ → Marked → List Mark
 line_of it cycles lanes marked =
-    line_at lanes (begin_of cycles marked.cycle) (letter_x (begin_of cycles marked.cycle) (marked_before it marked)) (letter_text marked.place) (mark_title it marked)
+    line_at lanes (begin_of cycles marked.cycle) (letter_of it cycles marked) (letter_text marked.place) (mark_title it marked)
 
 abbrev pub lines_marks : LabelWords → ℕ → ℕ → List Mark
 lines_marks it cycles lanes = flat_map (line_of it cycles lanes) (all_marked it cycles)
