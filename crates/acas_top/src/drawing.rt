@@ -22,7 +22,7 @@ pub(crate) enum Drawable {
 }
 
 /// What the bytes give to draw. The error says that memory was wanting.
-pub(crate) fn drawable(alloc: Global, bytes: &[u8]) -> Result<Drawable, AllocError>
+pub(crate) fn load_drawable(alloc: Global, bytes: &[u8]) -> Result<Drawable, AllocError>
     requires { length bytes.now ≤ RECORDING_BYTES }
     ensures { IfOk result (IsDrawable bytes.now) }
 {

@@ -8,7 +8,7 @@ ghost use Rattle.acas_top.specs.Ends.{DoneAs, Ended};
 ghost use Rattle.acas_top.specs.Words.{AreNoList, AreNoPicture, AreNoQuiet};
 
 use crate::answers::{Answer, answer_to};
-use crate::drawing::{Drawable, drawable, write_picture};
+use crate::drawing::{Drawable, load_drawable, write_picture};
 use crate::flying::answer_flight;
 use crate::streams::{put_answer, read_input};
 use crate::words::{Limit, parse_flight, parse_picture, parse_plain};
@@ -31,7 +31,7 @@ fn draw<S: Source, K: Sink>(alloc: Global, words: &[String], source: &mut S, sin
         return Status::Usage;
     };
     match read_input(alloc, Some(Limit::Recording), source) {
-        Ok(bytes) => match drawable(alloc, bytes.as_slice()) {
+        Ok(bytes) => match load_drawable(alloc, bytes.as_slice()) {
             Ok(Drawable::Legal(deliveries)) => write_picture(&deliveries, &labels, sink),
             Ok(Drawable::Wrong(line, reason)) => {
                 put_answer(Answer::Judged(Verdict::Wrong(line, reason)), sink)

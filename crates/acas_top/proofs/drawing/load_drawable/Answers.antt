@@ -1,0 +1,1 @@
+use Rattle.acas_top.proofs.drawing.load_drawable.Goals as goal
