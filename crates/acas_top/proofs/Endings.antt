@@ -144,8 +144,8 @@ done-play run words old new bytes text IsPut said answers read put also = record
 -- Words that say neither a command that waits for nobody nor a run in threads say none.
 pub none-at-all : (words : List (List ℕ)) → AreNoQuiet words → AreNoRun words → AreNoCommand words
 none-at-all words quiet threaded (commands.OfPlain command) is = quiet.0 command is
-none-at-all words quiet threaded (commands.OfFlight names) is = quiet.1 names
-none-at-all words quiet threaded (commands.OfPicture labels) is = quiet.2 labels
+none-at-all words quiet threaded (commands.OfFlight names) is = quiet.1.0 names
+none-at-all words quiet threaded (commands.OfPicture labels) is = quiet.1.1 labels
 none-at-all words quiet threaded (commands.OfRun run) is = threaded run
 
 -- What a call says of words that say none of its commands, where it is a part of a call with more commands.

@@ -1,5 +1,6 @@
 pub mod Statuses
 pub mod Commands
+pub mod Drawing
 pub mod Words
 pub mod Pages
 pub mod Counted
