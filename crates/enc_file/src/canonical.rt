@@ -70,6 +70,7 @@ impl Spelled for Fate {
 
     ghost spelling = { λ crafts fate. line_of (fate_record crafts fate) };
 
+    #[inline(always)]
     fn spell(&self, crafts: &[CraftSpec], line: &mut Line) {
         spell_fate(line, crafts, self)
     }

@@ -316,7 +316,12 @@ fn put_heading<D: Drawing>(top: u32, drawing: &mut D)
 /// Draws what the crews heard from `top` downward, over [`HEARD_HEIGHT`], to the right of the plan: a line for each of
 /// the first 22 calls, by cycle and then by index, and how many more there are.
 #[tactic(auto, unfolding(crate::specs::Heard::heard_marks))]
-pub(crate) fn put_heard<D: Drawing>(top: u32, state: &AirState, labels: &Labels<'_>, drawing: &mut D)
+pub(crate) fn put_heard<D: Drawing>(
+    top: u32,
+    state: &AirState,
+    labels: &Labels<'_>,
+    drawing: &mut D,
+)
     requires { top ≤ 40000 }
     ensures { D.drew drawing.old drawing.new (heard_marks top state.now.encounter state.now.journal labels.now) }
 {

@@ -233,11 +233,21 @@ fn draws_what_is_shown(rt: HostRuntime) -> Result<(), Fail> {
 fn draws_seconds_plan_and_calls(rt: HostRuntime) -> Result<(), Fail> {
     let alloc = rt.alloc();
     let turning = meeting(alloc, 31, (Kind::Ra, Kind::Ra), 35_000, Some(1))?;
-    assert!(rt; stands_in(pictured(alloc, &turning)?.as_slice(), further::REVERSAL.as_bytes()));
+    assert!(rt;
+        stands_in(
+            pictured(alloc, &turning)?.as_slice(),
+            further::REVERSAL.as_bytes()
+        )
+    );
     let text = pictured_with(alloc, &turning, &labelled::WORDS)?;
     assert!(rt; stands_in(text.as_slice(), further::LABELLED.as_bytes()));
     let short = meeting(alloc, 1, (Kind::Ta, Kind::Ta), 35_300, None)?;
-    assert!(rt; stands_in(pictured(alloc, &short)?.as_slice(), further::ONE_CYCLE.as_bytes()));
+    assert!(rt;
+        stands_in(
+            pictured(alloc, &short)?.as_slice(),
+            further::ONE_CYCLE.as_bytes()
+        )
+    );
     Ok(())
 }
 

@@ -17,7 +17,15 @@ fn refuses_other_words(rt: HostRuntime) -> Result<(), Fail> {
     for words in NO_LABELS {
         assert!(rt; answers(&rt, words, ONE_CYCLE, Status::Usage, b"")?);
     }
-    assert!(rt; answers(&rt, "picture 400A01=ONE", ONE_CYCLE, Status::Wrong, b"wrong,1,2\n")?);
+    assert!(rt;
+        answers(
+            &rt,
+            "picture 400A01=ONE",
+            ONE_CYCLE,
+            Status::Wrong,
+            b"wrong,1,2\n"
+        )?
+    );
     Ok(())
 }
 
