@@ -70,7 +70,6 @@ impl Spelled for Fate {
 
     ghost spelling = { λ crafts fate. line_of (fate_record crafts fate) };
 
-    #[inline(always)]
     fn spell(&self, crafts: &[CraftSpec], line: &mut Line) {
         spell_fate(line, crafts, self)
     }
