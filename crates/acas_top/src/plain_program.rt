@@ -67,13 +67,13 @@ fn fly<S: Source, K: Sink>(alloc: Global, words: &[String], source: &mut S, sink
 /// - `fly ADDRESS ..` reads an encounter and writes the one in which these aircraft follow their own advice. Where one
 ///   of them isn't there, or isn't of kind RA, it writes `unknown,ADDRESS`. Where the flight leaves the limits, it
 ///   writes `leaves,ADDRESS,CYCLE`.
-/// - `vary ..` reads an encounter, and plays it and each of its variants, in as many threads as there are processors. It
-///   writes what each run comes to. The variants are those of a row of values (`vary alt ADDRESS FIRST COUNT STEP`, and
-///   so with `x`, `y` and `late`), of each loss of messages (`vary lose`), or of each exchange of two addresses (`vary
-///   swap`). Where there is no such aircraft, it writes `unknown,ADDRESS`, and where there are too many variants,
-///   `variants,COUNT`.
-/// - `many` reads encounters, one after the other, and plays each, in as many threads as there are processors. It writes
-///   what each run comes to, or why a piece is refused. Where there are too many, it writes `pieces,COUNT`.
+/// - `vary ..` reads an encounter, and plays it and each of its variants, in as many threads as there are processors.
+///   It writes what each run comes to. The variants are those of a row of values (`vary alt ADDRESS FIRST COUNT
+///   STEP`, and so with `x`, `y` and `late`), of each loss of messages (`vary lose`), or of each exchange of two
+///   addresses (`vary swap`). Where there is no such aircraft, it writes `unknown,ADDRESS`, and where there are too
+///   many variants, `variants,COUNT`.
+/// - `many` reads encounters, one after the other, and plays each, in as many threads as there are processors. It
+///   writes what each run comes to, or why a piece is refused. Where there are too many, it writes `pieces,COUNT`.
 /// - `audit` reads a recording and writes `legal,ENTRIES`. Where the recording is wrong, it writes `wrong,LINE,REASON`.
 /// - `resume` reads a beginning of a recording, and writes the whole recording. Where the input is none, it writes the
 ///   line of its verdict.

@@ -8,8 +8,8 @@ use crate::places::{area_at, point_at};
 use acas_text::Line;
 use svg_text::{Anchor, Color, Drawing, Point, Shape, Weight};
 
-/// Puts the box of a panel, with a heading over it at the left and a note at the right. The box begins 500 below the top
-/// of the panel.
+/// Puts the box of a panel, with a heading over it at the left and a note at the right. The box begins 500 below the
+/// top of the panel.
 pub fn put_frame<D: Drawing>(top: u32, height: u32, heading: &Line, note: &Line, drawing: &mut D)
     requires top { top ≤ 60000 }
     requires heading { length heading.now ≤ LABEL_BYTES }
