@@ -187,10 +187,11 @@ fn put_list_section<S: LineSink>(top: u32, labels: &Labels<'_>, axis: TimeAxis, 
 
 // ---- all of it
 
-/// The picture of a state, as SVG: a head, an axis of time, the altitude of each aircraft with bands where it advises,
-/// a lane for each aircraft that advises, the distances of the two aircraft that come nearest and the seconds that the
-/// tests of one of them need, the plan, what the crews heard, and a legend. In a lane stands a bar for each longest row
-/// of cycles with one word of the report, which isn't CLEAR, and one corrective mark. Between the lanes stands an arrow for each take of a message that changes the complement in force, a cross for each
+/// The picture of a state, as SVG: a head, an axis of time, the altitude of each aircraft with bands where it
+/// advises, a lane for each aircraft that advises, the distances of the two aircraft that come nearest and the
+/// seconds that the tests of one of them need, the plan, what the crews heard, and a legend. In a lane stands a bar
+/// for each longest row of cycles with one word of the report, which isn't CLEAR, and one corrective mark. Between
+/// the lanes stands an arrow for each take of a message that changes the complement in force, a cross for each
 /// maximal row of lost messages of two aircraft, and a hollow head for each one of spoilt messages. The state comes
 /// with what became of its messages.
 ///
