@@ -4,7 +4,7 @@ ghost use Rattle.std.specs.Prelude.{◌≡◌, ◌<◌, ◌≤◌, ◌^◌, unsi
 use crate::{Address, CRAFTS};
 
 /// The vertical sense of an advisory.
-#[derive(Clone, Copy, Debug, PartialEq, Eq)]
+#[derive(Clone, Copy, PartialEq, Eq)]
 pub enum Sense {
     Up,
     Down,
@@ -27,7 +27,7 @@ impl Sense {
 /// The strength of an advisory, weakest first. `Limit2000`, `Limit1000` and `Limit500` limit the rate against the
 /// sense, in ft/min. `Level` asks for no rate against the sense. `Positive` asks for 1500 ft/min in the sense, and
 /// `Increase` for 2500 ft/min (FAA, Introduction to TCAS II v7.1).
-#[derive(Clone, Copy, Debug, PartialEq, Eq, PartialOrd, Ord)]
+#[derive(Clone, Copy, PartialEq, Eq, PartialOrd, Ord)]
 pub enum Strength {
     Limit2000,
     Limit1000,
@@ -122,7 +122,7 @@ pub enum Rank {
 
 /// A resolution advisory against one aircraft. `age` is in cycles, from 1. `turned` says that its sense was reversed
 /// geometrically, `crossing` that the sense crosses the other's altitude, `corrective` that own rate has to change.
-#[derive(Clone, Copy, Debug, PartialEq, Eq)]
+#[derive(Clone, Copy, PartialEq, Eq)]
 pub struct Intent {
     pub sense: Sense,
     pub strength: Strength,
@@ -133,7 +133,7 @@ pub struct Intent {
 }
 
 /// What an aircraft advises against another one in a cycle.
-#[derive(Clone, Copy, Debug, PartialEq, Eq)]
+#[derive(Clone, Copy, PartialEq, Eq)]
 pub enum Cell {
     Clear,
     Traffic,
@@ -177,14 +177,14 @@ impl Cell {
 
 /// What an aircraft advises in a cycle, by index of the other aircraft. The place of the aircraft itself and the places
 /// past the last aircraft are Clear.
-#[derive(Clone, Copy, Debug, PartialEq, Eq)]
+#[derive(Clone, Copy, PartialEq, Eq)]
 pub struct Cells {
     pub list: [Cell; CRAFTS],
 }
 
 /// A resolution message: whether its sender has more than one threat, the complement that it cancels, the complement
 /// that it sets, and its sender's address (ICAO Annex 10 vol. IV, 4.3).
-#[derive(Clone, Copy, Debug, PartialEq, Eq)]
+#[derive(Clone, Copy, PartialEq, Eq)]
 pub struct ResMsg {
     pub many: bool,
     pub cancel: Vrc,

@@ -16,7 +16,7 @@ pub fn most_crafts(version: u8) -> usize
 /// What an aircraft carries. `Ra`: TCAS II with resolution advisories. `Ta`: traffic advisories
 /// alone, at the sensitivity level of its altitude (this project's own kind). `Xpdr`: a transponder
 /// alone; such an aircraft is measured by others and advises nobody.
-#[derive(Clone, Copy, Debug, PartialEq, Eq)]
+#[derive(Clone, Copy, PartialEq, Eq)]
 pub enum Kind {
     Ra,
     Ta,
@@ -49,7 +49,7 @@ impl Kind {
 
 /// The gains of a track, in 1/1024. They are the parts of the difference between measurement and prediction that go
 /// into the estimate (`alpha`) and into the rate (`beta`). In an encounter each is at most 1024.
-#[derive(Clone, Copy, Debug, PartialEq, Eq)]
+#[derive(Clone, Copy)]
 pub struct Gains {
     pub alpha: u16,
     pub beta: u16,
@@ -69,7 +69,7 @@ pub const USUAL_ALTITUDE_GAINS: Gains = Gains {
 
 /// An aircraft, and where it is in cycle 1: `x`, `y` and altitude `alt` in ft. It may climb where it has no `ceiling`
 /// (ft), or its altitude is below the ceiling.
-#[derive(Clone, Copy, Debug, PartialEq, Eq)]
+#[derive(Clone, Copy, PartialEq, Eq)]
 pub struct CraftSpec {
     pub address: Address,
     pub kind: Kind,
@@ -109,7 +109,7 @@ pub fn some_active(crafts: &[CraftSpec]) -> bool
 
 /// How the aircraft with index `craft` flies from cycle `from` on, until its next leg begins: `vx` and `vy` in ft/s,
 /// `vz` in ft/min.
-#[derive(Clone, Copy, Debug, PartialEq, Eq)]
+#[derive(Clone, Copy, PartialEq, Eq)]
 pub struct Leg {
     pub craft: u8,
     pub from: u16,
@@ -119,7 +119,7 @@ pub struct Leg {
 }
 
 /// The aircraft `own` gets no reply from `target` in the cycles `from` to `to`.
-#[derive(Clone, Copy, Debug, PartialEq, Eq)]
+#[derive(Clone, Copy, PartialEq, Eq)]
 pub struct Miss {
     pub own: u8,
     pub target: u8,

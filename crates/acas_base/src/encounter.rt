@@ -12,7 +12,7 @@ use std::marker::Model;
 
 /// Aircraft, how they fly, and what happens to their messages. All lists stand in the order of the encounter's
 /// canonical text.
-#[derive(Debug, Drop)]
+#[derive(Drop)]
 pub struct Encounter {
     version: u8,
     cycles: u16,

@@ -2,7 +2,7 @@
 use crate::Cells;
 
 /// One entry of the journal. It names aircraft by their indices, and a send by its position in the journal, from 0.
-#[derive(Clone, Copy, Debug, PartialEq, Eq)]
+#[derive(Clone, Copy, PartialEq, Eq)]
 pub enum Entry {
     /// `own` ends a cycle with these cells.
     Commit {

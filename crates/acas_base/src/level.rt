@@ -11,7 +11,7 @@ pub struct Row {
 
 /// A sensitivity level: its number, its thresholds, and `alim`, the least vertical separation to aim for, in 1/1024 ft.
 /// Level 2 has no resolution advisories, and its `alim` is 0.
-#[derive(Clone, Copy, Debug, PartialEq, Eq)]
+#[derive(Clone, Copy)]
 pub struct Level {
     pub sl: u8,
     pub ta: Row,

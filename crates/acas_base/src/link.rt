@@ -2,7 +2,7 @@
 
 /// What happens to one copy of a message. The receiver may take it once it has made `hold` commits after the send. The
 /// bits that `mask` names are flipped then.
-#[derive(Clone, Copy, Debug, PartialEq, Eq)]
+#[derive(Clone, Copy, PartialEq, Eq)]
 pub struct CopyPlan {
     pub hold: u8,
     pub mask: u8,
@@ -10,7 +10,7 @@ pub struct CopyPlan {
 
 /// The copies of the message with this `number`, from 1, of one sender to one receiver. The first `copies` of the three
 /// plans count, and the others are zero.
-#[derive(Clone, Copy, Debug, PartialEq, Eq)]
+#[derive(Clone, Copy, PartialEq, Eq)]
 pub struct Fate {
     pub sender: u8,
     pub receiver: u8,
@@ -22,7 +22,7 @@ pub struct Fate {
 }
 
 /// The copies of every message of one sender to one receiver that has no fate of its own.
-#[derive(Clone, Copy, Debug, PartialEq, Eq)]
+#[derive(Clone, Copy)]
 pub struct LinkPlan {
     pub sender: u8,
     pub receiver: u8,

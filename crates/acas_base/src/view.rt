@@ -2,7 +2,7 @@
 use crate::{CRAFTS, Sense};
 
 /// Vertical separations at closest approach, in 1/1024 ft, by strength, weakest first.
-#[derive(Clone, Copy, Debug, PartialEq, Eq)]
+#[derive(Clone, Copy)]
 pub struct Seps {
     pub up: [i64; 6],
     pub down: [i64; 6],
@@ -10,7 +10,7 @@ pub struct Seps {
 
 /// What one aircraft sees of another one in one cycle. Where it isn't tested or doesn't resolve, `side` is Up, `climbs`
 /// is false and the numbers are 0.
-#[derive(Clone, Copy, Debug, PartialEq, Eq)]
+#[derive(Clone, Copy)]
 pub struct View {
     /// All tracks have a rate.
     pub tested: bool,
@@ -41,7 +41,7 @@ pub struct View {
 }
 
 /// What the aircraft `own` sees in a cycle, by index of the other aircraft.
-#[derive(Clone, Copy, Debug, PartialEq, Eq)]
+#[derive(Clone, Copy)]
 pub struct Picture {
     pub own: u8,
     pub cycle: u16,

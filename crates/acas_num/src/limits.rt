@@ -5,7 +5,7 @@ ghost use Rattle.acas_num.specs.Tracks.{range_limits, altitude_limits, IsSound, 
 use crate::ends::clamp;
 
 /// The ends that a track's estimate and rate are clamped to (this project's profile).
-#[derive(Clone, Copy, Debug, PartialEq, Eq)]
+#[derive(Clone, Copy)]
 pub struct Limits {
     /// The lowest estimate, in 1/1024 ft.
     pub lowest: i64,

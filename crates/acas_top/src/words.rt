@@ -20,7 +20,7 @@ pub const ENCOUNTER_BYTES: usize = 16_777_216;
 pub const RECORDING_BYTES: usize = 67_108_864;
 
 /// How much a command reads at most.
-#[derive(Clone, Copy, Debug, PartialEq, Eq)]
+#[derive(Clone, Copy)]
 pub enum Limit {
     /// As much as the text of an encounter may have.
     Encounter,
@@ -31,7 +31,7 @@ pub enum Limit {
 }
 
 /// What reads a recording, and writes a text about it.
-#[derive(Clone, Copy, Debug, PartialEq, Eq)]
+#[derive(Clone, Copy)]
 pub enum Tool {
     /// `messages`: each resolution message, and what became of its copies, as a table.
     Messages,
@@ -52,7 +52,7 @@ pub enum Tool {
 }
 
 /// What runs an encounter in threads, one for each of its active aircraft.
-#[derive(Clone, Copy, Debug, PartialEq, Eq)]
+#[derive(Clone, Copy)]
 pub enum Threaded {
     /// `play`: writes the recording of the run.
     Play,
@@ -61,7 +61,7 @@ pub enum Threaded {
 }
 
 /// What the program says of itself.
-#[derive(Clone, Copy, Debug, PartialEq, Eq)]
+#[derive(Clone, Copy)]
 pub enum Page {
     /// `--help`, `-h` or `help`: how to use the program.
     Help,
@@ -70,7 +70,7 @@ pub enum Page {
 }
 
 /// A command that never waits for another thread's step.
-#[derive(Clone, Copy, Debug, PartialEq, Eq)]
+#[derive(Clone, Copy)]
 pub enum Plain {
     /// `serial`: reads an encounter, and writes the recording of its serial run.
     Serial,

@@ -1,7 +1,7 @@
 // Which aircraft of an encounter can be named.
 
 /// Which aircraft of an encounter can be named.
-#[derive(Clone, Copy, Debug, PartialEq, Eq)]
+#[derive(Clone, Copy)]
 pub enum Among {
     /// Any one.
     Any,

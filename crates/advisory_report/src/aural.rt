@@ -7,7 +7,7 @@ use acas_base::{Sense, Strength};
 
 /// What is said to the crew (the words: FAA, Introduction to TCAS II v7.1; when each phrase comes: this project's
 /// profile).
-#[derive(Clone, Copy, Debug, PartialEq, Eq)]
+#[derive(Clone, Copy)]
 pub enum Aural {
     /// `Traffic traffic`
     TrafficTraffic,

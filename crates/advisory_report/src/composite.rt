@@ -7,7 +7,7 @@ ghost use Rattle.advisory_report.specs.Composite.{advice_of, clear, composite_of
 use acas_base::{Cell, Cells, Intent, Sense, Strength};
 
 /// The composite advisory of an aircraft in a cycle: what its cells say together.
-#[derive(Clone, Copy, Debug, PartialEq, Eq)]
+#[derive(Clone, Copy)]
 pub struct Composite {
     /// Some cell is Traffic.
     pub traffic: bool,

@@ -7,7 +7,7 @@ ghost use Rattle.advisory_report.specs.declared.composite.Composite.{Composite};
 use crate::composite::{Composite, word};
 
 /// The longest row of cycles, up to its last one, in which an aircraft shows one word of the report.
-#[derive(Clone, Copy, Debug, PartialEq, Eq)]
+#[derive(Clone, Copy)]
 pub struct Stretch {
     /// What is shown in the last cycle of the row.
     pub shown: Composite,

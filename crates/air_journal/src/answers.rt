@@ -1,7 +1,7 @@
 // What the calls answer. A position is an entry's place in the journal, from 0.
 
 /// What a commit answers: the first of these that holds, in this order.
-#[derive(Clone, Copy, Debug, PartialEq, Eq)]
+#[derive(Clone, Copy, PartialEq, Eq)]
 pub enum Commit {
     /// All cycles are committed.
     Over,
@@ -16,7 +16,7 @@ pub enum Commit {
 }
 
 /// What a send answers.
-#[derive(Clone, Copy, Debug, PartialEq, Eq)]
+#[derive(Clone, Copy, PartialEq, Eq)]
 pub enum Sent {
     /// The send is the entry at this position.
     Done(u32),
@@ -25,7 +25,7 @@ pub enum Sent {
 }
 
 /// What a take answers.
-#[derive(Clone, Copy, Debug, PartialEq, Eq)]
+#[derive(Clone, Copy, PartialEq, Eq)]
 pub enum Took {
     /// The take is the entry at this position, and whether it was good.
     Done(u32, bool),
@@ -34,7 +34,7 @@ pub enum Took {
 }
 
 /// What the take of one copy answers.
-#[derive(Clone, Copy, Debug, PartialEq, Eq)]
+#[derive(Clone, Copy, PartialEq, Eq)]
 pub enum TookThis {
     /// The take is the entry at this position, and whether it was good.
     Done(u32, bool),

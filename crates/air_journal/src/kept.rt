@@ -2,7 +2,7 @@
 use acas_base::{Cell, Vrc};
 
 /// A copy of a message that was sent and isn't taken yet.
-#[derive(Clone, Copy, Debug, PartialEq, Eq)]
+#[derive(Clone, Copy, PartialEq, Eq)]
 pub struct Waiting {
     /// The position of the send in the journal.
     pub send: u32,
@@ -16,7 +16,7 @@ pub struct Waiting {
 
 /// The complement of the last good take of a message of another aircraft, and how many commits the taker
 /// had made then.
-#[derive(Clone, Copy, Debug, PartialEq, Eq)]
+#[derive(Clone, Copy)]
 pub struct Complement {
     pub vrc: Vrc,
     pub commits: u16,
@@ -25,7 +25,7 @@ pub struct Complement {
 /// What is kept of an aircraft against another one: its cell in the last commit, the complement of the
 /// last message sent to it, how many messages were sent to it, whether one was sent since the last
 /// commit, and the complement of the last good take from it.
-#[derive(Clone, Copy, Debug, PartialEq, Eq)]
+#[derive(Clone, Copy)]
 pub struct Link {
     pub cell: Cell,
     pub said: Vrc,
@@ -36,7 +36,7 @@ pub struct Link {
 
 /// What is kept of an aircraft: how many cycles it has committed, and whether its last commit has two or
 /// more resolution advisories.
-#[derive(Clone, Copy, Debug, PartialEq, Eq)]
+#[derive(Clone, Copy)]
 pub struct Made {
     pub commits: u16,
     pub many: bool,

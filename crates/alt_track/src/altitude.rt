@@ -11,7 +11,7 @@ use std::marker::Model;
 
 /// The track of an altitude: in -2,000..=62,000 ft, with a rate of at most 200 ft/s either way
 /// (this project's profile).
-#[derive(Clone, Copy, Debug, PartialEq, Eq)]
+#[derive(Clone, Copy)]
 pub struct AltTrack {
     state: TrackState,
 }

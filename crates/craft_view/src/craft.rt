@@ -22,7 +22,7 @@ use std::marker::Model;
 
 /// An active aircraft, which looks at the others once in each cycle of an encounter. It keeps a track
 /// of its own altitude, and of each other aircraft a track of the range and one of the altitude.
-#[derive(Debug, Drop)]
+#[derive(Drop)]
 pub struct Craft {
     own: u8,
     cycle: u16,

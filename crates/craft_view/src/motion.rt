@@ -8,14 +8,14 @@ use acas_num::TrackState;
 use alt_track::AltTrack;
 
 /// An estimate in 1/1024 ft and its rate in 1/1024 ft/s.
-#[derive(Clone, Copy, Debug, PartialEq, Eq)]
+#[derive(Clone, Copy)]
 pub struct Estimate {
     pub est: i64,
     pub rate: i64,
 }
 
 /// Own altitude, the range to another aircraft, and its altitude, as the tracks have them.
-#[derive(Clone, Copy, Debug, PartialEq, Eq)]
+#[derive(Clone, Copy)]
 pub struct Motion {
     pub own: Estimate,
     pub range: Estimate,

@@ -14,7 +14,7 @@ use sens_table::level_of;
 /// What own aircraft brings into its views: the thresholds of a TA at own altitude; the thresholds of an RA, none where
 /// own aircraft doesn't resolve; ALIM, in 1/1024 ft; whether own aircraft may climb; and its height above ground, in
 /// ft.
-#[derive(Clone, Copy, Debug, PartialEq, Eq)]
+#[derive(Clone, Copy)]
 pub struct OwnAircraft {
     pub traffic: Row,
     pub resolution: Option<Row>,

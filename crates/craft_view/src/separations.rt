@@ -12,7 +12,7 @@ use project::project;
 
 /// How an aircraft responds to an advisory (this project's profile): in the first `delay` half-seconds its
 /// vertical rate stays, and in each later one it moves by at most `step`, in 1/1024 ft/s.
-#[derive(Clone, Copy, Debug, PartialEq, Eq)]
+#[derive(Clone, Copy)]
 pub struct Response {
     pub delay: u8,
     pub step: i64,
@@ -47,7 +47,7 @@ pub(crate) fn halves_to(range: &Estimate, row: &Row) -> u16
 }
 
 // Where the two are at closest approach if both keep their rates, after so many half-seconds.
-#[derive(Clone, Copy, Debug, PartialEq, Eq)]
+#[derive(Clone, Copy)]
 pub struct Approach {
     pub halves: u16,
     pub own: i64,

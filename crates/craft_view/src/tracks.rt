@@ -9,7 +9,7 @@ use flight::Meas;
 use range_track::RangeTrack;
 
 // The tracks of the range to one other aircraft and of its altitude.
-#[derive(Clone, Copy, Debug, PartialEq, Eq)]
+#[derive(Clone, Copy)]
 pub struct Tracks {
     pub range: RangeTrack,
     pub altitude: AltTrack,

@@ -11,7 +11,7 @@ use crate::mishap::Mishap;
 use air_journal::{AirState, EntryRef};
 
 /// How many messages were sent, and how many of these each mishap befell.
-#[derive(Clone, Copy, Debug, PartialEq, Eq)]
+#[derive(Clone, Copy)]
 pub struct Counts {
     pub sent: u32,
     pub lost: u32,

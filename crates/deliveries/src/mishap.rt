@@ -1,7 +1,7 @@
 // What can befall a message.
 
 /// What can befall a message that was sent. More than one of these can befall one message.
-#[derive(Clone, Copy, Debug, PartialEq, Eq)]
+#[derive(Clone, Copy)]
 pub enum Mishap {
     /// It has no copies.
     Lost,

@@ -7,7 +7,7 @@ ghost use Rattle.deliveries.specs.Noted.{copies_for, no_copies, no_takes, some_c
 use acas_base::{Encounter, Fate};
 
 /// How many copies a message has, and whether one of them is held back.
-#[derive(Clone, Copy, Debug, PartialEq, Eq)]
+#[derive(Clone, Copy)]
 pub(crate) struct Copies {
     pub count: u8,
     pub held: bool,
@@ -50,7 +50,7 @@ impl Copies {
 }
 
 /// Which copies of a message were taken, and whether one of them was good.
-#[derive(Clone, Copy, Debug, PartialEq, Eq)]
+#[derive(Clone, Copy)]
 pub(crate) struct Takes {
     pub first: bool,
     pub second: bool,

@@ -66,7 +66,7 @@ pub struct Refusal {
 }
 
 /// Why no encounter was read.
-#[derive(Clone, Copy, Debug, PartialEq, Eq, Error)]
+#[derive(Clone, Copy, Debug, Error)]
 pub enum ReadError {
     /// The text says no encounter.
     #[error("the text is refused")]

@@ -12,7 +12,7 @@ use acas_base::{Address, CraftSpec, Kind, Leg};
 use std::alloc::{AllocError, Global};
 
 // What is drawn for an aircraft: its kind, its place in cycle 1 (ft), and its first vertical rate (ft/min).
-#[derive(Clone, Copy, Debug)]
+#[derive(Clone, Copy)]
 pub(crate) struct Draft {
     craft: u8,
     kind: Kind,

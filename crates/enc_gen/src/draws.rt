@@ -8,7 +8,7 @@ use std::marker::Model;
 const STATES: u64 = 0x8000_0000;
 
 // The state of the draws.
-#[derive(Debug, Drop)]
+#[derive(Drop)]
 pub(crate) struct Draws {
     state: u64,
 }

@@ -1,7 +1,7 @@
 // A row of cycles.
 
 /// A row of cycles: the first and the last of them.
-#[derive(Clone, Copy, Debug, PartialEq, Eq)]
+#[derive(Clone, Copy)]
 pub struct Row {
     pub first: u16,
     pub last: u16,

@@ -7,7 +7,7 @@ use crate::{position, slant_range};
 use acas_base::Encounter;
 
 /// Where two aircraft are nearest, as planned.
-#[derive(Clone, Copy, Debug, PartialEq, Eq)]
+#[derive(Clone, Copy)]
 pub struct ClosestApproach {
     /// The first cycle of the run in which their slant range is least.
     pub cycle: u16,

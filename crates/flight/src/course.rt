@@ -13,7 +13,7 @@ use crate::place::start_of;
 use acas_base::{Encounter, Leg};
 
 // Where an aircraft is in cycle 1, and its legs in their order.
-#[derive(Clone, Copy, Debug)]
+#[derive(Clone, Copy)]
 pub(crate) struct Course<'a> {
     pub start: Place,
     pub legs: &'a [Leg],

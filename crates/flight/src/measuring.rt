@@ -14,7 +14,7 @@ use acas_base::Encounter;
 use acas_num::{floor_div, root};
 
 /// What one aircraft measures of another one (this project's profile).
-#[derive(Clone, Copy, Debug, PartialEq, Eq)]
+#[derive(Clone, Copy, PartialEq, Eq)]
 pub struct Meas {
     /// The slant range in ft, rounded down: at most 182,280.
     pub range: u32,

@@ -16,7 +16,7 @@ use std::array::from_fn;
 use std::marker::Model;
 
 /// Where all aircraft of an encounter are in a cycle, for a caller that measures several of them in it.
-#[derive(Debug, Drop)]
+#[derive(Drop)]
 pub struct Places<'a> {
     encounter: &'a Encounter,
     cycle: u16,

@@ -6,7 +6,7 @@ ghost use Rattle.journal_reader.specs.Links.{PairIs, RowIs, no_link, run_after};
 use acas_base::{CRAFTS, Cell, Cells, PAIRS, Vrc, pair_of};
 
 /// A take of an undamaged copy of another aircraft's message.
-#[derive(Clone, Copy, Debug, PartialEq, Eq)]
+#[derive(Clone, Copy)]
 pub struct GoodTake {
     /// The position of the take in the journal.
     pub at: u32,
@@ -20,7 +20,7 @@ pub struct GoodTake {
 
 /// What the entries so far say of an aircraft against another one: its cell in the last commit, where its present run
 /// began, and its last good take of a message of the other one, now and before its last commit.
-#[derive(Clone, Copy, Debug, PartialEq, Eq)]
+#[derive(Clone, Copy)]
 pub(crate) struct Link {
     pub cell: Cell,
     pub run: Option<u32>,

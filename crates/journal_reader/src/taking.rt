@@ -9,7 +9,7 @@ use air_journal::{AirState, EntryRef};
 use res_message::decode;
 
 /// A message: who sent it, and its complement.
-#[derive(Clone, Copy, Debug, PartialEq, Eq)]
+#[derive(Clone, Copy)]
 pub(crate) struct Told {
     pub sender: u8,
     pub vrc: Vrc,

@@ -26,7 +26,7 @@ use std::marker::Model;
 
 /// What is told of a message: who sent it to whom, its number, the cycle of the sender's last commit, the position of
 /// the send, and the complements that it sets and cancels.
-#[derive(Clone, Copy, Debug, PartialEq, Eq)]
+#[derive(Clone, Copy)]
 pub(crate) struct Message {
     pub sender: Address,
     pub receiver: Address,

@@ -14,14 +14,14 @@ use journal_reader::Reader;
 use std::alloc::{AllocError, Global};
 
 /// The sender and the receiver of messages.
-#[derive(Clone, Copy, Debug, PartialEq, Eq)]
+#[derive(Clone, Copy)]
 pub(crate) struct Way {
     pub sender: u8,
     pub receiver: u8,
 }
 
 /// A copy of a message.
-#[derive(Clone, Copy, Debug, PartialEq, Eq)]
+#[derive(Clone, Copy)]
 pub(crate) struct MessageCopy {
     pub way: Way,
     /// The number of the message among those of its sender to its receiver.
@@ -30,7 +30,7 @@ pub(crate) struct MessageCopy {
 }
 
 /// The take of a copy.
-#[derive(Clone, Copy, Debug, PartialEq, Eq)]
+#[derive(Clone, Copy)]
 pub(crate) struct CopyTake {
     /// Its position in the journal.
     pub at: u32,

@@ -7,7 +7,7 @@ use acas_base::{Leg, Record};
 use flight::Place;
 
 // How a place changes in a second: `vx` and `vy` in ft, `vz` in 1/60 ft. As rates of a leg these are ft/s and ft/min.
-#[derive(Clone, Copy, Debug)]
+#[derive(Clone, Copy)]
 pub(crate) struct Rates {
     vx: i32,
     vy: i32,

@@ -10,7 +10,7 @@ use advisory_report::{Composite, has_advice, shown};
 use air_journal::AirState;
 
 /// The senses in which a composite has advice.
-#[derive(Clone, Copy, Debug, PartialEq, Eq)]
+#[derive(Clone, Copy)]
 pub enum Senses {
     /// No advice.
     Neither,

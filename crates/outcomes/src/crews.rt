@@ -31,7 +31,7 @@ impl Model for Crews {
 }
 
 /// Whether the crews of two runs see the same words and hear the same phrases, by cycle and index.
-#[derive(Clone, Copy, Debug, PartialEq, Eq)]
+#[derive(Clone, Copy)]
 pub enum Heard {
     /// They do.
     Same,

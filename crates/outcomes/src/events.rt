@@ -8,7 +8,7 @@ use acas_base::{Cell, Cells, Intent};
 use air_journal::AirState;
 
 /// What can happen in a cycle between an aircraft and another one.
-#[derive(Clone, Copy, Debug, PartialEq, Eq)]
+#[derive(Clone, Copy)]
 pub enum Event {
     /// The sense of the aircraft's advisory against the other one changes, and it isn't newly reversed geometrically.
     Turn,

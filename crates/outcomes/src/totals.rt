@@ -6,7 +6,7 @@ ghost use Rattle.outcomes.specs.declared.outcome.Outcome.{Outcome};
 use crate::outcome::Outcome;
 
 /// How many runs there are, and how many of them have an advisory, a turn, a reversal, and equal senses.
-#[derive(Clone, Copy, Debug, PartialEq, Eq)]
+#[derive(Clone, Copy)]
 pub struct Totals {
     pub runs: u32,
     pub advised: u32,

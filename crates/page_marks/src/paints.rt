@@ -13,7 +13,7 @@ use svg_text::{
 };
 
 /// What a box stands for: traffic alone, or advice up, down, or both.
-#[derive(Clone, Copy, Debug, PartialEq, Eq)]
+#[derive(Clone, Copy)]
 pub enum Advised {
     Traffic,
     Up,

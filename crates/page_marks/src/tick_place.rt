@@ -1,7 +1,7 @@
 // Where ticks stand.
 
 /// Where the ticks of time stand on the page, in units of the drawing.
-#[derive(Clone, Copy, Debug, PartialEq, Eq)]
+#[derive(Clone, Copy)]
 pub struct TickPlace {
     /// How far down their lines begin.
     pub top: u32,

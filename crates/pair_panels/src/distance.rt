@@ -14,7 +14,7 @@ use plot_axes::least_step;
 use sens_table::level_of;
 
 /// A distance of two aircraft.
-#[derive(Clone, Copy, Debug, PartialEq, Eq)]
+#[derive(Clone, Copy)]
 pub enum Distance {
     /// The slant range.
     Slant,

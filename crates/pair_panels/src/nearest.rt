@@ -9,7 +9,7 @@ use flight::closest_approach;
 
 /// Two aircraft, and where they are nearest as planned: the first cycle of least slant range, and that range in ft,
 /// rounded down.
-#[derive(Clone, Copy, Debug, PartialEq, Eq)]
+#[derive(Clone, Copy)]
 pub struct NearPair {
     pub one: u8,
     pub other: u8,

@@ -15,7 +15,7 @@ use air_journal::AirState;
 
 /// An interval of equal senses: the sense, the positions of its first and last commit, its cause, and the position of
 /// the next message.
-#[derive(Clone, Copy, Debug, PartialEq, Eq)]
+#[derive(Clone, Copy)]
 pub(crate) struct Interval {
     pub sense: Sense,
     pub from: u32,

@@ -9,14 +9,14 @@ use acas_base::{Encounter, Rank, Sense};
 use journal_reader::Reader;
 
 /// Two aircraft, of which the second one gives way.
-#[derive(Clone, Copy, Debug, PartialEq, Eq)]
+#[derive(Clone, Copy)]
 pub(crate) struct Pair {
     pub low: u8,
     pub high: u8,
 }
 
 /// Why two senses are equal.
-#[derive(Clone, Copy, Debug, PartialEq, Eq)]
+#[derive(Clone, Copy)]
 pub(crate) enum Cause {
     /// The one that gives way has taken no undamaged message of the other one.
     Untold,

@@ -2,7 +2,7 @@
 use advisory_report::{Aural, Composite};
 
 /// What an aircraft's crew hears in a cycle, and what the aircraft shows then.
-#[derive(Clone, Copy, Debug, PartialEq, Eq)]
+#[derive(Clone, Copy)]
 pub(crate) struct Call {
     pub cycle: u16,
     pub own: u8,

@@ -5,7 +5,7 @@ ghost use Rattle.picture.specs.Marked.{IsMarked, count_among, counted, is_from, 
 use labels::Labels;
 
 /// A mark of the labels: its place in the list of words, and its cycle.
-#[derive(Clone, Copy, Debug, PartialEq, Eq)]
+#[derive(Clone, Copy)]
 pub(crate) struct Marked {
     pub place: usize,
     pub cycle: u16,

@@ -18,7 +18,7 @@ use plot_axes::{TIME_BEGIN, TimeAxis};
 use svg_text::{Color, Drawing, Outline, Shape};
 
 /// Where an arrow stands: its tail, where its head begins, and its tip.
-#[derive(Clone, Copy, Debug, PartialEq, Eq)]
+#[derive(Clone, Copy)]
 pub(crate) struct Shaft {
     pub tail_x: u32,
     pub tail_y: u32,

@@ -10,7 +10,7 @@ use air_journal::{AirState, EntryRef};
 use journal_reader::Reader;
 
 /// Who sent a message, and its number.
-#[derive(Clone, Copy, Debug, PartialEq, Eq)]
+#[derive(Clone, Copy)]
 pub(crate) struct Origin {
     pub sender: u8,
     pub number: u16,
@@ -18,7 +18,7 @@ pub(crate) struct Origin {
 
 /// What is known of a take of a message before it: the message, the positions of the send and of the take, how many
 /// cycles the taker has committed, and the complement in force on it from the sender.
-#[derive(Clone, Copy, Debug, PartialEq, Eq)]
+#[derive(Clone, Copy)]
 pub(crate) struct Taking {
     pub sender: u8,
     pub receiver: u8,
@@ -31,7 +31,7 @@ pub(crate) struct Taking {
 
 /// A take that changes the complement in force: how many cycles the sender had committed at the send, and the
 /// complement in force after the take.
-#[derive(Clone, Copy, Debug, PartialEq, Eq)]
+#[derive(Clone, Copy)]
 pub(crate) struct Arrow {
     pub taking: Taking,
     pub sent_after: u16,

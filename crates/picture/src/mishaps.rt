@@ -15,7 +15,7 @@ use plot_axes::TimeAxis;
 use svg_text::Drawing;
 
 /// What is drawn for a maximal row of messages.
-#[derive(Clone, Copy, Debug, PartialEq, Eq)]
+#[derive(Clone, Copy)]
 pub(crate) enum Sign {
     /// They were lost.
     Cross,
@@ -25,7 +25,7 @@ pub(crate) enum Sign {
 
 /// A maximal row of messages of one aircraft to another one, and how many cycles the sender had committed when it sent
 /// the first of them.
-#[derive(Clone, Copy, Debug, PartialEq, Eq)]
+#[derive(Clone, Copy)]
 pub(crate) struct SentRow {
     pub sender: u8,
     pub receiver: u8,

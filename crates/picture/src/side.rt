@@ -1,7 +1,7 @@
 // The two sides of a line.
 
 /// Above a line or below it.
-#[derive(Clone, Copy, Debug, PartialEq, Eq)]
+#[derive(Clone, Copy)]
 pub(crate) enum Side {
     Above,
     Below,

@@ -9,14 +9,14 @@ use acas_base::Encounter;
 use flight::{Place, position};
 
 /// The least and the greatest of some values, in ft.
-#[derive(Clone, Copy, Debug, PartialEq, Eq)]
+#[derive(Clone, Copy)]
 pub(crate) struct Span {
     pub low: i64,
     pub high: i64,
 }
 
 /// Those of places to the east and to the north.
-#[derive(Clone, Copy, Debug, PartialEq, Eq)]
+#[derive(Clone, Copy)]
 pub(crate) struct Extent {
     pub x: Span,
     pub y: Span,

@@ -21,7 +21,7 @@ use svg_text::{Anchor, Dash, Drawing, Shape, Weight};
 pub const PLAN_HEIGHT: u32 = 6_600;
 
 /// Two aircraft and the cycle in which they are nearest.
-#[derive(Clone, Copy, Debug, PartialEq, Eq)]
+#[derive(Clone, Copy)]
 pub struct Approach {
     pub one: u8,
     pub other: u8,

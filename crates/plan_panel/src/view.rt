@@ -8,14 +8,14 @@ use acas_num::floor_div;
 use plot_axes::Scale;
 
 /// What the box shows in one direction: the value at its edge, and how many feet it holds.
-#[derive(Clone, Copy, Debug, PartialEq, Eq)]
+#[derive(Clone, Copy)]
 pub(crate) struct Axis {
     pub low: i64,
     pub whole: u32,
 }
 
 /// What it shows to the east and to the north.
-#[derive(Clone, Copy, Debug, PartialEq, Eq)]
+#[derive(Clone, Copy)]
 pub(crate) struct View {
     pub x: Axis,
     pub y: Axis,

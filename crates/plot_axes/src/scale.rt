@@ -3,7 +3,7 @@ ghost use Rattle.std.specs.Prelude.{◌≡◌, ◌≤◌, ◌<◌, ◌^◌, ◌�
 ghost use Rattle.plot_axes.specs.Scale.{along, share};
 
 /// An axis from a low value to a high one, over a length.
-#[derive(Clone, Copy, Debug, PartialEq, Eq)]
+#[derive(Clone, Copy)]
 pub struct Scale {
     /// The value at its beginning.
     pub low: i64,

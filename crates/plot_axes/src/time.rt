@@ -21,7 +21,7 @@ const STEPS: [u32; 7] = [1, 2, 5, 10, 20, 50, 100];
 const DAY: u32 = 86_400;
 
 /// The axis of a run: its cycles, a second each, and the second of the day in which cycle 1 is, where there is a clock.
-#[derive(Clone, Copy, Debug, PartialEq, Eq)]
+#[derive(Clone, Copy)]
 pub struct TimeAxis {
     pub cycles: u16,
     pub start: Option<u32>,

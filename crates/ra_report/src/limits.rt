@@ -8,7 +8,7 @@ use journal_reader::Reader;
 use ra_block::RaBlock;
 
 // The kinds of complements in force: "do not pass below" and "do not pass above".
-#[derive(Clone, Copy, Debug, PartialEq, Eq)]
+#[derive(Clone, Copy)]
 struct Limits {
     below: bool,
     above: bool,

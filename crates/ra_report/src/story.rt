@@ -9,7 +9,7 @@ use acas_base::{Address, CRAFTS, Cell, Cells, Encounter, Sense, Strength};
 use ra_block::RaBlock;
 
 /// The aircraft against which a commit advises.
-#[derive(Clone, Copy, Debug, PartialEq, Eq)]
+#[derive(Clone, Copy)]
 pub(crate) enum Threats {
     Nobody,
     One(u8),
@@ -17,21 +17,21 @@ pub(crate) enum Threats {
 }
 
 /// Which senses an advisory has had so far.
-#[derive(Clone, Copy, Debug, PartialEq, Eq)]
+#[derive(Clone, Copy)]
 pub(crate) struct Senses {
     pub up: bool,
     pub down: bool,
 }
 
 /// The block of an aircraft's last advisory, and how many commits have come since.
-#[derive(Clone, Copy, Debug, PartialEq, Eq)]
+#[derive(Clone, Copy)]
 pub(crate) struct Held {
     pub block: RaBlock,
     pub since: u16,
 }
 
 /// The senses of an aircraft's advisories, by the index of the threat, and the block that it holds.
-#[derive(Clone, Copy, Debug, PartialEq, Eq)]
+#[derive(Clone, Copy)]
 pub(crate) struct Story {
     pub senses: [Senses; CRAFTS],
     pub held: Option<Held>,

@@ -10,7 +10,7 @@ use std::marker::Model;
 
 /// The track of the slant range to one other aircraft: in 0..=182,280 ft, with a rate of at most
 /// 4,000 ft/s either way (this project's profile).
-#[derive(Clone, Copy, Debug, PartialEq, Eq)]
+#[derive(Clone, Copy)]
 pub struct RangeTrack {
     state: TrackState,
 }

@@ -5,7 +5,7 @@ use crate::told::Told;
 use acas_base::{Address, Cell};
 
 /// Why the cell of a commit against another aircraft is what it is.
-#[derive(Clone, Copy, Debug, PartialEq, Eq)]
+#[derive(Clone, Copy)]
 pub struct Reason {
     /// The position of the commit in the journal.
     pub position: u32,

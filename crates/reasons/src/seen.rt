@@ -16,7 +16,7 @@ use flight::{Meas, Places};
 use sens_table::level_of;
 
 // Own altitude in ft, the sensitivity level, and what own aircraft brings into its views.
-#[derive(Clone, Copy, Debug, PartialEq, Eq)]
+#[derive(Clone, Copy)]
 pub struct OwnSide {
     pub altitude: i32,
     pub level: u8,
@@ -25,7 +25,7 @@ pub struct OwnSide {
 
 // The rank against another aircraft, what was measured of it in the newest cycle, own side, what the tracks say where
 // the pair is tested, and the view.
-#[derive(Clone, Copy, Debug, PartialEq, Eq)]
+#[derive(Clone, Copy)]
 pub struct Seen {
     pub rank: Rank,
     pub reply: Option<Meas>,

@@ -18,7 +18,7 @@ use strength_pick::{has_alim, is_fresh_after, least};
 use test_seconds::{TestSeconds, height_of, height_rate_of, pair_seconds};
 
 /// What own aircraft saw of a pair that is tested: what is tracked, and what the tests gave.
-#[derive(Clone, Copy, Debug, PartialEq, Eq)]
+#[derive(Clone, Copy)]
 pub struct Tested {
     /// The range's estimate, in tenths of a foot.
     pub range: i32,
@@ -42,14 +42,14 @@ pub struct Tested {
 
 /// The strongest allowed strength of a fresh choice in a sense, and its separation with the first response, in tenths
 /// of a foot.
-#[derive(Clone, Copy, Debug, PartialEq, Eq)]
+#[derive(Clone, Copy)]
 pub struct Best {
     pub strength: Strength,
     pub separation: i32,
 }
 
 /// What the senses would give, where the pair is tested and own aircraft resolves.
-#[derive(Clone, Copy, Debug, PartialEq, Eq)]
+#[derive(Clone, Copy)]
 pub struct Projected {
     /// Half-seconds to closest approach.
     pub halves: u16,
@@ -65,7 +65,7 @@ pub struct Projected {
 
 /// What an advisory may go on with, where the pair is tested and own aircraft resolves. Separations are in tenths of a
 /// foot.
-#[derive(Clone, Copy, Debug, PartialEq, Eq)]
+#[derive(Clone, Copy)]
 pub struct Continued {
     /// A choice that keeps the sense is fresh.
     pub fresh: bool,
@@ -82,7 +82,7 @@ pub struct Continued {
 }
 
 /// What a line tells of what own aircraft saw of another one.
-#[derive(Clone, Copy, Debug, PartialEq, Eq)]
+#[derive(Clone, Copy)]
 pub struct Shown {
     /// The rank against the other aircraft.
     pub rank: Rank,

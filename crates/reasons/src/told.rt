@@ -9,7 +9,7 @@ use acas_base::Vrc;
 use journal_reader::Reader;
 
 // The complement in force from another aircraft, and the message that set it.
-#[derive(Clone, Copy, Debug, PartialEq, Eq)]
+#[derive(Clone, Copy)]
 pub struct Told {
     // The complement, which isn't Nil.
     pub complement: Vrc,

@@ -34,7 +34,7 @@ fn other_end(state: &AirState, lines: &mut TextLines<'_>) -> Option<u32>
 }
 
 /// How much of a recording is given.
-#[derive(Clone, Copy, Debug, PartialEq, Eq)]
+#[derive(Clone, Copy)]
 pub(crate) enum Extent {
     /// All of it.
     Whole,

@@ -6,7 +6,7 @@ ghost use Rattle.rec_audit.specs.Reading.{ReadsKey, ReadsKeyFields};
 use crate::fields::Fields;
 
 /// What an entry is about: a commit of an aircraft and a cycle, a send of a pair, or a take of a copy by an aircraft.
-#[derive(Clone, Copy, Debug, PartialEq, Eq)]
+#[derive(Clone, Copy)]
 pub(crate) enum Key {
     Commit { own: u8, cycle: u16 },
     Send { own: u8, target: u8 },

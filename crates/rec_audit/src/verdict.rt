@@ -6,7 +6,7 @@ use air_journal::AirState;
 use enc_file::Code;
 
 /// Why a line of a recording is wrong: the reason of the judge's first step that fails.
-#[derive(Clone, Copy, Debug, PartialEq, Eq)]
+#[derive(Clone, Copy, PartialEq, Eq)]
 pub enum Reason {
     /// The lines up to the first `end` are refused as an encounter, with this code.
     Encounter(Code),
@@ -41,7 +41,7 @@ impl Reason {
 }
 
 /// The verdict on a recording.
-#[derive(Clone, Copy, Debug, PartialEq, Eq)]
+#[derive(Clone, Copy, PartialEq, Eq)]
 pub enum Verdict {
     /// It is the recording of a legal and complete journal with this many entries.
     Legal(u32),

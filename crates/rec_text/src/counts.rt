@@ -6,7 +6,7 @@ ghost use Rattle.rec_text.specs.EntryCounts.{entry_counts, with_entry};
 use air_journal::{AirState, EntryRef};
 
 /// How many commits, sends and takes a journal has.
-#[derive(Clone, Copy, Debug, PartialEq, Eq)]
+#[derive(Clone, Copy)]
 pub struct EntryCounts {
     pub commits: u32,
     pub sends: u32,

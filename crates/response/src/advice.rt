@@ -37,7 +37,7 @@ pub(crate) fn response_to(before: &Composite, now: &Composite) -> Response
 
 // What was advised so far: what was shown in the last cycle, in which cycle the advice changed last (0 where it never
 // did), and what was shown before that one.
-#[derive(Clone, Copy, Debug, PartialEq, Eq)]
+#[derive(Clone, Copy)]
 pub(crate) struct Advised {
     pub shown: Composite,
     pub changed: u16,

@@ -9,7 +9,7 @@ use advisory_report::Composite;
 use craft_view::{Response, asked_rate};
 
 // An altitude in 1/2048 ft and a vertical rate in 1/1024 ft/s, so that in a half-second the altitude grows by the rate.
-#[derive(Clone, Copy, Debug, PartialEq, Eq)]
+#[derive(Clone, Copy)]
 pub(crate) struct Motion {
     pub altitude: i64,
     pub rate: i64,

@@ -9,7 +9,7 @@ use std::alloc::AllocError;
 use variants::{Change, Loss};
 
 /// Two kinds of losses of a link: one message that has a copy, and the first messages up to a number.
-#[derive(Clone, Copy, Debug, PartialEq, Eq)]
+#[derive(Clone, Copy)]
 pub(crate) enum Part {
     Singles,
     Fronts,

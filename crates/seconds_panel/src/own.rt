@@ -6,7 +6,7 @@ ghost use Rattle.seconds_panel.specs.Own.{AreTested, active_of, own_of, resolves
 use acas_base::{Encounter, is_active_at};
 
 /// Own aircraft, and the one against which its tests are shown, by their indices.
-#[derive(Clone, Copy, Debug, PartialEq, Eq)]
+#[derive(Clone, Copy)]
 pub struct TestedPair {
     pub own: u8,
     pub other: u8,

@@ -8,7 +8,7 @@ use svg_text::{Color, Dash, Paint};
 use test_seconds::PairSeconds;
 
 /// What a line of the panel tells.
-#[derive(Clone, Copy, Debug, PartialEq, Eq)]
+#[derive(Clone, Copy)]
 pub(crate) enum Series {
     /// The seconds that the range test of a traffic advisory needs.
     TrafficRange,

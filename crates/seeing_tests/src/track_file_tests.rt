@@ -8,7 +8,7 @@ use test_encounters::{aircraft, any_encounter};
 use track_file::{Point, TrackFault, are_tracks, fly_along};
 
 // What an aircraft flies along a track, in a run of some cycles: where it begins, its legs, or what is wrong.
-#[derive(Debug, Drop)]
+#[derive(Drop)]
 enum Flown {
     Legs {
         x: i32,

@@ -10,7 +10,7 @@ use acas_text::Line;
 use air_journal::{AirState, EntryRef};
 
 /// How many entries there are of each kind.
-#[derive(Clone, Copy, Debug, PartialEq, Eq)]
+#[derive(Clone, Copy)]
 pub(crate) struct EntryCounts {
     pub commits: u32,
     pub sends: u32,

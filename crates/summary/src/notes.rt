@@ -15,7 +15,7 @@ use air_journal::{AirState, EntryRef};
 
 /// A stretch: its first and its last cycle, the cell before it, its first cell, the message in force at its beginning,
 /// and of its last cycle what is shown and by how much the modelled altitude is above the planned one, in 1/2048 ft.
-#[derive(Clone, Copy, Debug, PartialEq, Eq)]
+#[derive(Clone, Copy)]
 pub(crate) struct Stretch {
     pub first: u16,
     pub last: u16,

@@ -17,14 +17,14 @@ use journal_reader::Reader;
 pub(crate) const STRETCHES: usize = 16;
 
 /// The beginning of a stretch: its first cycle, and the message in force before that cycle's commit.
-#[derive(Clone, Copy, Debug, PartialEq, Eq)]
+#[derive(Clone, Copy)]
 pub(crate) struct Start {
     pub cycle: u16,
     pub told: Option<Told>,
 }
 
 /// How many stretches an aircraft has against another one, and where the first ones begin.
-#[derive(Clone, Copy, Debug, PartialEq, Eq)]
+#[derive(Clone, Copy)]
 pub(crate) struct Row {
     pub count: u16,
     pub first: [Option<Start>; STRETCHES],

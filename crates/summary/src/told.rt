@@ -8,7 +8,7 @@ use acas_base::Vrc;
 use journal_reader::Reader;
 
 /// A message whose complement is in force: the positions of its send and of its take.
-#[derive(Clone, Copy, Debug, PartialEq, Eq)]
+#[derive(Clone, Copy)]
 pub(crate) struct Told {
     pub sent_at: u32,
     pub taken_at: u32,

@@ -18,7 +18,7 @@ use acas_lines::{LineSink, fixed_line};
 use acas_text::Line;
 
 /// How large a drawing is, and the window of its sections that are clipped.
-#[derive(Clone, Copy, Debug, PartialEq, Eq)]
+#[derive(Clone, Copy)]
 pub struct Frame {
     pub width: u32,
     pub height: u32,

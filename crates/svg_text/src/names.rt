@@ -3,7 +3,7 @@ ghost use Rattle.std.specs.Prelude.{◌≡◌, ◌≤◌, length};
 ghost use Rattle.svg_text.specs.Names.{attribute_name, element_name};
 
 /// An element of the text.
-#[derive(Clone, Copy, Debug, PartialEq, Eq)]
+#[derive(Clone, Copy)]
 pub(crate) enum Element {
     Svg,
     Title,
@@ -44,7 +44,7 @@ impl Element {
 }
 
 /// An attribute of an element.
-#[derive(Clone, Copy, Debug, PartialEq, Eq)]
+#[derive(Clone, Copy)]
 pub(crate) enum Attribute {
     Namespace,
     Version,

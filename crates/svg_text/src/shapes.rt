@@ -1,14 +1,14 @@
 // What a drawing is made of. All lengths and places are in units of the view box, to the right and downward.
 
 /// A place in a drawing.
-#[derive(Clone, Copy, Debug, PartialEq, Eq)]
+#[derive(Clone, Copy)]
 pub struct Point {
     pub x: i32,
     pub y: i32,
 }
 
 /// A colour, by its shares of red, green and blue.
-#[derive(Clone, Copy, Debug, PartialEq, Eq)]
+#[derive(Clone, Copy)]
 pub struct Color {
     pub red: u8,
     pub green: u8,
@@ -16,7 +16,7 @@ pub struct Color {
 }
 
 /// How a line is broken into dashes.
-#[derive(Clone, Copy, Debug, PartialEq, Eq)]
+#[derive(Clone, Copy)]
 pub enum Dash {
     /// It isn't.
     Solid,
@@ -33,7 +33,7 @@ pub enum Dash {
 }
 
 /// How a line is drawn.
-#[derive(Clone, Copy, Debug, PartialEq, Eq)]
+#[derive(Clone, Copy)]
 pub struct Stroke {
     pub color: Color,
     pub width: u16,
@@ -41,7 +41,7 @@ pub struct Stroke {
 }
 
 /// What the inside of a mark shows.
-#[derive(Clone, Copy, Debug, PartialEq, Eq)]
+#[derive(Clone, Copy)]
 pub enum Fill {
     /// What is behind it.
     Nothing,
@@ -52,14 +52,14 @@ pub enum Fill {
 }
 
 /// How a mark is drawn: its inside, and the line round it, if any.
-#[derive(Clone, Copy, Debug, PartialEq, Eq)]
+#[derive(Clone, Copy)]
 pub struct Paint {
     pub fill: Fill,
     pub stroke: Option<Stroke>,
 }
 
 /// A rectangle, by its upper left corner.
-#[derive(Clone, Copy, Debug, PartialEq, Eq)]
+#[derive(Clone, Copy)]
 pub struct Area {
     pub corner: Point,
     pub width: u32,
@@ -67,7 +67,7 @@ pub struct Area {
 }
 
 /// A mark of a fixed form.
-#[derive(Clone, Copy, Debug, PartialEq, Eq)]
+#[derive(Clone, Copy)]
 pub enum Shape {
     Rect(Area),
     /// A straight line.
@@ -76,7 +76,7 @@ pub enum Shape {
 }
 
 /// What is drawn through points.
-#[derive(Clone, Copy, Debug, PartialEq, Eq)]
+#[derive(Clone, Copy)]
 pub enum Outline {
     /// A line from the first point to the last.
     Open,
@@ -85,7 +85,7 @@ pub enum Outline {
 }
 
 /// Where words stand by their place.
-#[derive(Clone, Copy, Debug, PartialEq, Eq)]
+#[derive(Clone, Copy)]
 pub enum Anchor {
     /// They begin there.
     Start,
@@ -96,14 +96,14 @@ pub enum Anchor {
 }
 
 /// How heavy letters are.
-#[derive(Clone, Copy, Debug, PartialEq, Eq)]
+#[derive(Clone, Copy)]
 pub enum Weight {
     Regular,
     Bold,
 }
 
 /// Which way words run.
-#[derive(Clone, Copy, Debug, PartialEq, Eq)]
+#[derive(Clone, Copy)]
 pub enum Turn {
     /// To the right.
     Level,
@@ -112,7 +112,7 @@ pub enum Turn {
 }
 
 /// How words are drawn, and where.
-#[derive(Clone, Copy, Debug, PartialEq, Eq)]
+#[derive(Clone, Copy)]
 pub struct Lettering {
     pub at: Point,
     pub size: u16,
@@ -123,7 +123,7 @@ pub struct Lettering {
 }
 
 /// Which marks of a section are shown.
-#[derive(Clone, Copy, Debug, PartialEq, Eq)]
+#[derive(Clone, Copy)]
 pub enum Clip {
     /// All of them.
     Whole,

@@ -3,7 +3,7 @@ ghost use Rattle.std.specs.Prelude.{◌≡◌};
 ghost use Rattle.sweep.specs.Totals.{Fit, total};
 
 /// The counts of a run: its commits, its messages sent, its copies taken, and the lines of its report.
-#[derive(Clone, Copy, Debug, PartialEq, Eq)]
+#[derive(Clone, Copy)]
 pub struct Counts {
     pub commits: u32,
     pub sends: u32,

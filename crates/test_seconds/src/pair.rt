@@ -10,7 +10,7 @@ use acas_base::Row;
 use craft_view::{Motion, OwnAircraft};
 
 /// What the tests of an advisory need with the thresholds of a row.
-#[derive(Clone, Copy, Debug, PartialEq, Eq)]
+#[derive(Clone, Copy)]
 pub struct TestSeconds {
     /// The least whole seconds of the range test; none where the range doesn't close.
     pub range: Option<u32>,
@@ -21,7 +21,7 @@ pub struct TestSeconds {
 }
 
 /// What the tests of a pair need.
-#[derive(Clone, Copy, Debug, PartialEq, Eq)]
+#[derive(Clone, Copy)]
 pub struct PairSeconds {
     /// What a traffic advisory needs.
     pub ta: TestSeconds,

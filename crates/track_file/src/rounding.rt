@@ -6,7 +6,7 @@ ghost use Rattle.track_file.specs.Rounding.{IsFraction, mean, nearest};
 use acas_num::floor_div;
 
 // A quotient of two whole numbers. The divisor is above 0.
-#[derive(Clone, Copy, Debug)]
+#[derive(Clone, Copy)]
 pub(crate) struct Fraction {
     top: i64,
     bottom: u32,

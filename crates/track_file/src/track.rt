@@ -15,7 +15,7 @@ use std::alloc::{AllocError, Global};
 
 /// A point of a track: where an aircraft was `ms` milliseconds after cycle 1, or before it where `ms` is below 0. `x`
 /// and `y` are in ft, and the altitude `z` in 1/60 ft.
-#[derive(Clone, Copy, Debug, PartialEq, Eq)]
+#[derive(Clone, Copy)]
 pub struct Point {
     pub ms: i32,
     pub x: i32,
@@ -66,7 +66,7 @@ pub fn is_track(points: &[Point]) -> bool
 }
 
 // The points of a track around a time. They are one point where it is at that time.
-#[derive(Clone, Copy, Debug)]
+#[derive(Clone, Copy)]
 struct Span {
     before: Point,
     after: Point,

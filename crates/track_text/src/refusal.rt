@@ -48,7 +48,7 @@ impl Refusal {
 }
 
 /// Why no encounter was read.
-#[derive(Clone, Copy, Debug, PartialEq, Eq, Error)]
+#[derive(Clone, Copy, Debug, Error)]
 pub enum ReadError {
     /// The text says no tracks along which aircraft can fly.
     #[error("the text is refused")]

@@ -1,7 +1,7 @@
 // What is changed in an encounter.
 
 /// A coordinate of where an aircraft begins, in ft.
-#[derive(Clone, Copy, Debug, PartialEq, Eq)]
+#[derive(Clone, Copy)]
 pub enum Axis {
     X,
     Y,
@@ -10,14 +10,14 @@ pub enum Axis {
 
 /// What a value of a row changes. `Start`: where an aircraft begins, by so many ft along an axis. `Late`: when it flies,
 /// by so many cycles.
-#[derive(Clone, Copy, Debug, PartialEq, Eq)]
+#[derive(Clone, Copy)]
 pub enum Quantity {
     Start(Axis),
     Late,
 }
 
 /// The aircraft with index `craft` begins elsewhere, or flies later, by `value`.
-#[derive(Clone, Copy, Debug, PartialEq, Eq)]
+#[derive(Clone, Copy)]
 pub struct Shift {
     pub quantity: Quantity,
     pub craft: u8,
@@ -25,7 +25,7 @@ pub struct Shift {
 }
 
 /// The messages `first` to `last`, by their numbers, from one aircraft to another one are lost.
-#[derive(Clone, Copy, Debug, PartialEq, Eq)]
+#[derive(Clone, Copy)]
 pub struct Loss {
     pub sender: u8,
     pub receiver: u8,
@@ -34,14 +34,14 @@ pub struct Loss {
 }
 
 /// Two aircraft, by their indices, exchange their addresses.
-#[derive(Clone, Copy, Debug, PartialEq, Eq)]
+#[derive(Clone, Copy)]
 pub struct Exchange {
     pub one: u8,
     pub two: u8,
 }
 
 /// The one thing that is changed in an encounter.
-#[derive(Clone, Copy, Debug, PartialEq, Eq)]
+#[derive(Clone, Copy)]
 pub enum Change {
     Shifted(Shift),
     Lost(Loss),

@@ -8,7 +8,7 @@ use acas_base::CraftSpec;
 use std::alloc::{AllocError, Global};
 
 /// `count` values: the first one, and each next one greater by `step`.
-#[derive(Clone, Copy, Debug, PartialEq, Eq)]
+#[derive(Clone, Copy)]
 pub struct Values {
     pub first: i32,
     pub count: u16,

@@ -3,7 +3,7 @@
 use variants::{Quantity, Values};
 
 /// What is changed in an encounter, and over which values.
-#[derive(Clone, Copy, Debug, PartialEq, Eq)]
+#[derive(Clone, Copy)]
 pub enum Variation {
     /// `alt`, `x`, `y` or `late`: a quantity of the aircraft with an address of 24 bits, by each value of a row.
     Shifts {

@@ -1,7 +1,7 @@
 // Why an aircraft may not make an entry, as values.
 
 /// Why an aircraft may not commit a cycle: the first of these that holds, in this order.
-#[derive(Clone, Copy, Debug, PartialEq, Eq)]
+#[derive(Clone, Copy)]
 pub enum CommitCause {
     /// It makes no entries.
     Inactive,
@@ -18,7 +18,7 @@ pub enum CommitCause {
 }
 
 /// Why an aircraft may not send a message to another one: the first of these that holds, in this order.
-#[derive(Clone, Copy, Debug, PartialEq, Eq)]
+#[derive(Clone, Copy)]
 pub enum SendCause {
     /// It makes no entries.
     Inactive,
@@ -29,7 +29,7 @@ pub enum SendCause {
 }
 
 /// Why an aircraft may not take a copy of a message: the first of these that holds, in this order.
-#[derive(Clone, Copy, Debug, PartialEq, Eq)]
+#[derive(Clone, Copy)]
 pub enum TakeCause {
     /// It makes no entries.
     Inactive,
@@ -44,7 +44,7 @@ pub enum TakeCause {
 }
 
 /// What a journal lacks that isn't complete: the first of these that holds, in this order.
-#[derive(Clone, Copy, Debug, PartialEq, Eq)]
+#[derive(Clone, Copy)]
 pub enum Lack {
     /// An active aircraft has committed so many cycles, and not all. It is the first such aircraft by index.
     Commits { own: u8, commits: u16, cycles: u16 },

@@ -1,7 +1,7 @@
 // The fields of the lines of entries, by name.
 
 /// A kind of entry.
-#[derive(Clone, Copy, Debug, PartialEq, Eq)]
+#[derive(Clone, Copy)]
 pub enum EntryKind {
     Commit,
     Send,
@@ -9,7 +9,7 @@ pub enum EntryKind {
 }
 
 /// A field of an entry's line after the first one, which names the kind.
-#[derive(Clone, Copy, Debug, PartialEq, Eq)]
+#[derive(Clone, Copy)]
 pub enum EntryField {
     Own,
     Cycle,

@@ -9,7 +9,7 @@ use std::test::Fail;
 use test_encounters::{PLAIN, aircraft, encounter, fate};
 
 // A call of an aircraft, and what it answers.
-#[derive(Clone, Copy, Debug, PartialEq, Eq)]
+#[derive(Clone, Copy)]
 enum Step {
     Commits(u8, Commit),
     Sends(u8, Sent),
