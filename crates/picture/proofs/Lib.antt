@@ -8,4 +8,5 @@ pub mod Befallen
 pub mod Marking
 pub mod Placing
 pub mod Listing
+pub mod Gathering
 pub mod Hearing

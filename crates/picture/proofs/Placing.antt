@@ -4,7 +4,7 @@ use Rattle.std.proofs.lemmas.Bool.{cases_Bool, cases_eq, cond-false, cond-true, 
 use Rattle.std.specs.Prelude.{◌%◌, ◌/◌, ◌==◌, ℤ, IfSome, filter, nat_lt, slice_get, take}
 use Rattle.std.specs.Fmt.{decimal}
 use Rattle.std.specs.Option.{option_map_or}
-use Rattle.std.specs.List.{AllByRecursion, flat_map, range_with_len}
+use Rattle.std.specs.List.{AllByRecursion}
 use Rattle.acas_base.specs.Encounter.{IsEncounter, Parts, is_active_kind}
 use Rattle.acas_base.specs.declared.craft.CraftSpec.{CraftSpec}
 use Rattle.acas_base.specs.declared.entry.Entry.{Entry}
@@ -24,10 +24,10 @@ use Rattle.picture.specs.Bands.{band, band_depth, band_of_row, bands_marks, band
 use Rattle.picture.specs.Onsets.{circle_mark, corners, diamond, downward, is_onset, onset_mark, onset_marks, onset_paint, upward}
 use Rattle.picture.specs.Altitude.{altitude_marks, altitude_y, axis_marks, course_line, course_marks, course_paint, course_point, course_points, course_y, courses, height_text, name_x}
 use Rattle.picture.specs.Heights.{axis_of, height_in}
-use Rattle.picture.specs.Head.{description, head_marks, sent_in, sent_text, title_text}
+use Rattle.picture.specs.Head.{description, head_marks, nearest_marks, sent_in, sent_text, title_marks, title_text}
 use Rattle.picture.specs.Layout.{bounds_of, bounds_to, frame_of, lane_base, lane_of, page_bounds, page_height, panels_top, plot_bottom, plot_height}
 use Rattle.page_marks.specs.Places.{area_at, point_at}
-use Rattle.picture.specs.Legend.{arrow_words, height_words, item_marks, legend_marks, sample_marks, sample_shaft}
+use Rattle.picture.specs.Legend.{arrow_words, band_words, height_words, item_marks, legend_marks, sample_marks, sample_shaft}
 use Rattle.picture.specs.Marked.{IsMarked, all_marked, mark_text}
 use Rattle.picture.specs.MarkedDrawn.{letter_text, letter_x, line_at, line_of, lines_marks, list_height, list_marks, mark_title, marked_before, row_at, row_number, row_of}
 use Rattle.picture.specs.Messages.{arrows}
@@ -46,6 +46,7 @@ use Rattle.page_marks.specs.Ticks.{HoldsTicks, time_ticks}
 use Rattle.page_marks.specs.Within.{AreInside, Bounds, IsMarkWithin, IsWithin}
 use Rattle.pair_panels.proofs.Best.{is-pair, nearest-is}
 use Rattle.pair_panels.proofs.Placing.{are-within}
+use Rattle.pair_panels.specs.Headline.{apart_words, headline_marks, pair_words}
 use Rattle.pair_panels.specs.Laws.{bounds_from}
 use Rattle.pair_panels.specs.Nearest.{IsNearest, IsPair, nearest_pair}
 use Rattle.pair_panels.specs.Panel.{distance_marks}
@@ -167,11 +168,22 @@ good-boxes lanes x y width height kind title few right bottom = boxes-to (page_h
 
 -- ---- the head and the axis of time
 
-good-head : (e : Parts) (J : List Entry) (lanes : ℕ) → lanes ≤ 16 → AllByRecursion (Good lanes) (head_marks e J)
-good-head e J lanes few = (
+good-title : (e : Parts) (J : List Entry) (lanes : ℕ) → lanes ≤ 16 → AllByRecursion (Good lanes) (title_marks e J)
+good-title e J lanes few = (
   good-words lanes 400 700 440 anchors.Start weights.Bold (title_text e) [] (omega arith) few (omega arith) (omega arith),
   (good-words lanes 400 1150 280 anchors.Start weights.Regular (sent_text (sent_in J)) [] (omega arith) few (omega arith) (omega arith), tt),
 )
+
+good-nearest : (it : LabelWords) (e : Parts) (pair : Option NearPair) (lanes : ℕ) → lanes ≤ 16 → AllByRecursion (Good lanes) (nearest_marks it e pair)
+unfolding headline_marks
+good-nearest it e None lanes few = tt
+good-nearest it e (Some pair) lanes few = (
+  good-words lanes 4000 1150 240 anchors.Start weights.Regular (pair_words e it pair) [] (omega arith) few (omega arith) (omega arith),
+  (good-words lanes 19600 1150 240 anchors.End weights.Regular (apart_words e pair) [] (omega arith) few (omega arith) (omega arith), tt),
+)
+
+good-head : (it : LabelWords) (e : Parts) (J : List Entry) (pair : Option NearPair) (lanes : ℕ) → lanes ≤ 16 → AllByRecursion (Good lanes) (head_marks it e J pair)
+good-head it e J pair lanes few = all-append (Good lanes) (title_marks e J) (nearest_marks it e pair) (good-title e J lanes few) (good-nearest it e pair lanes few)
 
 good-time : (lanes cycles : ℕ) (start : Option ℕ) → lanes ≤ 16 → AllByRecursion (Good lanes) (time_marks cycles start lanes)
 good-time lanes cycles start few =
@@ -748,21 +760,21 @@ good-messages e J l few =
 
 -- ---- the legend
 
-good-item : (height top x : ℕ) (kind : Advised) (words : List ℕ) → height ≤ 60000 → top + 1600 ≤ height → x ≤ 12000 → AllByRecursion (GoodTo height) (item_marks top x kind words)
+good-item : (height top x : ℕ) (kind : Advised) (words : List ℕ) → height ≤ 60000 → top + 1950 ≤ height → x ≤ 12000 → AllByRecursion (GoodTo height) (item_marks top x kind words)
 unfolding item_marks
 good-item height top x kind words few low right =
     all-append (GoodTo height) (box_marks kind (area_at x (top + 200) 700 280) []) (worded (letters (point_at (x + 850) (top + 430)) 260 anchors.Start weights.Regular) words [] ∷ [])
     (boxes-to height x (top + 200) 700 280 kind [] few (omega arith) (omega arith))
     (words-to height (x + 850) (top + 430) 260 anchors.Start weights.Regular words [] (omega arith) few (omega arith) (omega arith), tt)
 
-good-sample : (height top x y : ℕ) (sign : Sign) (words : List ℕ) → height ≤ 60000 → top + 1600 ≤ height → 2000 ≤ x → x ≤ 17000 → y ≤ top + 300 → AllByRecursion (GoodTo height) (sample_marks top x y sign words)
+good-sample : (height top x y : ℕ) (sign : Sign) (words : List ℕ) → height ≤ 60000 → top + 1950 ≤ height → 2000 ≤ x → x ≤ 17000 → y ≤ top + 300 → AllByRecursion (GoodTo height) (sample_marks top x y sign words)
 unfolding sample_marks
 good-sample height top x y sign words few low left right high =
     all-append (GoodTo height) (sign_marks sign (sample_shaft x y) []) (worded (letters (point_at (x + 200) (top + 430)) 260 anchors.Start weights.Regular) words [] ∷ [])
     (good-sign height sign (sample_shaft x y) [] few (record { tail = omega arith; tip = omega arith; left = omega arith; begins = omega arith; neck = omega arith; ends = omega arith }))
     (words-to height (x + 200) (top + 430) 260 anchors.Start weights.Regular words [] (omega arith) few (omega arith) (omega arith), tt)
 
-good-legend : (height top : ℕ) → height ≤ 60000 → top + 1600 ≤ height → AllByRecursion (GoodTo height) (legend_marks top)
+good-legend : (height top : ℕ) → height ≤ 60000 → top + 1950 ≤ height → AllByRecursion (GoodTo height) (legend_marks top)
 good-legend height top few low =
     all-append (GoodTo height) (item 2000 Traffic (codes "traffic")) _ (good-item height top 2000 Traffic (codes "traffic") few low (omega arith))
     (all-append (GoodTo height) (item 5200 Up (codes "up")) _ (good-item height top 5200 Up (codes "up") few low (omega arith))
@@ -771,7 +783,10 @@ good-legend height top few low =
     (all-append (GoodTo height) (sample 14900 (top + 210) Cross (codes "lost")) _ (good-sample height top 14900 (top + 210) Cross (codes "lost") few low (omega arith) (omega arith) (omega arith))
     (all-append (GoodTo height) (sample 16800 (top + 140) HollowHead (codes "spoilt")) _ (good-sample height top 16800 (top + 140) HollowHead (codes "spoilt") few low (omega arith) (omega arith) (omega arith)) (
       words-to height 2000 (top + 900) 260 anchors.Start weights.Regular height_words [] (omega arith) few (omega arith) (omega arith),
-      (words-to height 2000 (top + 1250) 260 anchors.Start weights.Regular arrow_words [] (omega arith) few (omega arith) (omega arith), tt),
+      (
+        words-to height 2000 (top + 1250) 260 anchors.Start weights.Regular arrow_words [] (omega arith) few (omega arith) (omega arith),
+        (words-to height 2000 (top + 1600) 260 anchors.Start weights.Regular band_words [] (omega arith) few (omega arith) (omega arith), tt),
+      ),
     ))))))
   where
     item : ℕ → Advised → List ℕ → List Mark
@@ -907,7 +922,7 @@ are-good it e J labels valid l few =
     let heard = good-heard it e J height (plan_top e) (omega arith) (omega (arith, few, panels_low)) in
     let legend = good-legend height (legend_top e) tall (omega arith) in
     let list = good-list height (list_top e) it e.cycles tall (omega arith) in (
-      above n below (head_marks e J) (good-head e J n few),
+      above n below (head_marks it e J (nearest_pair e)) (good-head it e J (nearest_pair e) n few),
       (
         above n below (time_marks e.cycles it.start n) (good-time n e.cycles it.start few),
         (

@@ -17,6 +17,7 @@ pub mod MarkedDrawn
 pub mod Panels
 pub mod Picture
 pub mod Calls
+pub mod Gathered
 pub mod Heard
 pub mod HeardLaws
 pub mod Laws

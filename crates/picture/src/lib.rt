@@ -16,6 +16,7 @@ mod bars;
 mod call;
 mod calls;
 mod course;
+mod gathered;
 mod head;
 mod heard;
 mod heard_laws;

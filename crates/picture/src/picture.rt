@@ -43,13 +43,23 @@ use svg_text::{Clip, begin_drawing, begin_section, end_drawing, end_section};
 
 // ---- sections
 
-fn put_head_section<S: LineSink>(state: &AirState, title: &Line, sink: &mut S)
+fn put_head_section<S: LineSink>(
+    labels: &Labels<'_>,
+    state: &AirState,
+    title: &Line,
+    pair: Option<NearPair>,
+    axis: TimeAxis,
+    sink: &mut S,
+)
     requires title { title.now ≡ title_text state.now.encounter }
     requires short { length title.now ≤ LABEL_BYTES }
-    ensures { S.took sink.old sink.new (section_lines (section (head_marks state.now.encounter state.now.journal))) }
+    requires pair { IfSome pair (IsPair state.now.encounter) }
+    requires axis { axis.cycles ≡ state.now.encounter.cycles }
+    requires start { axis.start ≡ labels.now.start }
+    ensures { S.took sink.old sink.new (section_lines (section (head_marks labels.now state.now.encounter state.now.journal pair))) }
 {
     begin_section(sink, Clip::Whole);
-    put_head(state, title, sink);
+    put_head(labels, state, title, pair, axis, sink);
     end_section(sink);
 }
 
@@ -222,7 +232,7 @@ impl Text for Picture<'_> {
         let below = panels + PLAN_HEIGHT;
         let frame = frame_of(lanes, below + list_height(labels, axis.cycles));
         begin_drawing(sink, &frame, &title, &description());
-        put_head_section(state, &title, sink);
+        put_head_section(labels, state, &title, pair, axis, sink);
         put_time_section(axis, lanes, sink);
         put_lines_section(labels, axis, lanes, sink);
         put_bands_section(state, axis, sink);

@@ -248,13 +248,13 @@ good-cross top x y title most is =
     let rising = good-line bounds (x - 90) (y + 90) (x + 90) (y - 90) (line_paint ink 30) title (omega arith) (small-box top most) (place top (x - 90) (y + 90) (omega arith) (omega arith) (omega arith) (omega arith)) (place top (x + 90) (y - 90) (omega arith) (omega arith) (omega arith) (omega arith)) in
     (falling, (rising, tt))
 
-good-approach : (top : ℕ) (e : Parts) (nearest : Option Approach) → top ≤ 40000 → IfSome nearest (IsApproach e) → AllByRecursion (Good (box_from top)) (approach_marks top e nearest)
+good-approach : (top : ℕ) (e : Parts) (start : Option ℕ) (nearest : Option Approach) → top ≤ 40000 → IfSome nearest (IsApproach e) → AllByRecursion (Good (box_from top)) (approach_marks top e start nearest)
 unfolding approach_marks plan_point
-good-approach top e None most is = tt
-good-approach top e (Some it) most is =
+good-approach top e start None most is = tt
+good-approach top e start (Some it) most is =
     let bounds = box_from top in
     let P = Good bounds in
-    let title = approach_title e it in
+    let title = approach_title e start it in
     let one = in-box top e it.one it.cycle is.one is.begun is.in_run in
     let other = in-box top e it.other it.cycle is.other is.begun is.in_run in
     let line = good-line bounds (x_in e it.one it.cycle) (y_in top e it.one it.cycle) (x_in e it.other it.cycle) (y_in top e it.other it.cycle) (dashed_paint ink 20 dashes.Dotted) title (omega arith) (small-box top most) (placed-in top (x_in e it.one it.cycle) (y_in top e it.one it.cycle) one) (placed-in top (x_in e it.other it.cycle) (y_in top e it.other it.cycle) other) in
@@ -269,7 +269,7 @@ good-flown : (top : ℕ) (e : Parts) (start : Option ℕ) (labels : LabelWords) 
 good-flown top e start labels nearest most some is =
     let P = Good (box_from top) in
     let crafts = all-range P (flight_marks top e start labels) 0 (length e.crafts) (λ own first last. good-flight top e start labels own most (record { within = omega arith; begun = some })) in
-    all-append P (flights top e start labels) (approach_marks top e nearest) crafts (good-approach top e nearest most is)
+    all-append P (flights top e start labels) (approach_marks top e start nearest) crafts (good-approach top e start nearest most is)
 
 -- ---- marks of the panel
 

@@ -7,6 +7,7 @@ use Rattle.acas_text.specs.Hex.{hex}
 use Rattle.labels.specs.Labels.{LabelWords, name_of}
 use Rattle.page_marks.specs.Paints.{dashed_paint, ink, letters, line_paint, plain}
 use Rattle.page_marks.specs.Places.{area_at, point_at}
+use Rattle.page_marks.specs.Words.{when_text}
 use Rattle.plan_panel.specs.Places.{box_height, box_left, box_top, box_width, plan_point, view_of, x_in, y_in}
 use Rattle.plan_panel.specs.declared.panel.Approach.{Approach}
 use Rattle.plot_axes.specs.Scale.{along}
@@ -31,8 +32,8 @@ heading = codes "plan, north up"
 unfoldable pub moment_text : ℕ → ℕ → List ℕ
 moment_text address cycle = hex 6 address ++ codes ", cycle " ++ decimal cycle
 
-unfoldable pub approach_text : ℕ → ℕ → ℕ → List ℕ
-approach_text one other cycle = codes "closest approach: " ++ hex 6 one ++ codes " and " ++ hex 6 other ++ codes ", cycle " ++ decimal cycle
+unfoldable pub approach_text : ℕ → ℕ → List ℕ → List ℕ
+approach_text one other when = codes "closest approach: " ++ hex 6 one ++ codes " and " ++ hex 6 other ++ codes ", " ++ when
 
 -- A length in nautical miles of 6,076 ft: whole ones, or hundredths of one.
 unfoldable pub length_text : ℕ → List ℕ
@@ -154,18 +155,18 @@ approach_with top e it title =
     ++ (cross_marks (x_in e it.other it.cycle) (y_in top e it.other it.cycle) title
     ++ between_marks (plan_point top e it.one it.cycle) (plan_point top e it.other it.cycle) title)
 
-abbrev pub approach_title : Parts → Approach → List ℕ
-approach_title e it = approach_text (address_of e it.one) (address_of e it.other) it.cycle
+abbrev pub approach_title : Parts → Option ℕ → Approach → List ℕ
+approach_title e start it = approach_text (address_of e it.one) (address_of e it.other) (when_text start it.cycle)
 
-unfoldable pub approach_marks : ℕ → Parts → Option Approach → List Mark
-approach_marks top e None = []
-approach_marks top e (Some it) = approach_with top e it (approach_title e it)
+unfoldable pub approach_marks : ℕ → Parts → Option ℕ → Option Approach → List Mark
+approach_marks top e start None = []
+approach_marks top e start (Some it) = approach_with top e it (approach_title e start it)
 
 -- ---- all
 
 -- What stands in the box.
 abbrev pub flown_marks : ℕ → Parts → Option ℕ → LabelWords → Option Approach → List Mark
-flown_marks top e start labels nearest = flights top e start labels ++ approach_marks top e nearest
+flown_marks top e start labels nearest = flights top e start labels ++ approach_marks top e start nearest
 
 unfoldable pub plan_marks : ℕ → Parts → Option ℕ → LabelWords → Option Approach → List Mark
 plan_marks top e start labels nearest = frame_marks top ++ (bar_marks top (view_of e).x.whole ++ flown_marks top e start labels nearest)

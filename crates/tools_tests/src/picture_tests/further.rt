@@ -45,6 +45,7 @@ what the crews heard
 pub const LABELLED: &str = "AB-12 against 400B02: seconds that its tests need
 AB-12
 400B02
+<title>closest approach: 400A01 and 400B02, 00:00:20</title>
 what the crews heard
 00:00:02
 AB-12
@@ -60,3 +61,16 @@ plan, north up
 <title>400A01</title>
 <text x=\"10300\" y=\"18720\" font-size=\"240\" fill=\"#222222\">
 nothing";
+
+// Of three pairs of aircraft that meet far from each other: in cycle 13 all six have one call.
+pub const SIX: &str = "what the crews heard
+13
+400A01
+\"Traffic traffic\" and 5 more
+</g>";
+
+// What would stand there if the second one had a line of its own.
+pub const SECOND: &str = "what the crews heard
+400A01
+400B02
+</svg>";

@@ -14,11 +14,12 @@ unfolding picture_lines
 returns g c =
     let is = c.state-state.ensures in
     let enc = c.enc-encounter.ensures ∙ ap (λ (s : State). s.encounter) is in
-    let top_words = rw is at c.put_head_section.ensures in
+    let headed = rw is at c.put_head_section.ensures in
     let bands = rw is at c.put_bands_section.ensures in
     let bars = rw is at c.put_lanes_section.ensures in
     let lanes = c.active_among-lanes.ensures.value ∙ ap active_among (c.crafts.ensures.value ∙ ap (λ (p : Parts). p.crafts) enc) in
     let pair = c.nearest_pair-pair.ensures.value ∙ ap nearest_pair enc in
+    let top_words = rw pair at headed in
     let panels = c.panels_height-panels.ensures.value ∙ ap panels_height pair in
     let cycles = c.axis_of-axis.ensures.cycles ∙ ap (λ (p : Parts). p.cycles) enc in
     let start = c.axis_of-axis.ensures.start in
