@@ -1,4 +1,5 @@
 pub mod Counting
+pub mod Departing
 pub mod Barring
 pub mod Axis
 pub mod Mapping

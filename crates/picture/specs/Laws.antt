@@ -17,8 +17,7 @@ use Rattle.deliveries.specs.declared.rows.Row.{Row as MessageRow}
 use Rattle.equal_rows.specs.Rows.{AreInOrder, IsCovered}
 use Rattle.equal_rows.specs.declared.row.Row.{Row}
 use Rattle.labels.specs.Labels.{LabelWords}
-use Rattle.picture.specs.Altitude.{altitude_y}
-use Rattle.picture.specs.Heights.{HoldsAll, IsOn, axis_of}
+use Rattle.picture.specs.Heights.{HoldsModelled, HoldsPlanned, IsOn, altitude_y, axis_of}
 use Rattle.journal_reader.specs.Reading.{read_of}
 use Rattle.picture.specs.Layout.{page_bounds}
 use Rattle.picture.specs.Messages.{arrows}
@@ -50,10 +49,12 @@ pub record AreBars (journal : List Entry) (cycles own : ℕ) (rows : List Row) :
   pub in_order : AreInOrder 0 rows
   pub all : (cycle : ℕ) → 1 ≤ cycle → cycle ≤ cycles → is_clear (shown_in journal own cycle) ≡ false → IsCovered rows cycle
 
--- The axis of altitudes holds each aircraft in each cycle, and a greater altitude stands no lower than a less one.
-pub record AreCourses (e : Parts) : Type 0 where
-  pub holds : HoldsAll e
-  pub in_order : (low high : ℤ) → IsOn (axis_of e) low → IsOn (axis_of e) high → low ≤ℤ high → altitude_y (axis_of e) high ≤ altitude_y (axis_of e) low
+-- The axis of altitudes holds each aircraft in each cycle, as planned and, of up to 8 aircraft, as modelled. A greater
+-- altitude stands no lower than a less one.
+pub record AreCourses (e : Parts) (journal : List Entry) : Type 0 where
+  pub planned : HoldsPlanned (axis_of e journal) e
+  pub modelled : length e.crafts ≤ 8 → HoldsModelled (axis_of e journal) e journal
+  pub in_order : (low high : ℤ) → IsOn (axis_of e journal) low → IsOn (axis_of e journal) high → low ≤ℤ high → altitude_y (axis_of e journal) high ≤ altitude_y (axis_of e journal) low
 
 -- An arrow stands for a take of a good copy after which another complement is in force on the taker from the sender
 -- than before it. It names the message, where it was sent and taken, and the complement after the take.

@@ -34,12 +34,15 @@ arrow_words = codes "An arrow: a message that changes what is in force, in the c
 abbrev pub band_words : List ℕ
 band_words = codes "A band above a line: up. Below it: down. Half as high: preventive advice. A stripe: traffic."
 
+abbrev pub modelled_words : List ℕ
+modelled_words = codes "A dotted green line: the flight with the modelled response, where it isn't the planned one."
+
 -- A line of words so far down.
 abbrev pub remark : ℕ → List ℕ → Mark
 remark y words = worded (letters (point_at 2000 y) 260 anchors.Start weights.Regular) words []
 
 abbrev pub remarks_marks : ℕ → List Mark
-remarks_marks top = remark (top + 900) height_words ∷ remark (top + 1250) arrow_words ∷ remark (top + 1600) band_words ∷ []
+remarks_marks top = remark (top + 900) height_words ∷ remark (top + 1250) arrow_words ∷ remark (top + 1600) band_words ∷ remark (top + 1950) modelled_words ∷ []
 
 abbrev pub legend_marks : ℕ → List Mark
 legend_marks top =

@@ -2,6 +2,7 @@ pub mod Layout
 pub mod Shown
 pub mod Head
 pub mod Heights
+pub mod Modelled
 pub mod Altitude
 pub mod Time
 pub mod Bars

@@ -18,10 +18,10 @@ pub fn bars_law()
     ensures { (e : Parts) (journal : List Entry) → IsLegal (air_of e) journal → (own : ℕ) → AreBars journal e.cycles own (shown_rows journal e.cycles own) }
 {}
 
-/// A law: the axis of altitudes holds each aircraft in each cycle, and a greater altitude stands no lower than a less
-/// one.
+/// A law: the axis of altitudes holds each aircraft in each cycle, as planned and, of up to 8 aircraft, as modelled. A
+/// greater altitude stands no lower than a less one.
 pub fn courses_law()
-    ensures { (e : Parts) → AreCourses e }
+    ensures { (e : Parts) (journal : List Entry) → AreCourses e journal }
 {}
 
 /// A law: an arrow stands exactly for each take of a good copy that changes the complement in force on the taker from

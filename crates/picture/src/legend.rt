@@ -1,6 +1,6 @@
 // What the boxes, the signs, the arrows and the bands mean.
 ghost use Rattle.std.specs.Prelude.{◌≡◌, ◌<◌, ◌≤◌, ◌^◌, ◌∷◌, [], length};
-ghost use Rattle.picture.specs.Legend.{arrow_words, band_words, height_words, item_marks, legend_marks, remark, remarks_marks, sample_marks, sample_shaft};
+ghost use Rattle.picture.specs.Legend.{arrow_words, band_words, height_words, item_marks, legend_marks, modelled_words, remark, remarks_marks, sample_marks, sample_shaft};
 ghost use Rattle.picture.specs.MessagesDrawn.{IsShaft};
 ghost use Rattle.svg_text.specs.declared.drawing.TheConstants.{LABEL_BYTES};
 
@@ -105,6 +105,11 @@ fn put_remarks<D: Drawing>(top: u32, drawing: &mut D)
     put_remark(
         top + 1_600,
         "A band above a line: up. Below it: down. Half as high: preventive advice. A stripe: traffic.",
+        drawing,
+    );
+    put_remark(
+        top + 1_950,
+        "A dotted green line: the flight with the modelled response, where it isn't the planned one.",
         drawing,
     );
 }

@@ -194,7 +194,7 @@ fn put_row_of<D: Drawing>(
     marked: Marked,
     drawing: &mut D,
 )
-    requires top { top ≤ 40000 }
+    requires top { top ≤ 41000 }
     requires axis { axis.start ≡ labels.now.start }
     requires marked { IsMarked labels.now axis.cycles marked }
     requires few { marked.place < 26 }
@@ -212,7 +212,7 @@ fn put_row_of<D: Drawing>(
 
 // Puts the row of the mark at a place of the list, where it is drawn.
 fn put_row<D: Drawing>(top: u32, labels: &Labels<'_>, axis: TimeAxis, place: usize, drawing: &mut D)
-    requires top { top ≤ 40000 }
+    requires top { top ≤ 41000 }
     requires axis { axis.start ≡ labels.now.start }
     requires place { place < length labels.now.marks }
     requires few { place < 26 }
@@ -225,7 +225,7 @@ fn put_row<D: Drawing>(top: u32, labels: &Labels<'_>, axis: TimeAxis, place: usi
 
 /// Puts the list of marks, from `top` downward.
 pub(crate) fn put_list<D: Drawing>(top: u32, labels: &Labels<'_>, axis: TimeAxis, drawing: &mut D)
-    requires top { top ≤ 40000 }
+    requires top { top ≤ 41000 }
     requires axis { axis.start ≡ labels.now.start }
     ensures { D.drew drawing.old drawing.new (list_marks top labels.now axis.cycles) }
 {

@@ -92,15 +92,15 @@ fn put_bands_section<S: LineSink>(state: &AirState, axis: TimeAxis, sink: &mut S
 
 fn put_altitude_section<S: LineSink>(
     labels: &Labels<'_>,
-    encounter: &Encounter,
+    state: &AirState,
     axis: TimeAxis,
     sink: &mut S,
 )
-    requires { axis.cycles ≡ encounter.now.cycles }
-    ensures { S.took sink.old sink.new (section_lines (section (altitude_marks labels.now encounter.now))) }
+    requires { axis.cycles ≡ state.now.encounter.cycles }
+    ensures { S.took sink.old sink.new (section_lines (section (altitude_marks labels.now state.now.encounter state.now.journal))) }
 {
     begin_section(sink, Clip::Whole);
-    put_altitude(labels, encounter, axis, sink);
+    put_altitude(labels, state, axis, sink);
     end_section(sink);
 }
 
@@ -186,7 +186,7 @@ fn put_legend_section<S: LineSink>(top: u32, sink: &mut S)
 }
 
 fn put_list_section<S: LineSink>(top: u32, labels: &Labels<'_>, axis: TimeAxis, sink: &mut S)
-    requires top { top ≤ 40000 }
+    requires top { top ≤ 41000 }
     requires axis { axis.start ≡ labels.now.start }
     ensures { S.took sink.old sink.new (section_lines (section (list_marks top labels.now axis.cycles))) }
 {
@@ -236,7 +236,7 @@ impl Text for Picture<'_> {
         put_time_section(axis, lanes, sink);
         put_lines_section(labels, axis, lanes, sink);
         put_bands_section(state, axis, sink);
-        put_altitude_section(labels, encounter, axis, sink);
+        put_altitude_section(labels, state, axis, sink);
         put_messages_section(deliveries, axis, sink);
         put_lanes_section(labels, state, axis, sink);
         let top = panels_top(lanes);

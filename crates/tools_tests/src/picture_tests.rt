@@ -149,7 +149,7 @@ fn one_cycle(alloc: Global) -> Result<Page, AllocError> {
     let mut page = Page::new(alloc, 0);
     add_head(
         &mut page,
-        1326,
+        1343,
         &Head {
             title: "Encounter of 2 aircraft (0 RA, 2 TA, 0 XPDR), 1 cycles",
             messages: "0 messages sent",
@@ -193,7 +193,7 @@ fn add_reversal(
 // Of examples/reversal.enc.
 fn reversal(alloc: Global) -> Result<Page, AllocError> {
     let mut page = Page::new(alloc, 0);
-    add_head(&mut page, 1326, &REVERSAL)?;
+    add_head(&mut page, 1343, &REVERSAL)?;
     add_time(&mut page, &FIFTHS, "cycle")?;
     labelled::add_none(&mut page)?;
     add_reversal(&mut page, "400A01", ADDRESSES, &FIFTHS)?;
@@ -207,7 +207,7 @@ fn labelled_reversal(alloc: Global) -> Result<Page, AllocError> {
     let mut page = Page::with_list(alloc, 2000);
     add_head(
         &mut page,
-        1426,
+        1443,
         &Head {
             closest: "closest as planned: AB-12 and 400B02, 00:00:20; the run ends there",
             ..REVERSAL
@@ -226,7 +226,7 @@ fn transponder_only(alloc: Global) -> Result<Page, AllocError> {
     let mut page = Page::new(alloc, 960);
     add_head(
         &mut page,
-        1278,
+        1295,
         &Head {
             title: "Encounter of 2 aircraft (1 RA, 0 TA, 1 XPDR), 31 cycles",
             messages: "0 messages sent",

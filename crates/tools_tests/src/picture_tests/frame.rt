@@ -191,5 +191,11 @@ pub fn add_legend(page: &mut Page) -> Result<(), AllocError> {
         26170,
         "A band above a line: up. Below it: down. Half as high: preventive advice. A stripe: traffic.",
     )?;
+    add_remark(
+        page,
+        2000,
+        26520,
+        "A dotted green line: the flight with the modelled response, where it isn't the planned one.",
+    )?;
     page.lines("</g>\n")
 }

@@ -127,7 +127,7 @@ fn add_row(page: &mut Page, y: u32, mark: &Mark) -> Result<(), AllocError> {
 
 // The list begins where the page of two lanes ends that has none.
 pub fn add_list(page: &mut Page) -> Result<(), AllocError> {
-    let rows: [u32; 5] = [26620, 27020, 27420, 27820, 28220];
+    let rows: [u32; 5] = [26970, 27370, 27770, 28170, 28570];
     page.lines("<g>\n")?;
     for place in 0..MARKS.len() {
         add_row(page, rows[place], &MARKS[place])?;
