@@ -114,8 +114,8 @@ fn put_headline_with<D: Drawing>(y: u32, pair: &Line, apart: &Line, drawing: &mu
 }
 
 /// Puts a line at `y` that tells of the nearest pair: which aircraft they are, as the labels call them, when they are
-/// nearest as planned, by the cycle or the labels' clock, and their slant range and vertical distance then. Where that is
-/// the last cycle, it says that the run ends there.
+/// nearest as planned, by the cycle or the labels' clock, and their slant range and vertical distance then. Where that
+/// is the last cycle, it says that the run ends there.
 #[tactic(auto, unfolding(crate::specs::Headline::headline_marks))]
 pub fn put_headline<D: Drawing>(
     y: u32,

@@ -1,5 +1,5 @@
 -- All marks lie within the page, and their numbers fit.
-use Rattle.std.proofs.Common.{ℕ, zero, suc, ◌+◌, ◌-◌, ◌*◌, ◌^◌, ◌<◌, ◌≤◌, Bool, List, [], ◌∷◌, ◌++◌, Option, Some, None, codes, eqb, eq-eqb, eqb-true, length, ne_eqb, sym, ap, subst, arith, inl, inr}
+use Rattle.std.proofs.Common.{ℕ, zero, suc, ◌+◌, ◌-◌, ◌*◌, ◌^◌, ◌<◌, ◌≤◌, Bool, true, false, List, [], ◌∷◌, ◌++◌, Option, Some, None, codes, eqb, eq-eqb, eqb-true, length, ne_eqb, sym, ap, subst, arith, inl, inr}
 use Rattle.std.proofs.lemmas.Bool.{cases_Bool, cases_eq, cond-false, cond-true, ltb-false, ltb-true}
 use Rattle.std.specs.Prelude.{◌%◌, ◌/◌, ◌==◌, ℤ, IfSome, filter, nat_lt, slice_get, take}
 use Rattle.std.specs.Fmt.{decimal}
@@ -29,7 +29,7 @@ use Rattle.picture.specs.Layout.{bounds_of, bounds_to, frame_of, lane_base, lane
 use Rattle.page_marks.specs.Places.{area_at, point_at}
 use Rattle.picture.specs.Legend.{arrow_words, band_words, height_words, item_marks, legend_marks, modelled_words, sample_marks, sample_shaft}
 use Rattle.picture.specs.Marked.{IsMarked, all_marked, mark_text}
-use Rattle.picture.specs.MarkedDrawn.{letter_text, letter_x, line_at, line_of, lines_marks, list_height, list_marks, mark_title, marked_before, row_at, row_number, row_of}
+use Rattle.picture.specs.MarkedDrawn.{has_letter, letter_of, letter_text, letter_where, letter_x, line_at, line_of, lines_marks, list_height, list_marks, mark_title, marked_before, row_at, row_number, row_of}
 use Rattle.picture.specs.Messages.{arrows}
 use Rattle.picture.specs.Modelled.{all_modelled_marks, departed, modelled_flights, modelled_line, modelled_marks, modelled_paint, modelled_point, modelled_points, modelled_title}
 use Rattle.picture.specs.MessagesDrawn.{arrow_marks, arrow_shaft, arrow_title, arrows_marks, color_of, down_shaft, event_x, head_points, shaft_marks, shaft_of, up_shaft}
@@ -844,14 +844,15 @@ letter-most x before right few = elim (cases_Bool (nat_lt x 9900)) [
   | inr unmet ↦ subst (λ (n : ℕ). n ≤ 17800) (sym (cond-false (nat_lt x 9900) (x + 180 * before) (x - 180 * before) unmet)) (omega arith)
 ]
 
-good-line-at : (lanes x at : ℕ) (letter title : List ℕ) → lanes ≤ 16 → x ≤ 17800 → at ≤ 17800 → AllByRecursion (Good lanes) (line_at lanes x at letter title)
-good-line-at lanes x at letter title few right beside = (
-  good-line lanes x 1500 x (plot_bottom lanes) (dashed_paint note 30 dashes.Short) title (omega arith) few (omega arith) (omega arith) (omega arith) (omega arith),
-  (
-    good-halo lanes at 1440 240 anchors.Middle weights.Regular letter title (omega arith) few (omega arith) (omega arith),
-    (good-words lanes at 1440 240 anchors.Middle weights.Regular letter title (omega arith) few (omega arith) (omega arith), tt),
-  ),
+good-line-at : (lanes x : ℕ) (title : List ℕ) → lanes ≤ 16 → x ≤ 17800 → AllByRecursion (Good lanes) (line_at lanes x title)
+good-line-at lanes x title few right = (good-line lanes x 1500 x (plot_bottom lanes) (dashed_paint note 30 dashes.Short) title (omega arith) few (omega arith) (omega arith) (omega arith) (omega arith), tt)
+
+good-letter : (lanes at : ℕ) (there : Bool) (letter title : List ℕ) → lanes ≤ 16 → at ≤ 17800 → AllByRecursion (Good lanes) (letter_where there at letter title)
+good-letter lanes at true letter title few beside = (
+  good-halo lanes at 1440 240 anchors.Middle weights.Regular letter title (omega arith) few (omega arith) (omega arith),
+  (good-words lanes at 1440 240 anchors.Middle weights.Regular letter title (omega arith) few (omega arith) (omega arith), tt),
 )
+good-letter lanes at false letter title few beside = tt
 
 good-marked : (it : LabelWords) (cycles lanes : ℕ) (marked : Marked) → AreLabels it → lanes ≤ 16 → IsMarked it cycles marked → AllByRecursion (Good lanes) (line_of it cycles lanes marked)
 unfolding line_of
@@ -863,7 +864,11 @@ good-marked it cycles lanes marked labels few is =
     let x = begin_of cycles marked.cycle in
     let right = begins-within cycles marked.cycle (omega arith) (omega arith) in
     let before = count-most it marked.cycle marked.cycle marked.place in
-    good-line-at lanes x (letter_x x (marked_before it marked)) (letter_text marked.place) (mark_title it marked) few right (letter-most x (marked_before it marked) right (omega (arith, before)))
+    let title = mark_title it marked in
+    let at = letter_of it cycles marked in
+    let shown = has_letter it cycles marked in
+    all-append (Good lanes) (line_at lanes x title) (letter_where shown at (letter_text marked.place) title) (good-line-at lanes x title few right)
+    (good-letter lanes at shown (letter_text marked.place) title few (letter-most x (marked_before it marked) right (omega (arith, before))))
 
 good-lines : (it : LabelWords) (cycles lanes : ℕ) → AreLabels it → lanes ≤ 16 → AllByRecursion (Good lanes) (lines_marks it cycles lanes)
 good-lines it cycles lanes labels few =

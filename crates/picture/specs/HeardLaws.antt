@@ -32,8 +32,8 @@ pub record AreReported (journal : List Entry) : Type 0 where
   pub call_is : (cycle own : ℕ) (call : Call) → call_in journal cycle own ≡ Some call → IsReported journal cycle own call
   pub silent : (cycle own : ℕ) (cells : Cells) → commit_cells journal own cycle ≡ Some cells → call_in journal cycle own ≡ None → phrase_text (aural_of (shown_in journal own (cycle - 1)) (composite_of cells)) ≡ phrase_text Silent
 
--- A line tells of an aircraft's call of the cycle. Of up to 4 aircraft it stands for this call alone. Of more no aircraft
--- of lower index has an equal call in the cycle, and the line stands for all equal ones.
+-- A line tells of an aircraft's call of the cycle. Of up to 4 aircraft it stands for this call alone. Of more no
+-- aircraft of lower index has an equal call in the cycle, and the line stands for all equal ones.
 pub record IsLineOf (journal : List Entry) (count cycle own : ℕ) (line : CallLine) : Type 0 where
   pub call_is : call_in journal cycle own ≡ Some line.call
   pub alone : count ≤ 4 → line.calls ≡ 1

@@ -22,7 +22,7 @@ use Rattle.journal_reader.specs.Reading.{read_of}
 use Rattle.picture.specs.Layout.{page_bounds}
 use Rattle.picture.specs.Messages.{arrows}
 use Rattle.picture.specs.Marked.{IsMarked, mark_cycle}
-use Rattle.picture.specs.MarkedDrawn.{letter_of}
+use Rattle.picture.specs.MarkedDrawn.{has_letter, letter_of}
 use Rattle.picture.specs.declared.marked.Marked.{Marked}
 use Rattle.picture.specs.declared.messages_read.Arrow.{Arrow}
 use Rattle.picture.specs.declared.mishaps.SentRow.{SentRow}
@@ -133,12 +133,13 @@ AreBeside one other = (one + 180 ≤ other) ⊎ (other + 180 ≤ one)
 
 -- Each mark that is drawn stands in the list, and has the cycle that its word tells, which is one of the run. They come
 -- in the order of the list, and each mark of the list with such a cycle is exactly one of them. Letters of one cycle
--- stand beside each other.
+-- stand beside each other, and a letter that is drawn stands beside those of all earlier marks.
 pub record AreMarked (it : LabelWords) (cycles : ℕ) (marks : List Marked) : Type 0 where
   pub each : AllByRecursion (IsMarked it cycles) marks
   pub in_order : ArePlaced 0 marks
   pub once : (place : ℕ) → place < length it.marks → 1 ≤ mark_cycle it place → mark_cycle it place ≤ cycles → length (filter (is_at place) marks) ≡ 1
   pub apart : (one other : Marked) → IsMarked it cycles one → IsMarked it cycles other → length it.marks ≤ 26 → one.cycle ≡ other.cycle → one.place < other.place → AreBeside (letter_of it cycles one) (letter_of it cycles other)
+  pub drawn : (one other : Marked) → IsMarked it cycles one → one.place < other.place → has_letter it cycles other ≡ true → AreBeside (letter_of it cycles one) (letter_of it cycles other)
 
 -- All marks lie within the page, and the text is well formed.
 pub record IsSound (it : LabelWords) (e : Parts) (journal : List Entry) : Type 0 where

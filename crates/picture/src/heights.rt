@@ -207,8 +207,8 @@ pub(crate) fn altitude_y(axis: Span, height: i64) -> u32
     COURSE_BOTTOM - scale.along(height)
 }
 
-/// A law: the axis of altitudes holds the altitude of each aircraft in each cycle, as planned and, of up to 8 aircraft, as
-/// modelled.
+/// A law: the axis of altitudes holds the altitude of each aircraft in each cycle, as planned and, of up to 8 aircraft,
+/// as modelled.
 pub(crate) fn axis_law(state: &AirState)
     ensures planned { HoldsPlanned (axis_of state.now.encounter state.now.journal) state.now.encounter }
     ensures modelled { length state.now.encounter.crafts ≤ 8 → HoldsModelled (axis_of state.now.encounter state.now.journal) state.now.encounter state.now.journal }

@@ -39,7 +39,7 @@ pub fn mishaps_law()
 {}
 
 /// A law: of the marks of the labels exactly those are drawn whose cycle is one of the run, each once and in the order
-/// of the list. Letters of one cycle don't hide each other.
+/// of the list. Letters that are drawn don't hide each other.
 pub fn marks_law()
     ensures { (it : LabelWords) (cycles : ℕ) → AreMarked it cycles (all_marked it cycles) }
 {}

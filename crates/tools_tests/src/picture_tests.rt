@@ -202,12 +202,12 @@ fn reversal(alloc: Global) -> Result<Page, AllocError> {
     Ok(page)
 }
 
-// The same with a clock, a name and five marks in the run. They make the page higher by 2,000.
+// The same with a clock, a name and seven marks in the run. They make the page higher by 2,800.
 fn labelled_reversal(alloc: Global) -> Result<Page, AllocError> {
-    let mut page = Page::with_list(alloc, 2000);
+    let mut page = Page::with_list(alloc, 2800);
     add_head(
         &mut page,
-        1443,
+        1483,
         &Head {
             closest: "closest as planned: AB-12 and 400B02, 00:00:20; the run ends there",
             ..REVERSAL
@@ -298,6 +298,27 @@ fn draws_seconds_plan_and_calls(rt: HostRuntime) -> Result<(), Fail> {
             further::ONE_CYCLE.as_bytes()
         )
     );
+    Ok(())
+}
+
+// Three aircraft. The third one flies from above the second one to above the first one.
+fn crossing(alloc: Global) -> Result<Encounter, Fail>
+    ensures { IfOk result IsInside }
+{
+    let crafts = [
+        aircraft(0x40_0A01, 0, 35_000)?,
+        aircraft(0x40_0B02, 3_040, 37_000)?,
+        aircraft(0x40_0C03, 3_040, 39_000)?,
+    ];
+    let legs = [leg(2, 1, -760, 0)];
+    encounter(alloc, 5, None, &crafts, &legs, &[], &[])
+}
+
+#[test]
+fn keeps_names_apart(rt: HostRuntime) -> Result<(), Fail> {
+    let alloc = rt.alloc();
+    let text = pictured(alloc, &crossing(alloc)?)?;
+    assert!(rt; stands_in(text.as_slice(), further::PLACED.as_bytes()));
     Ok(())
 }
 

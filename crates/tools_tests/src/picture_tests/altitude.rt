@@ -103,8 +103,8 @@ struct Modelled {
     title: &'static str,
 }
 
-// The advice up has a delay of 10 half-seconds, and the one down of 5. So the rate changes in the sixth half-second from
-// cycle 28 on, by 5,632/1024 ft/s: in cycle 31 it is 2.75 ft lower.
+// The advice up has a delay of 10 half-seconds, and the one down of 5. So the rate changes in the sixth half-second
+// from cycle 28 on, by 5,632/1024 ft/s: in cycle 31 it is 2.75 ft lower.
 const DESCENDING: [u32; 2] = [3100, 3109];
 
 // It is turned before each delay is over, and doesn't climb.

@@ -14,8 +14,8 @@ const PATTERN: &str =
 <clipPath id=\"window\">
 ";
 
-// What the head says: what is drawn, how many messages were sent, when the nearest pair is nearest, and how far apart it
-// is then.
+// What the head says: what is drawn, how many messages were sent, when the nearest pair is nearest, and how far apart
+// it is then.
 #[derive(Clone, Copy)]
 pub struct Head {
     pub title: &'static str,

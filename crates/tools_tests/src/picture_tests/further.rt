@@ -74,3 +74,13 @@ pub const SECOND: &str = "what the crews heard
 400A01
 400B02
 </svg>";
+
+// Three aircraft of which the third one ends where the first one is. So its name stands at its start. The box of the
+// plan shows 6,808 ft to the east of -1,884, and 5,106 ft to the north of -2,553. The plan begins at 18930.
+pub const PLACED: &str = "<text x=\"2733\" y=\"22330\" font-size=\"240\" fill=\"#222222\">
+400A01
+<text x=\"6306\" y=\"22690\" font-size=\"240\" fill=\"#222222\">
+400B02
+<text x=\"6306\" y=\"22330\" font-size=\"240\" fill=\"#222222\">
+400C03
+what the crews heard";
