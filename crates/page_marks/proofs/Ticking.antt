@@ -1,5 +1,5 @@
 -- Where the ticks, the frame and the dots of a panel lie.
-use Rattle.std.proofs.Common.{◌≡◌, ℕ, ◌+◌, ◌-◌, ◌<◌, ◌≤◌, ◌^◌, List, [], ◌∷◌, Option, sym, subst, arith, inl, inr}
+use Rattle.std.proofs.Common.{ℕ, ◌+◌, ◌-◌, ◌<◌, ◌≤◌, List, [], Option, sym, subst, arith, inl, inr}
 use Rattle.std.proofs.lemmas.Bool.{cases_Bool, cond-false, cond-true}
 use Rattle.std.specs.List.{AllByRecursion}
 use Rattle.page_marks.proofs.Bounded.{AreSmall, Good, IsPlace, all-range, good-box, good-circle, good-line, good-words}

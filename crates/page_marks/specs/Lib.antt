@@ -3,3 +3,4 @@ pub mod Paints
 pub mod Within
 pub mod Ticks
 pub mod Frame
+pub mod Words

@@ -22,4 +22,4 @@ pub use paints::{
 pub use places::{area_at, point_at};
 pub use tick_place::TickPlace;
 pub use ticks::{put_time_ticks, put_value_tick};
-pub use words::add_words;
+pub use words::{add_words, when_text};

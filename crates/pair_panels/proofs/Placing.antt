@@ -1,10 +1,9 @@
 -- Where the marks of a panel stand.
-use Rattle.std.proofs.Common.{◌≡◌, ℕ, ◌+◌, ◌-◌, ◌*◌, ◌<◌, ◌≤◌, List, [], ◌∷◌, None, pos, ◌-ℤ◌, unsigned_abs, refl, sym, ap, ◌∙◌, subst, arith, inl, inr}
+use Rattle.std.proofs.Common.{◌≡◌, ℕ, ◌+◌, ◌-◌, ◌*◌, ◌<◌, ◌≤◌, List, [], ◌∷◌, pos, ◌-ℤ◌, unsigned_abs, refl, sym, ap, ◌∙◌, subst, arith, inl, inr}
 use Rattle.std.proofs.lemmas.Bool.{cases_Bool, cond-false, cond-true}
 use Rattle.std.proofs.lemmas.Int.{ints}
 use Rattle.std.proofs.Math.Nat.{add-mul, mul-le-mul_right}
 use Rattle.std.specs.Prelude.{◌==◌}
-use Rattle.std.specs.Fmt.{decimal}
 use Rattle.std.specs.List.{AllByRecursion}
 use Rattle.acas_base.specs.Encounter.{Parts}
 use Rattle.labels.specs.Labels.{LabelWords}
@@ -209,7 +208,7 @@ are-within top e labels distance pair most is =
     let all = holds-all e distance pair in
     let bounds = bounds_from top in
     let heading = heading_of e labels distance pair in
-    let closest = closest_of e distance pair in
+    let closest = closest_of e labels distance pair in
     let value = distance_in e distance pair pair.cycle in
     let shown = shows top value ticks some (all.each pair.cycle is.begun is.in_run) in
     let begun = is.begun in

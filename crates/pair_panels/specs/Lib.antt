@@ -1,4 +1,5 @@
 pub mod Nearest
 pub mod Distances
 pub mod Panel
+pub mod Headline
 pub mod Laws

@@ -8,6 +8,7 @@ use Rattle.page_marks.specs.Frame.{dot_mark, frame_marks}
 use Rattle.page_marks.specs.Paints.{dashed_paint, ink, letters, line_paint}
 use Rattle.page_marks.specs.Places.{point_at}
 use Rattle.page_marks.specs.Ticks.{time_ticks, value_tick_at}
+use Rattle.page_marks.specs.Words.{when_text}
 use Rattle.page_marks.specs.declared.tick_place.TickPlace.{TickPlace}
 use Rattle.pair_panels.specs.Distances.{aim_of, distance_in, end_of, ticks_of}
 use Rattle.pair_panels.specs.declared.distance.Distance.{Distance}
@@ -34,12 +35,12 @@ distance_name Vertical = codes "vertical distance"
 unfoldable pub heading_text : List ℕ → List ℕ → Distance → List ℕ
 heading_text one other distance = one ++ codes " and " ++ other ++ codes ": " ++ distance_name distance
 
--- What a distance is in a cycle.
-unfoldable pub value_text : Distance → ℕ → ℕ → List ℕ
-value_text distance cycle value = codes "cycle " ++ decimal cycle ++ codes ", " ++ distance_name distance ++ codes " " ++ decimal value ++ codes " ft"
+unfoldable pub value_text : Distance → ℕ → List ℕ
+value_text distance value = distance_name distance ++ codes " " ++ decimal value ++ codes " ft"
 
-unfoldable pub closest_text : Distance → ℕ → ℕ → List ℕ
-closest_text distance cycle value = codes "closest approach: " ++ value_text distance cycle value
+-- When they are nearest, and what a distance is then.
+unfoldable pub closest_text : Distance → List ℕ → ℕ → List ℕ
+closest_text distance when value = codes "closest approach: " ++ when ++ codes ", " ++ value_text distance value
 
 unfoldable pub aim_text : ℕ → List ℕ
 aim_text aim = codes "ALIM " ++ decimal aim ++ codes " ft"
@@ -129,17 +130,17 @@ called e labels index = name_of labels (address_of e index)
 abbrev pub heading_of : Parts → LabelWords → Distance → NearPair → List ℕ
 heading_of e labels distance pair = heading_text (called e labels pair.one) (called e labels pair.other) distance
 
-abbrev pub closest_of : Parts → Distance → NearPair → List ℕ
-closest_of e distance pair = closest_text distance pair.cycle (distance_in e distance pair pair.cycle)
+abbrev pub closest_of : Parts → LabelWords → Distance → NearPair → List ℕ
+closest_of e labels distance pair = closest_text distance (when_text labels.start pair.cycle) (distance_in e distance pair pair.cycle)
 
 -- All marks of a panel, with given ticks.
 abbrev pub plot_marks : ℕ → Parts → LabelWords → Distance → NearPair → Ticks → List Mark
 plot_marks top e labels distance pair ticks =
     value_ticks top distance ticks
     ++ (time_ticks e.cycles labels.start (tick_place top)
-    ++ (frame_marks top plot_height (heading_of e labels distance pair) (closest_of e distance pair)
+    ++ (frame_marks top plot_height (heading_of e labels distance pair) (closest_of e labels distance pair)
     ++ (aim_marks top ticks (aim_of e distance pair)
-    ++ (closest_marks top (begin_of e.cycles pair.cycle) (value_y top ticks (distance_in e distance pair pair.cycle)) (closest_of e distance pair)
+    ++ (closest_marks top (begin_of e.cycles pair.cycle) (value_y top ticks (distance_in e distance pair pair.cycle)) (closest_of e labels distance pair)
     ++ curve top e distance pair ticks (heading_of e labels distance pair) ∷ []))))
 
 unfoldable pub distance_marks : ℕ → Parts → LabelWords → Distance → NearPair → List Mark

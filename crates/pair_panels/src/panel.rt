@@ -18,7 +18,7 @@ use acas_text::Line;
 use labels::Labels;
 use page_marks::{
     TickPlace, dashed_paint, ink, line_paint, point_at, put_dot, put_frame, put_time_ticks,
-    put_value_tick, put_words,
+    put_value_tick, put_words, when_text,
 };
 use plot_axes::{Scale, TimeAxis};
 use svg_text::{Anchor, Dash, Drawing, Outline, Point, Shape, Weight};
@@ -263,8 +263,8 @@ fn address_of(encounter: &Encounter, index: u8) -> Address
     encounter.crafts()[usize::from(index)].address
 }
 
-// What an aircraft is called.
-fn called(encounter: &Encounter, labels: &Labels<'_>, index: u8) -> Line
+/// What an aircraft is called.
+pub(crate) fn called(encounter: &Encounter, labels: &Labels<'_>, index: u8) -> Line
     requires { index < length encounter.now.crafts }
     ensures text { result ≡ called encounter.now labels.now index }
     ensures short { length result ≤ 8 }
@@ -313,7 +313,7 @@ fn put_plot<D: Drawing>(
     axis_law(encounter, distance, pair);
     let heading = heading_of(encounter, labels, distance, pair);
     let value = distance_in(encounter, distance, pair, pair.cycle);
-    let closest = closest_text(distance, pair.cycle, value);
+    let closest = closest_text(distance, &when_text(time, pair.cycle), value);
     let x = time.begin(pair.cycle);
     put_value_ticks(top, distance, ticks, drawing);
     put_time_ticks(time, tick_place(top), drawing);

@@ -35,31 +35,31 @@ pub(crate) fn heading_text(one: &Line, other: &Line, distance: Distance) -> Line
     line
 }
 
-// Adds what a distance is in a cycle.
+/// Adds what a distance is.
 #[tactic(auto, unfolding(crate::specs::Panel::value_text))]
-fn add_value(line: &mut Line, distance: Distance, cycle: u16, value: u32)
-    requires room { length line.old + 60 ≤ LINE_BYTES }
-    ensures added { line.new ≡ line.old ++ value_text distance cycle value }
-    ensures short { length line.new ≤ length line.old + 60 }
+pub(crate) fn add_value(line: &mut Line, distance: Distance, value: u32)
+    requires room { length line.old + 31 ≤ LINE_BYTES }
+    ensures added { line.new ≡ line.old ++ value_text distance value }
+    ensures short { length line.new ≤ length line.old + 31 }
 {
-    line.text("cycle ");
-    line.u16(cycle);
-    line.text(", ");
     line.text(distance_name(distance));
     line.text(" ");
     line.u32(value);
     line.text(" ft");
 }
 
-/// Where two aircraft are nearest.
+/// When two aircraft are nearest, and what a distance is then.
 #[tactic(auto, unfolding(crate::specs::Panel::closest_text))]
-pub(crate) fn closest_text(distance: Distance, cycle: u16, value: u32) -> Line
-    ensures text { result ≡ closest_text distance cycle value }
+pub(crate) fn closest_text(distance: Distance, when: &Line, value: u32) -> Line
+    requires { length when.now ≤ 16 }
+    ensures text { result ≡ closest_text distance when.now value }
     ensures short { length result ≤ LABEL_BYTES }
 {
     let mut line = Line::new();
     line.text("closest approach: ");
-    add_value(&mut line, distance, cycle, value);
+    add_words(&mut line, when);
+    line.text(", ");
+    add_value(&mut line, distance, value);
     line
 }
 

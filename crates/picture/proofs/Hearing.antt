@@ -19,12 +19,14 @@ use Rattle.page_marks.proofs.Bounded.{AreSmall, Good, IsPlace, all-append, good-
 use Rattle.page_marks.specs.Paints.{box_marks}
 use Rattle.page_marks.specs.Places.{area_at}
 use Rattle.picture.specs.Bars.{advised}
-use Rattle.picture.specs.Calls.{call_from, call_in, call_where, call_with, calls}
+use Rattle.picture.specs.Calls.{call_from, call_in, call_where, call_with}
+use Rattle.picture.specs.Gathered.{call_lines}
 use Rattle.plot_axes.specs.Time.{label_of}
-use Rattle.picture.specs.Heard.{call_title, heading_marks, heard_marks, line_marks, line_y, lines, more_text, quoted, rest_marks, sense_marks, words_at, words_marks}
+use Rattle.picture.specs.Heard.{call_title, heading_marks, heard_marks, line_marks, line_y, lines, more_text, rest_marks, said_text, sense_marks, words_at, words_marks}
 use Rattle.picture.specs.HeardLaws.{AreInList, AreReported, IsReported, list_from}
 use Rattle.picture.specs.Shown.{shown_in}
 use Rattle.picture.specs.declared.call.Call.{Call}
+use Rattle.picture.specs.declared.gathered.CallLine.{CallLine}
 use Rattle.svg_text.specs.Marks.{Mark}
 use Rattle.svg_text.specs.declared.shapes.Anchor.TheVariants as anchors
 use Rattle.svg_text.specs.declared.shapes.Weight.TheVariants as weights
@@ -120,16 +122,17 @@ good-sense top y shown title most above below =
           (good-boxes (list_from top) 8800 (y - 170) 160 190 (advised shown) title (small top most) (place top 8800 (y - 170) (omega arith) (omega arith) (omega arith) (omega arith)) (place top (8800 + 160) (y - 170 + 190) (omega arith) (omega arith) (omega arith) (omega arith)))
     ]
 
-good-line : (top number : ℕ) (e : Parts) (labels : LabelWords) (call : Call) → top ≤ 40000 → number < 22 → AllByRecursion (Good (list_from top)) (line_marks top e labels number call)
+good-line : (top number : ℕ) (e : Parts) (labels : LabelWords) (it : CallLine) → top ≤ 40000 → number < 22 → AllByRecursion (Good (list_from top)) (line_marks top e labels number it)
 unfolding line_marks
-good-line top number e labels call most few =
+good-line top number e labels it most few =
+    let call = it.call in
     let bounds = list_from top in
     let P = Good bounds in
     let y = line_y top number in
     let address = address_of e call.own in
     let name = name_of labels address in
     let label = label_of labels.start call.cycle in
-    let phrase = quoted (phrase_text call.heard) in
+    let phrase = said_text (phrase_text call.heard) it.calls in
     let one = good-words bounds 10150 y 240 anchors.End weights.Regular label [] (omega arith) (small top most) (place top 10150 y (omega arith) (omega arith) (omega arith) (omega arith)) in
     let two = good-words bounds 10300 y 240 anchors.Start weights.Bold name [] (omega arith) (small top most) (place top 10300 y (omega arith) (omega arith) (omega arith) (omega arith)) in
     let three = good-words bounds 11700 y 240 anchors.Start weights.Regular phrase [] (omega arith) (small top most) (place top 11700 y (omega arith) (omega arith) (omega arith) (omega arith)) in
@@ -137,7 +140,7 @@ good-line top number e labels call most few =
     (good-sense top y call.shown (call_title address call.cycle call.shown) most (omega arith) (omega arith))
     (one, (two, (three, tt)))
 
-good-lines : (top : ℕ) (e : Parts) (labels : LabelWords) (number room : ℕ) (xs : List Call) → top ≤ 40000 → number + room ≤ 22 → AllByRecursion (Good (list_from top)) (lines top e labels number (take room xs))
+good-lines : (top : ℕ) (e : Parts) (labels : LabelWords) (number room : ℕ) (xs : List CallLine) → top ≤ 40000 → number + room ≤ 22 → AllByRecursion (Good (list_from top)) (lines top e labels number (take room xs))
 good-lines top e labels number zero xs most few = tt
 good-lines top e labels number (suc room) [] most few = tt
 good-lines top e labels number (suc room) (call ∷ xs) most few =
@@ -172,7 +175,7 @@ pub are-in-list : (top : ℕ) (e : Parts) (journal : List Entry) (labels : Label
 unfolding heard_marks
 are-in-list top e journal labels most =
     let P = Good (list_from top) in
-    let all = calls e journal in
+    let all = call_lines e journal in
     let shown = lines top e labels 0 (take 22 all) in
     let rest = rest_marks top (length all) in
     all-append P (heading_marks top) (shown ++ rest) (good-heading top most)

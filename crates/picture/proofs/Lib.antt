@@ -1,4 +1,5 @@
 pub mod Counting
+pub mod Departing
 pub mod Barring
 pub mod Axis
 pub mod Mapping
@@ -8,4 +9,5 @@ pub mod Befallen
 pub mod Marking
 pub mod Placing
 pub mod Listing
+pub mod Gathering
 pub mod Hearing

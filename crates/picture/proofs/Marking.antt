@@ -1,5 +1,5 @@
 -- Which marks of the labels are drawn, and how many.
-use Rattle.std.proofs.Common.{◌≡◌, ◌≢◌, ℕ, zero, suc, ◌+◌, ◌-◌, ◌*◌, ◌<◌, ◌≤◌, Bool, true, false, eqb, List, [], ◌∷◌, ◌++◌, Option, Some, None, add-one, eq-eqb, length, length-append, ne_eqb, refl, sym, ap, ◌∙◌, subst, arith, inl, inr}
+use Rattle.std.proofs.Common.{◌≡◌, ◌≢◌, ℕ, zero, suc, ◌+◌, ◌-◌, ◌*◌, ◌<◌, ◌≤◌, Bool, true, false, not, ◌||◌, eqb, List, [], ◌∷◌, ◌++◌, Option, Some, None, add-one, eq-eqb, length, length-append, ne_eqb, refl, sym, ap, ◌∙◌, subst, arith, inl, inr}
 use Rattle.std.proofs.lemmas.Bool.{and_from, and_parts, cases_Bool, cases_eq, cond-false, cond-true, le-leb, leb-true, ltb-false}
 use Rattle.std.proofs.lemmas.Grind.{flat_map-append}
 use Rattle.std.proofs.lemmas.List.Elements.{filter-append}
@@ -9,7 +9,7 @@ use Rattle.labels.specs.Labels.{LabelWords}
 use Rattle.page_marks.proofs.Bounded.{all-append}
 use Rattle.picture.specs.Laws.{AreBeside, AreMarked, ArePlaced, is_at}
 use Rattle.picture.specs.Marked.{IsMarked, all_marked, count_among, counted, is_from, mark_cycle, marked, marked_among, marked_at}
-use Rattle.picture.specs.MarkedDrawn.{letter_of, letter_x}
+use Rattle.picture.specs.MarkedDrawn.{are_beside, has_letter, is_over, is_over_some, letter_of, letter_x}
 use Rattle.picture.specs.declared.marked.Marked.{Marked}
 use Rattle.plot_axes.specs.Time.{begin_of}
 use Rattle.svg_text.specs.Marks.{Mark}
@@ -215,6 +215,43 @@ are-beside it cycles one other is also few same before =
     subst (λ (k : ℕ). AreBeside (letter_of it cycles one) (letter_x (begin_of cycles k) (count_among it k k other.place))) same
     (letters-apart (begin_of cycles c) (count_among it c c one.place) (count_among it c c other.place) (omega (arith, most, there, few)) order)
 
+-- A letter that lies over none of the first marks stands beside each of them.
+both-false : (a b : Bool) → a || b ≡ false → (a ≡ false) × (b ≡ false)
+both-false true b h = absurd (cc h)
+both-false false b h = (refl, h)
+
+not-true : (b : Bool) → not b ≡ true → b ≡ false
+not-true true h = absurd (cc h)
+not-true false h = refl
+
+not-false : (b : Bool) → not b ≡ false → b ≡ true
+not-false true h = refl
+not-false false h = absurd (cc h)
+
+either-beside : (one other : ℕ) → are_beside one other ≡ true → AreBeside one other
+either-beside one other h = elim (cases_Bool (nat_le (one + 180) other)) [
+  | inl met ↦ inl (leb-true (one + 180) other met)
+  | inr unmet ↦ inr (leb-true (other + 180) one (sym (ap (λ (b : Bool). b || nat_le (other + 180) one) unmet) ∙ h))
+]
+
+stands-beside : (it : LabelWords) (cycles at n : ℕ) (one : Marked) → is_over_some it cycles at n ≡ false → marked_at it cycles one.place ≡ Some one → one.place < n → AreBeside (letter_of it cycles one) at
+stands-beside it cycles at zero one none there within = absurd (omega arith)
+stands-beside it cycles at (suc n) one none there within =
+    let both = both-false (is_over_some it cycles at n) (is_over it cycles at (marked_at it cycles n)) none in
+    elim (cases_eq one.place n) [
+      | inl same ↦
+          (let here : marked_at it cycles n ≡ Some one = ap (marked_at it cycles) (sym same) ∙ there in
+          let apart : is_over it cycles at (Some one) ≡ false = ap (is_over it cycles at) (sym here) ∙ both.1 in
+          either-beside (letter_of it cycles one) at (not-false (are_beside (letter_of it cycles one) at) apart))
+      | inr other ↦ stands-beside it cycles at n one both.0 there (omega (arith, other))
+    ]
+
+drawn-beside : (it : LabelWords) (cycles : ℕ) (one other : Marked) → IsMarked it cycles one → one.place < other.place → has_letter it cycles other ≡ true → AreBeside (letter_of it cycles one) (letter_of it cycles other)
+drawn-beside it cycles one other is before there =
+    let at = letter_of it cycles other in
+    let found : marked_at it cycles one.place ≡ Some one = marked-is it cycles one.place (is-counted it cycles one is) ∙ ap (λ (k : ℕ). Some (marked one.place k)) (sym is.cycle) in
+    stands-beside it cycles at other.place one (not-true (is_over_some it cycles at other.place) there) found before
+
 pub are-marked : (it : LabelWords) (cycles : ℕ) → AreMarked it cycles (all_marked it cycles)
 are-marked it cycles = record {
   each = each-marked it cycles (length it.marks) (omega arith);
@@ -222,4 +259,5 @@ are-marked it cycles = record {
   once = λ place there begun run. once-then it cycles place (length it.marks) there
       (and_from (nat_le 1 (mark_cycle it place)) (nat_le (mark_cycle it place) cycles) (le-leb 1 (mark_cycle it place) begun) (le-leb (mark_cycle it place) cycles run));
   apart = λ one other is also few same before. are-beside it cycles one other is also few same before;
+  drawn = λ one other is before there. drawn-beside it cycles one other is before there;
 }

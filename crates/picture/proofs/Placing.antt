@@ -1,10 +1,10 @@
 -- All marks lie within the page, and their numbers fit.
-use Rattle.std.proofs.Common.{ℕ, zero, suc, ◌+◌, ◌-◌, ◌*◌, ◌^◌, ◌<◌, ◌≤◌, Bool, List, [], ◌∷◌, ◌++◌, Option, Some, None, codes, eqb, eq-eqb, eqb-true, length, ne_eqb, sym, ap, subst, arith, inl, inr}
+use Rattle.std.proofs.Common.{ℕ, zero, suc, ◌+◌, ◌-◌, ◌*◌, ◌^◌, ◌<◌, ◌≤◌, Bool, true, false, List, [], ◌∷◌, ◌++◌, Option, Some, None, codes, eqb, eq-eqb, eqb-true, length, ne_eqb, sym, ap, subst, arith, inl, inr}
 use Rattle.std.proofs.lemmas.Bool.{cases_Bool, cases_eq, cond-false, cond-true, ltb-false, ltb-true}
 use Rattle.std.specs.Prelude.{◌%◌, ◌/◌, ◌==◌, ℤ, IfSome, filter, nat_lt, slice_get, take}
 use Rattle.std.specs.Fmt.{decimal}
 use Rattle.std.specs.Option.{option_map_or}
-use Rattle.std.specs.List.{AllByRecursion, flat_map, range_with_len}
+use Rattle.std.specs.List.{AllByRecursion}
 use Rattle.acas_base.specs.Encounter.{IsEncounter, Parts, is_active_kind}
 use Rattle.acas_base.specs.declared.craft.CraftSpec.{CraftSpec}
 use Rattle.acas_base.specs.declared.entry.Entry.{Entry}
@@ -22,15 +22,16 @@ use Rattle.labels.specs.Labels.{AreLabels, LabelWords, name_of}
 use Rattle.picture.specs.Bars.{advised, bar_area, bar_marks, bar_height, bar_of, bar_title, bars, craft_marks, has_room, lane_head, lane_marks, lanes_marks, marks_of_craft, row_marks, titled_bar, word_marks, word_pair, word_size, word_x, word_y}
 use Rattle.picture.specs.Bands.{band, band_depth, band_of_row, bands_marks, bands_of, craft_bands, edge_point, far_edge, has_line, last_area, last_stripe, last_top, last_width, near_edge, reach_end, reach_length, row_band, shifted, sided_band, stripe, stripe_paint}
 use Rattle.picture.specs.Onsets.{circle_mark, corners, diamond, downward, is_onset, onset_mark, onset_marks, onset_paint, upward}
-use Rattle.picture.specs.Altitude.{altitude_marks, altitude_y, axis_marks, course_line, course_marks, course_paint, course_point, course_points, course_y, courses, height_text, name_x}
-use Rattle.picture.specs.Heights.{axis_of, height_in}
-use Rattle.picture.specs.Head.{description, head_marks, sent_in, sent_text, title_text}
+use Rattle.picture.specs.Altitude.{altitude_marks, altitude_with, axis_marks, course_line, course_marks, course_paint, course_point, course_points, course_y, courses, height_text, name_x}
+use Rattle.picture.specs.Heights.{HoldsPlanned, altitude_y, axis_of, has_modelled, height_in, modelled_in}
+use Rattle.picture.specs.Head.{description, head_marks, nearest_marks, sent_in, sent_text, title_marks, title_text}
 use Rattle.picture.specs.Layout.{bounds_of, bounds_to, frame_of, lane_base, lane_of, page_bounds, page_height, panels_top, plot_bottom, plot_height}
 use Rattle.page_marks.specs.Places.{area_at, point_at}
-use Rattle.picture.specs.Legend.{arrow_words, height_words, item_marks, legend_marks, sample_marks, sample_shaft}
+use Rattle.picture.specs.Legend.{arrow_words, band_words, height_words, item_marks, legend_marks, modelled_words, sample_marks, sample_shaft}
 use Rattle.picture.specs.Marked.{IsMarked, all_marked, mark_text}
-use Rattle.picture.specs.MarkedDrawn.{letter_text, letter_x, line_at, line_of, lines_marks, list_height, list_marks, mark_title, marked_before, row_at, row_number, row_of}
+use Rattle.picture.specs.MarkedDrawn.{has_letter, letter_of, letter_text, letter_where, letter_x, line_at, line_of, lines_marks, list_height, list_marks, mark_title, marked_before, row_at, row_number, row_of}
 use Rattle.picture.specs.Messages.{arrows}
+use Rattle.picture.specs.Modelled.{all_modelled_marks, departed, modelled_flights, modelled_line, modelled_marks, modelled_paint, modelled_point, modelled_points, modelled_title}
 use Rattle.picture.specs.MessagesDrawn.{arrow_marks, arrow_shaft, arrow_title, arrows_marks, color_of, down_shaft, event_x, head_points, shaft_marks, shaft_of, up_shaft}
 use Rattle.picture.specs.Mishaps.{sent_rows}
 use Rattle.picture.specs.MishapsDrawn.{count_marks, count_words, count_x, cross_at, cross_marks, drawn_row, hollow_marks, lost_y, messages_marks, mishaps_marks, row_shaft, row_title, sign_marks, stroke, third_of}
@@ -46,6 +47,7 @@ use Rattle.page_marks.specs.Ticks.{HoldsTicks, time_ticks}
 use Rattle.page_marks.specs.Within.{AreInside, Bounds, IsMarkWithin, IsWithin}
 use Rattle.pair_panels.proofs.Best.{is-pair, nearest-is}
 use Rattle.pair_panels.proofs.Placing.{are-within}
+use Rattle.pair_panels.specs.Headline.{apart_words, headline_marks, pair_words}
 use Rattle.pair_panels.specs.Laws.{bounds_from}
 use Rattle.pair_panels.specs.Nearest.{IsNearest, IsPair, nearest_pair}
 use Rattle.pair_panels.specs.Panel.{distance_marks}
@@ -76,7 +78,7 @@ use Rattle.picture.specs.declared.side.Side.{Side}
 use Rattle.picture.specs.declared.side.Side.TheVariants.{Above, Below}
 use Rattle.page_marks.specs.declared.paints.Advised.{Advised}
 use Rattle.page_marks.specs.declared.paints.Advised.TheVariants.{Traffic, Up, Down, Both}
-use Rattle.picture.proofs.Axis.{high-enough, holds-all}
+use Rattle.picture.proofs.Axis.{high-enough, holds-planned}
 use Rattle.picture.proofs.Barring.{is-run}
 use Rattle.picture.proofs.Befallen.{IsInRun, rows-in-run}
 use Rattle.picture.proofs.Marking.{count-below, count-most, each-marked, is-counted}
@@ -167,11 +169,22 @@ good-boxes lanes x y width height kind title few right bottom = boxes-to (page_h
 
 -- ---- the head and the axis of time
 
-good-head : (e : Parts) (J : List Entry) (lanes : ℕ) → lanes ≤ 16 → AllByRecursion (Good lanes) (head_marks e J)
-good-head e J lanes few = (
+good-title : (e : Parts) (J : List Entry) (lanes : ℕ) → lanes ≤ 16 → AllByRecursion (Good lanes) (title_marks e J)
+good-title e J lanes few = (
   good-words lanes 400 700 440 anchors.Start weights.Bold (title_text e) [] (omega arith) few (omega arith) (omega arith),
   (good-words lanes 400 1150 280 anchors.Start weights.Regular (sent_text (sent_in J)) [] (omega arith) few (omega arith) (omega arith), tt),
 )
+
+good-nearest : (it : LabelWords) (e : Parts) (pair : Option NearPair) (lanes : ℕ) → lanes ≤ 16 → AllByRecursion (Good lanes) (nearest_marks it e pair)
+unfolding headline_marks
+good-nearest it e None lanes few = tt
+good-nearest it e (Some pair) lanes few = (
+  good-words lanes 4000 1150 240 anchors.Start weights.Regular (pair_words e it pair) [] (omega arith) few (omega arith) (omega arith),
+  (good-words lanes 19600 1150 240 anchors.End weights.Regular (apart_words e pair) [] (omega arith) few (omega arith) (omega arith), tt),
+)
+
+good-head : (it : LabelWords) (e : Parts) (J : List Entry) (pair : Option NearPair) (lanes : ℕ) → lanes ≤ 16 → AllByRecursion (Good lanes) (head_marks it e J pair)
+good-head it e J pair lanes few = all-append (Good lanes) (title_marks e J) (nearest_marks it e pair) (good-title e J lanes few) (good-nearest it e pair lanes few)
 
 good-time : (lanes cycles : ℕ) (start : Option ℕ) → lanes ≤ 16 → AllByRecursion (Good lanes) (time_marks cycles start lanes)
 good-time lanes cycles start few =
@@ -196,16 +209,16 @@ low-enough : (axis : Span) (height : ℤ) → altitude_y axis height ≤ 4700
 unfolding altitude_y
 low-enough axis height = omega arith
 
-y-most : (e : Parts) (own cycle : ℕ) → course_y e own cycle ≤ 4700
+y-most : (axis : Span) (e : Parts) (own cycle : ℕ) → course_y axis e own cycle ≤ 4700
 unfolding course_y
-y-most e own cycle = low-enough (axis_of e) (height_in e own cycle)
+y-most axis e own cycle = low-enough axis (height_in e own cycle)
 
-good-point : (e : Parts) (lanes own cycle : ℕ) → lanes ≤ 16 → 1 ≤ cycle → cycle < 1 + e.cycles → GoodPointTo (page_height lanes) (course_point e own cycle)
+good-point : (axis : Span) (e : Parts) (lanes own cycle : ℕ) → lanes ≤ 16 → 1 ≤ cycle → cycle < 1 + e.cycles → GoodPointTo (page_height lanes) (course_point axis e own cycle)
 unfolding course_point
-good-point e lanes own cycle few first last =
+good-point axis e lanes own cycle few first last =
     let x = begins-within e.cycles cycle (omega arith) (omega arith) in
-    let y = y-most e own cycle in
-    point-to (page_height lanes) (begin_of e.cycles cycle) (course_y e own cycle) (low-page lanes few) (omega (arith, x)) (omega (arith, y))
+    let y = y-most axis e own cycle in
+    point-to (page_height lanes) (begin_of e.cycles cycle) (course_y axis e own cycle) (low-page lanes few) (omega (arith, x)) (omega (arith, y))
 
 x-most : (own : ℕ) → name_x own ≤ 18950
 unfolding name_x
@@ -214,37 +227,37 @@ x-most own = elim (cases_Bool (own % 2 == 0)) [
   | inr unmet ↦ subst (λ (n : ℕ). n ≤ 18950) (sym (cond-false (own % 2 == 0) 17900 18950 unmet)) (omega arith)
 ]
 
-y-least : (e : Parts) (own cycle : ℕ) → own < length e.crafts → 1 ≤ cycle → cycle ≤ e.cycles → 1500 ≤ course_y e own cycle
+y-least : (axis : Span) (e : Parts) → HoldsPlanned axis e → (own cycle : ℕ) → own < length e.crafts → 1 ≤ cycle → cycle ≤ e.cycles → 1500 ≤ course_y axis e own cycle
 unfolding course_y
-y-least e own cycle within first last = high-enough (axis_of e) (height_in e own cycle) (holds-all e own cycle within first last)
+y-least axis e holds own cycle within first last = high-enough axis (height_in e own cycle) (holds own cycle within first last)
 
-good-course-line : (e : Parts) (lanes own : ℕ) (title : List ℕ) → lanes ≤ 16 → own < length e.crafts → AllByRecursion (Good lanes) (course_line e own title)
+good-course-line : (axis : Span) (e : Parts) → HoldsPlanned axis e → (lanes own : ℕ) (title : List ℕ) → lanes ≤ 16 → own < length e.crafts → AllByRecursion (Good lanes) (course_line axis e own title)
 unfolding course_line course_point
-good-course-line e lanes own title few within =
-    let dot = dot_mark ink (course_point e own 1) title in
-    let line = traced outlines.Open (course_points e own) (course_paint own) title in
+good-course-line axis e holds lanes own title few within =
+    let dot = dot_mark ink (course_point axis e own 1) title in
+    let line = traced outlines.Open (course_points axis e own) (course_paint own) title in
     elim (cases_Bool (e.cycles == 1)) [
       | inl met ↦
           (let one = eqb-true e.cycles 1 met in
           let x = begins-within e.cycles 1 (omega arith) (omega arith) in
-          let high = y-least e own 1 within (omega arith) (omega arith) in
-          let low = y-most e own 1 in
+          let high = y-least axis e holds own 1 within (omega arith) (omega arith) in
+          let low = y-most axis e own 1 in
           subst (AllByRecursion (Good lanes)) (sym (cond-true (e.cycles == 1) (dot ∷ []) (line ∷ []) met))
-          (good-dot (bounds_of lanes) (begin_of e.cycles 1) (course_y e own 1) ink title (small (page_height lanes) (low-page lanes few)) (omega arith) (omega (arith, x)) (omega (arith, high)) (omega (arith, low)), tt))
+          (good-dot (bounds_of lanes) (begin_of e.cycles 1) (course_y axis e own 1) ink title (small (page_height lanes) (low-page lanes few)) (omega arith) (omega (arith, x)) (omega (arith, high)) (omega (arith, low)), tt))
       | inr unmet ↦
           subst (AllByRecursion (Good lanes)) (sym (cond-false (e.cycles == 1) (dot ∷ []) (line ∷ []) unmet))
-          (traced-to (page_height lanes) outlines.Open (course_points e own) (course_paint own) title (omega arith) (all-points (GoodPointTo (page_height lanes)) (course_point e own) 1 e.cycles (λ k first last. good-point e lanes own k few first last)), tt)
+          (traced-to (page_height lanes) outlines.Open (course_points axis e own) (course_paint own) title (omega arith) (all-points (GoodPointTo (page_height lanes)) (course_point axis e own) 1 e.cycles (λ k first last. good-point axis e lanes own k few first last)), tt)
     ]
 
-good-course : (it : LabelWords) (e : Parts) (lanes own : ℕ) → lanes ≤ 16 → own < length e.crafts → AllByRecursion (Good lanes) (course_marks it e own)
+good-course : (it : LabelWords) (axis : Span) (e : Parts) → HoldsPlanned axis e → (lanes own : ℕ) → lanes ≤ 16 → own < length e.crafts → AllByRecursion (Good lanes) (course_marks axis it e own)
 unfolding course_marks
-good-course it e lanes own few within =
+good-course it axis e holds lanes own few within =
     let x = x-most own in
-    let y = y-most e own e.cycles in
+    let y = y-most axis e own e.cycles in
     let name = name_of it (address_of e own) in
-    all-append (Good lanes) (course_line e own (hex 6 (address_of e own))) (worded (letters (point_at (name_x own) (course_y e own e.cycles + 80)) 240 anchors.Start weights.Regular) name [] ∷ [])
-    (good-course-line e lanes own (hex 6 (address_of e own)) few within)
-    (good-words lanes (name_x own) (course_y e own e.cycles + 80) 240 anchors.Start weights.Regular name [] (omega arith) few (omega (arith, x)) (omega (arith, y)), tt)
+    all-append (Good lanes) (course_line axis e own (hex 6 (address_of e own))) (worded (letters (point_at (name_x own) (course_y axis e own e.cycles + 80)) 240 anchors.Start weights.Regular) name [] ∷ [])
+    (good-course-line axis e holds lanes own (hex 6 (address_of e own)) few within)
+    (good-words lanes (name_x own) (course_y axis e own e.cycles + 80) 240 anchors.Start weights.Regular name [] (omega arith) few (omega (arith, x)) (omega (arith, y)), tt)
 
 good-axis : (lanes : ℕ) (axis : Span) → lanes ≤ 16 → AllByRecursion (Good lanes) (axis_marks axis)
 unfolding axis_marks
@@ -254,10 +267,44 @@ good-axis lanes axis few =
     let low = good-words lanes 1880 4700 260 anchors.End weights.Regular (height_text axis.low) [] (omega arith) few (omega arith) (omega arith) in
     (box, (high, (low, tt)))
 
-good-altitude : (it : LabelWords) (e : Parts) (lanes : ℕ) → lanes ≤ 16 → AllByRecursion (Good lanes) (altitude_marks it e)
-good-altitude it e lanes few =
-    all-append (Good lanes) (axis_marks (axis_of e)) (courses it e) (good-axis lanes (axis_of e) few)
-    (all-range (Good lanes) (course_marks it e) 0 (length e.crafts) (λ own first last. good-course it e lanes own few (omega arith)))
+-- A modelled flight.
+modelled-place : (axis : Span) (e : Parts) (J : List Entry) (lanes own cycle : ℕ) → lanes ≤ 16 → 1 ≤ cycle → cycle ≤ e.cycles → GoodPointTo (page_height lanes) (modelled_point axis e J own cycle)
+unfolding modelled_point
+modelled-place axis e J lanes own cycle few first last =
+    let x = begins-within e.cycles cycle (omega arith) (omega arith) in
+    let y = low-enough axis (modelled_in e J own cycle) in
+    point-to (page_height lanes) (begin_of e.cycles cycle) (altitude_y axis (modelled_in e J own cycle)) (low-page lanes few) (omega (arith, x)) (omega (arith, y))
+
+good-modelled-line : (axis : Span) (e : Parts) (J : List Entry) (lanes own : ℕ) (title : List ℕ) (first : Option ℕ) → lanes ≤ 16 → AllByRecursion (Good lanes) (modelled_line axis e J own title first)
+unfolding modelled_points
+good-modelled-line axis e J lanes own title None few = tt
+good-modelled-line axis e J lanes own title (Some first) few =
+    let passed = first - 2 in
+    let points = all-points (GoodPointTo (page_height lanes)) (modelled_point axis e J own) (passed + 1) (e.cycles - passed) (λ k from to. modelled-place axis e J lanes own k few (omega arith) (omega arith)) in
+    (traced-to (page_height lanes) outlines.Open (modelled_points axis e J own passed) modelled_paint title (omega arith) points, tt)
+
+good-modelled : (axis : Span) (e : Parts) (J : List Entry) (lanes own : ℕ) → lanes ≤ 16 → AllByRecursion (Good lanes) (modelled_marks axis e J own)
+unfolding modelled_marks
+good-modelled axis e J lanes own few = good-modelled-line axis e J lanes own (modelled_title (address_of e own)) (departed e J own e.cycles) few
+
+good-all-modelled : (axis : Span) (e : Parts) (J : List Entry) (lanes : ℕ) → lanes ≤ 16 → AllByRecursion (Good lanes) (all_modelled_marks axis e J)
+unfolding all_modelled_marks
+good-all-modelled axis e J lanes few =
+    let P = AllByRecursion (Good lanes) in
+    let marks = modelled_flights axis e J in
+    elim (cases_Bool (has_modelled e)) [
+      | inl met ↦ subst P (sym (cond-true (has_modelled e) marks [] met)) (all-range (Good lanes) (modelled_marks axis e J) 0 (length e.crafts) (λ own first last. good-modelled axis e J lanes own few))
+      | inr unmet ↦ subst P (sym (cond-false (has_modelled e) marks [] unmet)) tt
+    ]
+
+good-altitude-with : (it : LabelWords) (axis : Span) (e : Parts) → HoldsPlanned axis e → (J : List Entry) (lanes : ℕ) → lanes ≤ 16 → AllByRecursion (Good lanes) (altitude_with axis it e J)
+good-altitude-with it axis e holds J lanes few =
+    all-append (Good lanes) (axis_marks axis) _ (good-axis lanes axis few)
+    (all-append (Good lanes) (all_modelled_marks axis e J) (courses axis it e) (good-all-modelled axis e J lanes few)
+    (all-range (Good lanes) (course_marks axis it e) 0 (length e.crafts) (λ own first last. good-course it axis e holds lanes own few (omega arith))))
+
+good-altitude : (it : LabelWords) (e : Parts) (J : List Entry) (lanes : ℕ) → lanes ≤ 16 → AllByRecursion (Good lanes) (altitude_marks it e J)
+good-altitude it e J lanes few = good-altitude-with it (axis_of e J) e (holds-planned e J) J lanes few
 
 -- ---- bands
 
@@ -271,12 +318,12 @@ shifted-most : (side : Side) (depth y : ℕ) → depth ≤ 150 → y ≤ 4700 �
 shifted-most Above depth y deep low = omega arith
 shifted-most Below depth y deep low = omega arith
 
-good-edge : (e : Parts) (lanes own : ℕ) (side : Side) (depth cycle : ℕ) → lanes ≤ 16 → depth ≤ 150 → 1 ≤ e.cycles → cycle ≤ e.cycles → GoodPoint lanes (edge_point e own side depth cycle)
+good-edge : (axis : Span) (e : Parts) (lanes own : ℕ) (side : Side) (depth cycle : ℕ) → lanes ≤ 16 → depth ≤ 150 → 1 ≤ e.cycles → cycle ≤ e.cycles → GoodPoint lanes (edge_point axis e own side depth cycle)
 unfolding edge_point
-good-edge e lanes own side depth cycle few deep some last =
+good-edge axis e lanes own side depth cycle few deep some last =
     let x = begins-within e.cycles cycle some (omega arith) in
-    let y = shifted-most side depth (course_y e own cycle) deep (y-most e own cycle) in
-    a-point lanes (begin_of e.cycles cycle) (shifted side depth (course_y e own cycle)) few (omega (arith, x)) (omega (arith, y))
+    let y = shifted-most side depth (course_y axis e own cycle) deep (y-most axis e own cycle) in
+    a-point lanes (begin_of e.cycles cycle) (shifted side depth (course_y axis e own cycle)) few (omega (arith, x)) (omega (arith, y))
 
 -- A row lies in a run of cycles.
 pub record IsIn (cycles : ℕ) (row : Row) : Type 0 where
@@ -292,22 +339,22 @@ reach-most cycles row = elim (cases_Bool (nat_lt row.last cycles)) [
   | inr unmet ↦ subst (λ (n : ℕ). n ≤ cycles) (sym (cond-false (nat_lt row.last cycles) (row.last + 1) cycles unmet)) (omega arith)
 ]
 
-good-near : (e : Parts) (lanes own : ℕ) (row : Row) → lanes ≤ 16 → IsIn e.cycles row → AllByRecursion (GoodPoint lanes) (near_edge e own row)
+good-near : (axis : Span) (e : Parts) (lanes own : ℕ) (row : Row) → lanes ≤ 16 → IsIn e.cycles row → AllByRecursion (GoodPoint lanes) (near_edge axis e own row)
 unfolding near_edge
-good-near e lanes own row few it =
+good-near axis e lanes own row few it =
     let begun = it.begun in
     let end = reach-most e.cycles row in
-    all-points (GoodPoint lanes) (course_point e own) row.first (reach_length e.cycles row) (λ k first last. good-point e lanes own k few (omega arith) (omega arith))
+    all-points (GoodPoint lanes) (course_point axis e own) row.first (reach_length e.cycles row) (λ k first last. good-point axis e lanes own k few (omega arith) (omega arith))
 
-good-far : (e : Parts) (lanes own : ℕ) (side : Side) (depth : ℕ) (row : Row) → lanes ≤ 16 → depth ≤ 150 → IsIn e.cycles row → AllByRecursion (GoodPoint lanes) (far_edge e own side depth row)
+good-far : (axis : Span) (e : Parts) (lanes own : ℕ) (side : Side) (depth : ℕ) (row : Row) → lanes ≤ 16 → depth ≤ 150 → IsIn e.cycles row → AllByRecursion (GoodPoint lanes) (far_edge axis e own side depth row)
 unfolding far_edge
-good-far e lanes own side depth row few deep it =
+good-far axis e lanes own side depth row few deep it =
     let begun = it.begun in
     let order = it.in_order in
     let run = it.in_run in
     let end = reach-most e.cycles row in
-    all-points (GoodPoint lanes) (λ (k : ℕ). edge_point e own side depth (reach_end e.cycles row - k)) 0 (reach_length e.cycles row)
-    (λ k first last. good-edge e lanes own side depth (reach_end e.cycles row - k) few deep (omega arith) (omega arith))
+    all-points (GoodPoint lanes) (λ (k : ℕ). edge_point axis e own side depth (reach_end e.cycles row - k)) 0 (reach_length e.cycles row)
+    (λ k first last. good-edge axis e lanes own side depth (reach_end e.cycles row - k) few deep (omega arith) (omega arith))
 
 good-traced : (lanes : ℕ) (outline : Outline) (points : List Point) (paint : Paint) (title : List ℕ) → FitsPaint paint → AllByRecursion (GoodPoint lanes) points → Good lanes (traced outline points paint title)
 good-traced lanes outline points paint title fits all = traced-to (page_height lanes) outline points paint title fits all
@@ -322,69 +369,69 @@ top-most : (side : Side) (depth y : ℕ) → y ≤ 4700 → last_top side depth 
 top-most Above depth y low = omega arith
 top-most Below depth y low = omega arith
 
-good-last : (e : Parts) (lanes own : ℕ) (side : Side) (depth : ℕ) (paint : Paint) (title : List ℕ) → FitsPaint paint → lanes ≤ 16 → depth ≤ 150 → 1 ≤ e.cycles →
-    Good lanes (figure (shapes.Rect (last_area e own side depth)) paint title)
+good-last : (axis : Span) (e : Parts) (lanes own : ℕ) (side : Side) (depth : ℕ) (paint : Paint) (title : List ℕ) → FitsPaint paint → lanes ≤ 16 → depth ≤ 150 → 1 ≤ e.cycles →
+    Good lanes (figure (shapes.Rect (last_area axis e own side depth)) paint title)
 unfolding last_area
-good-last e lanes own side depth paint title fits few deep some =
+good-last axis e lanes own side depth paint title fits few deep some =
     let x = begins-within e.cycles e.cycles some (omega arith) in
     let middle = middles-within e.cycles some in
-    let y = top-most side depth (course_y e own e.cycles) (y-most e own e.cycles) in
-    good-box lanes (begin_of e.cycles e.cycles) (last_top side depth (course_y e own e.cycles)) (last_width e.cycles) depth paint title fits few (omega (arith, x, middle)) (omega (arith, y))
+    let y = top-most side depth (course_y axis e own e.cycles) (y-most axis e own e.cycles) in
+    good-box lanes (begin_of e.cycles e.cycles) (last_top side depth (course_y axis e own e.cycles)) (last_width e.cycles) depth paint title fits few (omega (arith, x, middle)) (omega (arith, y))
 
-good-last-stripe : (e : Parts) (lanes own : ℕ) (title : List ℕ) → lanes ≤ 16 → 1 ≤ e.cycles → Good lanes (figure (last_stripe e own) stripe_paint title)
+good-last-stripe : (axis : Span) (e : Parts) (lanes own : ℕ) (title : List ℕ) → lanes ≤ 16 → 1 ≤ e.cycles → Good lanes (figure (last_stripe axis e own) stripe_paint title)
 unfolding last_stripe course_point
-good-last-stripe e lanes own title few some =
+good-last-stripe axis e lanes own title few some =
     let x = begins-within e.cycles e.cycles some (omega arith) in
     let middle = middles-within e.cycles some in
-    let y = y-most e own e.cycles in
-    good-line lanes (begin_of e.cycles e.cycles) (course_y e own e.cycles) (middle_of e.cycles e.cycles) (course_y e own e.cycles) stripe_paint title (omega arith) few (omega (arith, x)) (omega (arith, y)) (omega (arith, middle)) (omega (arith, y))
+    let y = y-most axis e own e.cycles in
+    good-line lanes (begin_of e.cycles e.cycles) (course_y axis e own e.cycles) (middle_of e.cycles e.cycles) (course_y axis e own e.cycles) stripe_paint title (omega arith) few (omega (arith, x)) (omega (arith, y)) (omega (arith, middle)) (omega (arith, y))
 
 in-run : (cycles : ℕ) (row : Row) → IsIn cycles row → 1 ≤ cycles
 in-run cycles row it = (let begun = it.begun in let order = it.in_order in let run = it.in_run in omega arith)
 
-good-band : (e : Parts) (lanes own : ℕ) (row : Row) (title : List ℕ) (side : Side) (depth : ℕ) (paint : Paint) → FitsPaint paint → lanes ≤ 16 → depth ≤ 150 → IsIn e.cycles row →
-    AllByRecursion (Good lanes) (band e own row title side depth paint)
+good-band : (axis : Span) (e : Parts) (lanes own : ℕ) (row : Row) (title : List ℕ) (side : Side) (depth : ℕ) (paint : Paint) → FitsPaint paint → lanes ≤ 16 → depth ≤ 150 → IsIn e.cycles row →
+    AllByRecursion (Good lanes) (band axis e own row title side depth paint)
 unfolding band
-good-band e lanes own row title side depth paint fits few deep it =
-    let points = near_edge e own row ++ far_edge e own side depth row in
+good-band axis e lanes own row title side depth paint fits few deep it =
+    let points = near_edge axis e own row ++ far_edge axis e own side depth row in
     let one = traced outlines.Closed points paint title in
-    let other = figure (shapes.Rect (last_area e own side depth)) paint title in
+    let other = figure (shapes.Rect (last_area axis e own side depth)) paint title in
     elim (cases_Bool (has_line e.cycles row)) [
       | inl met ↦
           subst (AllByRecursion (Good lanes)) (sym (cond-true (has_line e.cycles row) (one ∷ []) (other ∷ []) met)) (
             good-traced lanes outlines.Closed points paint title fits
-                (all-append (GoodPoint lanes) (near_edge e own row) (far_edge e own side depth row) (good-near e lanes own row few it) (good-far e lanes own side depth row few deep it)),
+                (all-append (GoodPoint lanes) (near_edge axis e own row) (far_edge axis e own side depth row) (good-near axis e lanes own row few it) (good-far axis e lanes own side depth row few deep it)),
             tt,
           )
       | inr unmet ↦
           subst (AllByRecursion (Good lanes)) (sym (cond-false (has_line e.cycles row) (one ∷ []) (other ∷ []) unmet))
-          (good-last e lanes own side depth paint title fits few deep (in-run e.cycles row it), tt)
+          (good-last axis e lanes own side depth paint title fits few deep (in-run e.cycles row it), tt)
     ]
 
-good-stripe : (e : Parts) (lanes own : ℕ) (row : Row) (title : List ℕ) → lanes ≤ 16 → IsIn e.cycles row → AllByRecursion (Good lanes) (stripe e own row title)
+good-stripe : (axis : Span) (e : Parts) (lanes own : ℕ) (row : Row) (title : List ℕ) → lanes ≤ 16 → IsIn e.cycles row → AllByRecursion (Good lanes) (stripe axis e own row title)
 unfolding stripe
-good-stripe e lanes own row title few it =
-    let one = traced outlines.Open (near_edge e own row) stripe_paint title in
-    let other = figure (last_stripe e own) stripe_paint title in
+good-stripe axis e lanes own row title few it =
+    let one = traced outlines.Open (near_edge axis e own row) stripe_paint title in
+    let other = figure (last_stripe axis e own) stripe_paint title in
     elim (cases_Bool (has_line e.cycles row)) [
       | inl met ↦
           subst (AllByRecursion (Good lanes)) (sym (cond-true (has_line e.cycles row) (one ∷ []) (other ∷ []) met))
-          (good-traced lanes outlines.Open (near_edge e own row) stripe_paint title (omega arith) (good-near e lanes own row few it), tt)
+          (good-traced lanes outlines.Open (near_edge axis e own row) stripe_paint title (omega arith) (good-near axis e lanes own row few it), tt)
       | inr unmet ↦
           subst (AllByRecursion (Good lanes)) (sym (cond-false (has_line e.cycles row) (one ∷ []) (other ∷ []) unmet))
-          (good-last-stripe e lanes own title few (in-run e.cycles row it), tt)
+          (good-last-stripe axis e lanes own title few (in-run e.cycles row it), tt)
     ]
 
-good-sided : (e : Parts) (lanes own : ℕ) (row : Row) (title : List ℕ) (kind : Advised) (depth : ℕ) → lanes ≤ 16 → depth ≤ 150 → IsIn e.cycles row →
-    AllByRecursion (Good lanes) (sided_band e own row title kind depth)
-good-sided e lanes own row title Traffic depth few deep it = good-stripe e lanes own row title few it
-good-sided e lanes own row title Up depth few deep it = good-band e lanes own row title Above depth (plain blue) tt few deep it
-good-sided e lanes own row title Down depth few deep it =
-    all-append (Good lanes) (band e own row title Below depth (plain vermilion)) (band e own row title Below depth hatched)
-    (good-band e lanes own row title Below depth (plain vermilion) tt few deep it) (good-band e lanes own row title Below depth hatched tt few deep it)
-good-sided e lanes own row title Both depth few deep it =
-    all-append (Good lanes) (band e own row title Above depth (plain purple)) (band e own row title Below depth (plain purple))
-    (good-band e lanes own row title Above depth (plain purple) tt few deep it) (good-band e lanes own row title Below depth (plain purple) tt few deep it)
+good-sided : (axis : Span) (e : Parts) (lanes own : ℕ) (row : Row) (title : List ℕ) (kind : Advised) (depth : ℕ) → lanes ≤ 16 → depth ≤ 150 → IsIn e.cycles row →
+    AllByRecursion (Good lanes) (sided_band axis e own row title kind depth)
+good-sided axis e lanes own row title Traffic depth few deep it = good-stripe axis e lanes own row title few it
+good-sided axis e lanes own row title Up depth few deep it = good-band axis e lanes own row title Above depth (plain blue) tt few deep it
+good-sided axis e lanes own row title Down depth few deep it =
+    all-append (Good lanes) (band axis e own row title Below depth (plain vermilion)) (band axis e own row title Below depth hatched)
+    (good-band axis e lanes own row title Below depth (plain vermilion) tt few deep it) (good-band axis e lanes own row title Below depth hatched tt few deep it)
+good-sided axis e lanes own row title Both depth few deep it =
+    all-append (Good lanes) (band axis e own row title Above depth (plain purple)) (band axis e own row title Below depth (plain purple))
+    (good-band axis e lanes own row title Above depth (plain purple) tt few deep it) (good-band axis e lanes own row title Below depth (plain purple) tt few deep it)
 
 good-corners : (lanes x y : ℕ) (kind : Advised) → lanes ≤ 16 → x ≤ 17800 → y ≤ 4700 → AllByRecursion (GoodPoint lanes) (corners kind x y)
 unfolding upward downward diamond
@@ -421,32 +468,32 @@ depth-most composite = elim (cases_Bool composite.corrective) [
   | inr unmet ↦ subst (λ (n : ℕ). n ≤ 150) (sym (cond-false composite.corrective 150 75 unmet)) (omega arith)
 ]
 
-good-row-band : (e : Parts) (lanes own : ℕ) (row : Row) (title : List ℕ) (before now : Composite) → lanes ≤ 16 → own < length e.crafts → IsIn e.cycles row →
-    AllByRecursion (Good lanes) (row_band e own row title before now)
+good-row-band : (axis : Span) (e : Parts) → HoldsPlanned axis e → (lanes own : ℕ) (row : Row) (title : List ℕ) (before now : Composite) → lanes ≤ 16 → own < length e.crafts → IsIn e.cycles row →
+    AllByRecursion (Good lanes) (row_band axis e own row title before now)
 unfolding row_band
-good-row-band e lanes own row title before now few within it =
+good-row-band axis e holds lanes own row title before now few within it =
     let begun = it.begun in
     let order = it.in_order in
     let run = it.in_run in
     let last : row.first ≤ e.cycles = omega arith in
     let x = begins-within e.cycles row.first (in-run e.cycles row it) (omega arith) in
-    all-append (Good lanes) (sided_band e own row title (advised now) (band_depth now)) (onset_marks (begin_of e.cycles row.first) (course_y e own row.first) title before now)
-    (good-sided e lanes own row title (advised now) (band_depth now) few (depth-most now) it)
-    (good-onsets lanes (begin_of e.cycles row.first) (course_y e own row.first) title before now few (omega arith) x (y-least e own row.first within begun last) (y-most e own row.first))
+    all-append (Good lanes) (sided_band axis e own row title (advised now) (band_depth now)) (onset_marks (begin_of e.cycles row.first) (course_y axis e own row.first) title before now)
+    (good-sided axis e lanes own row title (advised now) (band_depth now) few (depth-most now) it)
+    (good-onsets lanes (begin_of e.cycles row.first) (course_y axis e own row.first) title before now few (omega arith) x (y-least axis e holds own row.first within begun last) (y-most axis e own row.first))
 
-good-bands-of : (air : Air) (e : Parts) (J : List Entry) → IsLegal air J → (lanes own address : ℕ) → lanes ≤ 16 → own < length e.crafts → AllByRecursion (Good lanes) (bands_of e J own address)
+good-bands-of : (air : Air) (axis : Span) (e : Parts) → HoldsPlanned axis e → (J : List Entry) → IsLegal air J → (lanes own address : ℕ) → lanes ≤ 16 → own < length e.crafts → AllByRecursion (Good lanes) (bands_of axis e J own address)
 unfolding bands_of band_of_row
-good-bands-of air e J l lanes own address few within =
-    all-over (IsLongest (is_shown J own) (goes_on J own) e.cycles) (Good lanes) (band_of_row e J own address)
+good-bands-of air axis e holds J l lanes own address few within =
+    all-over (IsLongest (is_shown J own) (goes_on J own) e.cycles) (Good lanes) (band_of_row axis e J own address)
     (λ row it.
-    good-row-band e lanes own row (bar_title address row (shown_in J own row.first)) (shown_in J own (row.first - 1)) (shown_in J own row.first) few within
+    good-row-band axis e holds lanes own row (bar_title address row (shown_in J own row.first)) (shown_in J own (row.first - 1)) (shown_in J own row.first) few within
     (record { begun = it.begun; in_order = it.in_order; in_run = it.in_run }))
     (shown_rows J e.cycles own) (are-rows (is_shown J own) (goes_on J own) e.cycles (is-run air J l own)).longest
 
 good-bands : (air : Air) (e : Parts) (J : List Entry) → IsLegal air J → (lanes : ℕ) → lanes ≤ 16 → AllByRecursion (Good lanes) (bands_marks e J)
 unfolding craft_bands
 good-bands air e J l lanes few =
-    all-range (Good lanes) (craft_bands e J) 0 (length e.crafts) (λ own first last. good-bands-of air e J l lanes own (address_of e own) few (omega arith))
+    all-range (Good lanes) (craft_bands (axis_of e J) e J) 0 (length e.crafts) (λ own first last. good-bands-of air (axis_of e J) e (holds-planned e J) J l lanes own (address_of e own) few (omega arith))
 
 -- ---- bars
 
@@ -748,21 +795,21 @@ good-messages e J l few =
 
 -- ---- the legend
 
-good-item : (height top x : ℕ) (kind : Advised) (words : List ℕ) → height ≤ 60000 → top + 1600 ≤ height → x ≤ 12000 → AllByRecursion (GoodTo height) (item_marks top x kind words)
+good-item : (height top x : ℕ) (kind : Advised) (words : List ℕ) → height ≤ 60000 → top + 2300 ≤ height → x ≤ 12000 → AllByRecursion (GoodTo height) (item_marks top x kind words)
 unfolding item_marks
 good-item height top x kind words few low right =
     all-append (GoodTo height) (box_marks kind (area_at x (top + 200) 700 280) []) (worded (letters (point_at (x + 850) (top + 430)) 260 anchors.Start weights.Regular) words [] ∷ [])
     (boxes-to height x (top + 200) 700 280 kind [] few (omega arith) (omega arith))
     (words-to height (x + 850) (top + 430) 260 anchors.Start weights.Regular words [] (omega arith) few (omega arith) (omega arith), tt)
 
-good-sample : (height top x y : ℕ) (sign : Sign) (words : List ℕ) → height ≤ 60000 → top + 1600 ≤ height → 2000 ≤ x → x ≤ 17000 → y ≤ top + 300 → AllByRecursion (GoodTo height) (sample_marks top x y sign words)
+good-sample : (height top x y : ℕ) (sign : Sign) (words : List ℕ) → height ≤ 60000 → top + 2300 ≤ height → 2000 ≤ x → x ≤ 17000 → y ≤ top + 300 → AllByRecursion (GoodTo height) (sample_marks top x y sign words)
 unfolding sample_marks
 good-sample height top x y sign words few low left right high =
     all-append (GoodTo height) (sign_marks sign (sample_shaft x y) []) (worded (letters (point_at (x + 200) (top + 430)) 260 anchors.Start weights.Regular) words [] ∷ [])
     (good-sign height sign (sample_shaft x y) [] few (record { tail = omega arith; tip = omega arith; left = omega arith; begins = omega arith; neck = omega arith; ends = omega arith }))
     (words-to height (x + 200) (top + 430) 260 anchors.Start weights.Regular words [] (omega arith) few (omega arith) (omega arith), tt)
 
-good-legend : (height top : ℕ) → height ≤ 60000 → top + 1600 ≤ height → AllByRecursion (GoodTo height) (legend_marks top)
+good-legend : (height top : ℕ) → height ≤ 60000 → top + 2300 ≤ height → AllByRecursion (GoodTo height) (legend_marks top)
 good-legend height top few low =
     all-append (GoodTo height) (item 2000 Traffic (codes "traffic")) _ (good-item height top 2000 Traffic (codes "traffic") few low (omega arith))
     (all-append (GoodTo height) (item 5200 Up (codes "up")) _ (good-item height top 5200 Up (codes "up") few low (omega arith))
@@ -771,7 +818,13 @@ good-legend height top few low =
     (all-append (GoodTo height) (sample 14900 (top + 210) Cross (codes "lost")) _ (good-sample height top 14900 (top + 210) Cross (codes "lost") few low (omega arith) (omega arith) (omega arith))
     (all-append (GoodTo height) (sample 16800 (top + 140) HollowHead (codes "spoilt")) _ (good-sample height top 16800 (top + 140) HollowHead (codes "spoilt") few low (omega arith) (omega arith) (omega arith)) (
       words-to height 2000 (top + 900) 260 anchors.Start weights.Regular height_words [] (omega arith) few (omega arith) (omega arith),
-      (words-to height 2000 (top + 1250) 260 anchors.Start weights.Regular arrow_words [] (omega arith) few (omega arith) (omega arith), tt),
+      (
+        words-to height 2000 (top + 1250) 260 anchors.Start weights.Regular arrow_words [] (omega arith) few (omega arith) (omega arith),
+        (
+          words-to height 2000 (top + 1600) 260 anchors.Start weights.Regular band_words [] (omega arith) few (omega arith) (omega arith),
+          (words-to height 2000 (top + 1950) 260 anchors.Start weights.Regular modelled_words [] (omega arith) few (omega arith) (omega arith), tt),
+        ),
+      ),
     ))))))
   where
     item : ℕ → Advised → List ℕ → List Mark
@@ -791,14 +844,15 @@ letter-most x before right few = elim (cases_Bool (nat_lt x 9900)) [
   | inr unmet ↦ subst (λ (n : ℕ). n ≤ 17800) (sym (cond-false (nat_lt x 9900) (x + 180 * before) (x - 180 * before) unmet)) (omega arith)
 ]
 
-good-line-at : (lanes x at : ℕ) (letter title : List ℕ) → lanes ≤ 16 → x ≤ 17800 → at ≤ 17800 → AllByRecursion (Good lanes) (line_at lanes x at letter title)
-good-line-at lanes x at letter title few right beside = (
-  good-line lanes x 1500 x (plot_bottom lanes) (dashed_paint note 30 dashes.Short) title (omega arith) few (omega arith) (omega arith) (omega arith) (omega arith),
-  (
-    good-halo lanes at 1440 240 anchors.Middle weights.Regular letter title (omega arith) few (omega arith) (omega arith),
-    (good-words lanes at 1440 240 anchors.Middle weights.Regular letter title (omega arith) few (omega arith) (omega arith), tt),
-  ),
+good-line-at : (lanes x : ℕ) (title : List ℕ) → lanes ≤ 16 → x ≤ 17800 → AllByRecursion (Good lanes) (line_at lanes x title)
+good-line-at lanes x title few right = (good-line lanes x 1500 x (plot_bottom lanes) (dashed_paint note 30 dashes.Short) title (omega arith) few (omega arith) (omega arith) (omega arith) (omega arith), tt)
+
+good-letter : (lanes at : ℕ) (there : Bool) (letter title : List ℕ) → lanes ≤ 16 → at ≤ 17800 → AllByRecursion (Good lanes) (letter_where there at letter title)
+good-letter lanes at true letter title few beside = (
+  good-halo lanes at 1440 240 anchors.Middle weights.Regular letter title (omega arith) few (omega arith) (omega arith),
+  (good-words lanes at 1440 240 anchors.Middle weights.Regular letter title (omega arith) few (omega arith) (omega arith), tt),
 )
+good-letter lanes at false letter title few beside = tt
 
 good-marked : (it : LabelWords) (cycles lanes : ℕ) (marked : Marked) → AreLabels it → lanes ≤ 16 → IsMarked it cycles marked → AllByRecursion (Good lanes) (line_of it cycles lanes marked)
 unfolding line_of
@@ -810,7 +864,11 @@ good-marked it cycles lanes marked labels few is =
     let x = begin_of cycles marked.cycle in
     let right = begins-within cycles marked.cycle (omega arith) (omega arith) in
     let before = count-most it marked.cycle marked.cycle marked.place in
-    good-line-at lanes x (letter_x x (marked_before it marked)) (letter_text marked.place) (mark_title it marked) few right (letter-most x (marked_before it marked) right (omega (arith, before)))
+    let title = mark_title it marked in
+    let at = letter_of it cycles marked in
+    let shown = has_letter it cycles marked in
+    all-append (Good lanes) (line_at lanes x title) (letter_where shown at (letter_text marked.place) title) (good-line-at lanes x title few right)
+    (good-letter lanes at shown (letter_text marked.place) title few (letter-most x (marked_before it marked) right (omega (arith, before))))
 
 good-lines : (it : LabelWords) (cycles lanes : ℕ) → AreLabels it → lanes ≤ 16 → AllByRecursion (Good lanes) (lines_marks it cycles lanes)
 good-lines it cycles lanes labels few =
@@ -907,7 +965,7 @@ are-good it e J labels valid l few =
     let heard = good-heard it e J height (plan_top e) (omega arith) (omega (arith, few, panels_low)) in
     let legend = good-legend height (legend_top e) tall (omega arith) in
     let list = good-list height (list_top e) it e.cycles tall (omega arith) in (
-      above n below (head_marks e J) (good-head e J n few),
+      above n below (head_marks it e J (nearest_pair e)) (good-head it e J (nearest_pair e) n few),
       (
         above n below (time_marks e.cycles it.start n) (good-time n e.cycles it.start few),
         (
@@ -915,7 +973,7 @@ are-good it e J labels valid l few =
           (
             above n below (bands_marks e J) bands,
             (
-              above n below (altitude_marks it e) (good-altitude it e n few),
+              above n below (altitude_marks it e J) (good-altitude it e J n few),
               (above n below (messages_marks e J) (good-messages e J l few), (above n below (lanes_marks it e J) lanes, (panels, (plan, (heard, (legend, (list, tt))))))),
             ),
           ),

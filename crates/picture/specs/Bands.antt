@@ -8,6 +8,7 @@ use Rattle.air_journal.specs.Airs.{address_of}
 use Rattle.equal_rows.specs.declared.row.Row.{Row}
 use Rattle.picture.specs.Altitude.{course_point, course_y}
 use Rattle.picture.specs.Bars.{advised, bar_title}
+use Rattle.picture.specs.Heights.{axis_of}
 use Rattle.page_marks.specs.Places.{area_at, point_at}
 use Rattle.picture.specs.Onsets.{onset_marks}
 use Rattle.page_marks.specs.Paints.{amber, blue, hatched, line_paint, plain, purple, vermilion}
@@ -16,6 +17,7 @@ use Rattle.page_marks.specs.declared.paints.Advised.{Advised}
 use Rattle.page_marks.specs.declared.paints.Advised.TheVariants as kinds
 use Rattle.picture.specs.declared.side.Side.{Side}
 use Rattle.picture.specs.declared.side.Side.TheVariants.{Above, Below}
+use Rattle.picture.specs.declared.span.Span.{Span}
 use Rattle.plot_axes.specs.Time.{begin_of, middle_of}
 use Rattle.svg_text.specs.Marks.{Mark, figure, traced}
 use Rattle.svg_text.specs.declared.shapes.Area.{Area}
@@ -46,16 +48,16 @@ abbrev pub reach_length : ℕ → Row → ℕ
 reach_length cycles row = (reach_end cycles row + 1) - row.first
 
 -- The points of the line, in order of cycle.
-unfoldable pub near_edge : Parts → ℕ → Row → List Point
-near_edge e own row = map (course_point e own) (range_with_len row.first (reach_length e.cycles row))
+unfoldable pub near_edge : Span → Parts → ℕ → Row → List Point
+near_edge axis e own row = map (course_point axis e own) (range_with_len row.first (reach_length e.cycles row))
 
 -- A point above the line or below it.
-unfoldable pub edge_point : Parts → ℕ → Side → ℕ → ℕ → Point
-edge_point e own side depth cycle = point_at (begin_of e.cycles cycle) (shifted side depth (course_y e own cycle))
+unfoldable pub edge_point : Span → Parts → ℕ → Side → ℕ → ℕ → Point
+edge_point axis e own side depth cycle = point_at (begin_of e.cycles cycle) (shifted side depth (course_y axis e own cycle))
 
 -- The same points above the line or below it, from the last cycle back to the first.
-unfoldable pub far_edge : Parts → ℕ → Side → ℕ → Row → List Point
-far_edge e own side depth row = map (λ back. edge_point e own side depth (reach_end e.cycles row - back)) (range_with_len 0 (reach_length e.cycles row))
+unfoldable pub far_edge : Span → Parts → ℕ → Side → ℕ → Row → List Point
+far_edge axis e own side depth row = map (λ back. edge_point axis e own side depth (reach_end e.cycles row - back)) (range_with_len 0 (reach_length e.cycles row))
 
 -- A row that begins in the last cycle of the run has one point of the line. Its band goes on to the middle of this cycle.
 abbrev pub last_top : Side → ℕ → ℕ → ℕ
@@ -65,67 +67,70 @@ last_top Below depth y = y
 abbrev pub last_width : ℕ → ℕ
 last_width cycles = middle_of cycles cycles - begin_of cycles cycles
 
-unfoldable pub last_area : Parts → ℕ → Side → ℕ → Area
-last_area e own side depth = area_at (begin_of e.cycles e.cycles) (last_top side depth (course_y e own e.cycles)) (last_width e.cycles) depth
+unfoldable pub last_area : Span → Parts → ℕ → Side → ℕ → Area
+last_area axis e own side depth = area_at (begin_of e.cycles e.cycles) (last_top side depth (course_y axis e own e.cycles)) (last_width e.cycles) depth
 
-unfoldable pub last_stripe : Parts → ℕ → Shape
-last_stripe e own = shapes.Segment (course_point e own e.cycles) (point_at (middle_of e.cycles e.cycles) (course_y e own e.cycles))
+unfoldable pub last_stripe : Span → Parts → ℕ → Shape
+last_stripe axis e own = shapes.Segment (course_point axis e own e.cycles) (point_at (middle_of e.cycles e.cycles) (course_y axis e own e.cycles))
 
 -- ---- its marks
 
-unfoldable pub band : Parts → ℕ → Row → List ℕ → Side → ℕ → Paint → List Mark
-band e own row title side depth paint =
+unfoldable pub band : Span → Parts → ℕ → Row → List ℕ → Side → ℕ → Paint → List Mark
+band axis e own row title side depth paint =
     if has_line e.cycles row
-    then traced outlines.Closed (near_edge e own row ++ far_edge e own side depth row) paint title ∷ []
-    else figure (shapes.Rect (last_area e own side depth)) paint title ∷ []
+    then traced outlines.Closed (near_edge axis e own row ++ far_edge axis e own side depth row) paint title ∷ []
+    else figure (shapes.Rect (last_area axis e own side depth)) paint title ∷ []
 
 abbrev pub stripe_paint : Paint
 stripe_paint = line_paint amber 120
 
 -- Traffic is a stripe along the line.
-unfoldable pub stripe : Parts → ℕ → Row → List ℕ → List Mark
-stripe e own row title =
+unfoldable pub stripe : Span → Parts → ℕ → Row → List ℕ → List Mark
+stripe axis e own row title =
     if has_line e.cycles row
-    then traced outlines.Open (near_edge e own row) stripe_paint title ∷ []
-    else figure (last_stripe e own) stripe_paint title ∷ []
+    then traced outlines.Open (near_edge axis e own row) stripe_paint title ∷ []
+    else figure (last_stripe axis e own) stripe_paint title ∷ []
 
 -- Bands of corrective advice are twice as high as those of preventive advice.
 abbrev pub band_depth : Composite → ℕ
 band_depth composite = if composite.corrective then 150 else 75
 
 -- Advice up lies above the line, advice down below it, and advice of both senses on both sides.
-abbrev pub above_band : Parts → ℕ → Row → List ℕ → ℕ → List Mark
-above_band e own row title depth = band e own row title Above depth (plain blue)
+abbrev pub above_band : Span → Parts → ℕ → Row → List ℕ → ℕ → List Mark
+above_band axis e own row title depth = band axis e own row title Above depth (plain blue)
 
-abbrev pub below_band : Parts → ℕ → Row → List ℕ → ℕ → List Mark
-below_band e own row title depth = band e own row title Below depth (plain vermilion) ++ band e own row title Below depth hatched
+abbrev pub below_band : Span → Parts → ℕ → Row → List ℕ → ℕ → List Mark
+below_band axis e own row title depth = band axis e own row title Below depth (plain vermilion) ++ band axis e own row title Below depth hatched
 
-abbrev pub both_bands : Parts → ℕ → Row → List ℕ → ℕ → List Mark
-both_bands e own row title depth = band e own row title Above depth (plain purple) ++ band e own row title Below depth (plain purple)
+abbrev pub both_bands : Span → Parts → ℕ → Row → List ℕ → ℕ → List Mark
+both_bands axis e own row title depth = band axis e own row title Above depth (plain purple) ++ band axis e own row title Below depth (plain purple)
 
-abbrev pub sided_band : Parts → ℕ → Row → List ℕ → Advised → ℕ → List Mark
-sided_band e own row title kinds.Traffic depth = stripe e own row title
-sided_band e own row title kinds.Up depth = above_band e own row title depth
-sided_band e own row title kinds.Down depth = below_band e own row title depth
-sided_band e own row title kinds.Both depth = both_bands e own row title depth
+abbrev pub sided_band : Span → Parts → ℕ → Row → List ℕ → Advised → ℕ → List Mark
+sided_band axis e own row title kinds.Traffic depth = stripe axis e own row title
+sided_band axis e own row title kinds.Up depth = above_band axis e own row title depth
+sided_band axis e own row title kinds.Down depth = below_band axis e own row title depth
+sided_band axis e own row title kinds.Both depth = both_bands axis e own row title depth
 
 -- ---- all of them
 
 -- What one row of cycles has, by what is shown before it and in it.
-unfoldable pub row_band : Parts → ℕ → Row → List ℕ → Composite → Composite → List Mark
-row_band e own row title before now =
-    sided_band e own row title (advised now) (band_depth now)
-    ++ onset_marks (begin_of e.cycles row.first) (course_y e own row.first) title before now
+unfoldable pub row_band : Span → Parts → ℕ → Row → List ℕ → Composite → Composite → List Mark
+row_band axis e own row title before now =
+    sided_band axis e own row title (advised now) (band_depth now)
+    ++ onset_marks (begin_of e.cycles row.first) (course_y axis e own row.first) title before now
 
-unfoldable pub band_of_row : Parts → List Entry → ℕ → ℕ → Row → List Mark
-band_of_row e journal own address row =
-    row_band e own row (bar_title address row (shown_in journal own row.first)) (shown_in journal own (row.first - 1)) (shown_in journal own row.first)
+unfoldable pub band_of_row : Span → Parts → List Entry → ℕ → ℕ → Row → List Mark
+band_of_row axis e journal own address row =
+    row_band axis e own row (bar_title address row (shown_in journal own row.first)) (shown_in journal own (row.first - 1)) (shown_in journal own row.first)
 
-unfoldable pub bands_of : Parts → List Entry → ℕ → ℕ → List Mark
-bands_of e journal own address = flat_map (band_of_row e journal own address) (shown_rows journal e.cycles own)
+unfoldable pub bands_of : Span → Parts → List Entry → ℕ → ℕ → List Mark
+bands_of axis e journal own address = flat_map (band_of_row axis e journal own address) (shown_rows journal e.cycles own)
 
-unfoldable pub craft_bands : Parts → List Entry → ℕ → List Mark
-craft_bands e journal own = bands_of e journal own (address_of e own)
+unfoldable pub craft_bands : Span → Parts → List Entry → ℕ → List Mark
+craft_bands axis e journal own = bands_of axis e journal own (address_of e own)
+
+abbrev pub bands_with : Span → Parts → List Entry → List Mark
+bands_with axis e journal = flat_map (craft_bands axis e journal) (range_with_len 0 (length e.crafts))
 
 abbrev pub bands_marks : Parts → List Entry → List Mark
-bands_marks e journal = flat_map (craft_bands e journal) (range_with_len 0 (length e.crafts))
+bands_marks e journal = bands_with (axis_of e journal) e journal

@@ -1,7 +1,5 @@
 -- The calls of a journal: what the crews hear, from commit to commit. They are those of the report of a recording.
-use Rattle.std.specs.Prelude.{ℕ, ◌-◌, if◌then◌else◌, List, length, Option, Some, None, option_to_list}
-use Rattle.std.specs.List.{flat_map, range_with_len}
-use Rattle.acas_base.specs.Encounter.{Parts}
+use Rattle.std.specs.Prelude.{ℕ, ◌-◌, if◌then◌else◌, List, Option, Some, None}
 use Rattle.acas_base.specs.declared.advisory.Cells.{Cells}
 use Rattle.acas_base.specs.declared.entry.Entry.{Entry}
 use Rattle.advisory_report.specs.Composite.{composite_of}
@@ -27,14 +25,3 @@ call_from cycle own before (Some cells) = call_with cycle own before (composite_
 -- The call of an aircraft's commit of a cycle. It depends on what the aircraft showed after the cycle before.
 unfoldable pub call_in : List Entry → ℕ → ℕ → Option Call
 call_in journal cycle own = call_from cycle own (shown_in journal own (cycle - 1)) (commit_cells journal own cycle)
-
-abbrev pub calls_at : List Entry → ℕ → ℕ → List Call
-calls_at journal cycle own = option_to_list (call_in journal cycle own)
-
--- The calls of a cycle, by index.
-abbrev pub calls_in : List Entry → ℕ → ℕ → List Call
-calls_in journal count cycle = flat_map (calls_at journal cycle) (range_with_len 0 count)
-
--- All calls, by cycle.
-abbrev pub calls : Parts → List Entry → List Call
-calls e journal = flat_map (calls_in journal (length e.crafts)) (range_with_len 1 e.cycles)

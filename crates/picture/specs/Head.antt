@@ -1,5 +1,5 @@
 -- What stands at the head.
-use Rattle.std.specs.Prelude.{ℕ, ◌+◌, Bool, true, false, if◌then◌else◌, List, [], ◌∷◌, ◌++◌, codes, filter, is_some, length}
+use Rattle.std.specs.Prelude.{ℕ, ◌+◌, Bool, true, false, if◌then◌else◌, List, [], ◌∷◌, ◌++◌, codes, filter, is_some, length, Option, Some, None}
 use Rattle.std.specs.Fmt.{decimal}
 use Rattle.acas_base.specs.Encounter.{Parts}
 use Rattle.acas_base.specs.declared.craft.CraftSpec.{CraftSpec}
@@ -7,8 +7,11 @@ use Rattle.acas_base.specs.declared.craft.Kind.{Kind}
 use Rattle.acas_base.specs.declared.craft.Kind.TheVariants.{Ra, Ta, Xpdr}
 use Rattle.acas_base.specs.declared.entry.Entry.{Entry}
 use Rattle.air_rules.specs.Journal.{as_sent, count_of as count_where}
+use Rattle.labels.specs.Labels.{LabelWords}
 use Rattle.page_marks.specs.Places.{point_at}
 use Rattle.page_marks.specs.Paints.{letters}
+use Rattle.pair_panels.specs.Headline.{headline_marks}
+use Rattle.pair_panels.specs.declared.nearest.NearPair.{NearPair}
 use Rattle.svg_text.specs.Marks.{Mark, worded}
 use Rattle.svg_text.specs.declared.shapes.Anchor.TheVariants as anchors
 use Rattle.svg_text.specs.declared.shapes.Weight.TheVariants as weights
@@ -59,7 +62,15 @@ sent_text sent = decimal sent ++ codes " messages sent"
 abbrev pub description : List ℕ
 description = codes "The traffic and resolution advisories of each aircraft against time, a row for each aircraft."
 
-abbrev pub head_marks : Parts → List Entry → List Mark
-head_marks e journal =
+abbrev pub title_marks : Parts → List Entry → List Mark
+title_marks e journal =
     worded (letters (point_at 400 700) 440 anchors.Start weights.Bold) (title_text e) []
     ∷ worded (letters (point_at 400 1150) 280 anchors.Start weights.Regular) (sent_text (sent_in journal)) [] ∷ []
+
+-- Where the nearest pair comes nearest, beside how many messages were sent.
+abbrev pub nearest_marks : LabelWords → Parts → Option NearPair → List Mark
+nearest_marks it e None = []
+nearest_marks it e (Some pair) = headline_marks 1150 e it pair
+
+abbrev pub head_marks : LabelWords → Parts → List Entry → Option NearPair → List Mark
+head_marks it e journal pair = title_marks e journal ++ nearest_marks it e pair

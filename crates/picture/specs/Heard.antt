@@ -12,8 +12,9 @@ use Rattle.labels.specs.Labels.{LabelWords, name_of}
 use Rattle.page_marks.specs.Paints.{box_marks, letters}
 use Rattle.page_marks.specs.Places.{area_at, point_at}
 use Rattle.picture.specs.Bars.{advised}
-use Rattle.picture.specs.Calls.{calls}
+use Rattle.picture.specs.Gathered.{call_lines}
 use Rattle.picture.specs.declared.call.Call.{Call}
+use Rattle.picture.specs.declared.gathered.CallLine.{CallLine}
 use Rattle.plot_axes.specs.Time.{label_of}
 use Rattle.svg_text.specs.Marks.{Mark, worded}
 use Rattle.svg_text.specs.declared.shapes.Anchor.TheVariants as anchors
@@ -30,6 +31,13 @@ call_title address cycle shown = hex 6 address ++ codes ", cycle " ++ decimal cy
 
 unfoldable pub more_text : ℕ → List ℕ
 more_text count = codes "and " ++ decimal count ++ codes " more"
+
+-- That a line stands for more calls than its own, where it does.
+abbrev pub shared_text : ℕ → List ℕ
+shared_text calls = if nat_le calls 1 then [] else codes " " ++ more_text (calls - 1)
+
+unfoldable pub said_text : List ℕ → ℕ → List ℕ
+said_text phrase calls = quoted phrase ++ shared_text calls
 
 -- ---- where the lines stand
 
@@ -53,31 +61,33 @@ words_marks y label name phrase =
     ∷ worded (letters (point_at 10300 y) 240 anchors.Start weights.Bold) name []
     ∷ worded (letters (point_at 11700 y) 240 anchors.Start weights.Regular) phrase [] ∷ []
 
-abbrev pub line_with : ℕ → ℕ → List ℕ → List ℕ → Call → List Mark
-line_with y address label name call =
+-- The line of a call that stands for so many.
+abbrev pub line_with : ℕ → ℕ → List ℕ → List ℕ → Call → ℕ → List Mark
+line_with y address label name call calls =
     sense_marks y call.shown (call_title address call.cycle call.shown)
-    ++ words_marks y label name (quoted (phrase_text call.heard))
+    ++ words_marks y label name (said_text (phrase_text call.heard) calls)
 
-unfoldable pub line_marks : ℕ → Parts → LabelWords → ℕ → Call → List Mark
-line_marks top e labels number call = line_with (line_y top number) (address_of e call.own) (label_of labels.start call.cycle) (name_of labels (address_of e call.own)) call
+unfoldable pub line_marks : ℕ → Parts → LabelWords → ℕ → CallLine → List Mark
+line_marks top e labels number it =
+    line_with (line_y top number) (address_of e it.call.own) (label_of labels.start it.call.cycle) (name_of labels (address_of e it.call.own)) it.call it.calls
 
--- Those of calls, the first of which has this number.
-abbrev pub lines : ℕ → Parts → LabelWords → ℕ → List Call → List Mark
+-- Those of lines, the first of which has this number.
+abbrev pub lines : ℕ → Parts → LabelWords → ℕ → List CallLine → List Mark
 lines top e labels number [] = []
-lines top e labels number (call ∷ rest) = line_marks top e labels number call ++ lines top e labels (number + 1) rest
+lines top e labels number (it ∷ rest) = line_marks top e labels number it ++ lines top e labels (number + 1) rest
 
--- The same, where only calls with a number below 22 have a line.
-unfoldable pub call_marks : ℕ → Parts → LabelWords → ℕ → Call → List Mark
-call_marks top e labels number call = if nat_lt number most_lines then line_marks top e labels number call else []
+-- The same, where only those with a number below 22 are there.
+unfoldable pub call_marks : ℕ → Parts → LabelWords → ℕ → CallLine → List Mark
+call_marks top e labels number it = if nat_lt number most_lines then line_marks top e labels number it else []
 
-abbrev pub listed : ℕ → Parts → LabelWords → ℕ → List Call → List Mark
+abbrev pub listed : ℕ → Parts → LabelWords → ℕ → List CallLine → List Mark
 listed top e labels number [] = []
-listed top e labels number (call ∷ rest) = call_marks top e labels number call ++ listed top e labels (number + 1) rest
+listed top e labels number (it ∷ rest) = call_marks top e labels number it ++ listed top e labels (number + 1) rest
 
 abbrev pub words_at : ℕ → List ℕ → List Mark
 words_at y words = worded (letters (point_at 10300 y) 240 anchors.Start weights.Regular) words [] ∷ []
 
--- What stands below the lines: how many calls have none. Where there is no call, it says so.
+-- What stands below the lines: how many more there are. Where there is no call, it says so.
 unfoldable pub rest_marks : ℕ → ℕ → List Mark
 rest_marks top count =
     if count == 0 then words_at (line_y top 0) (codes "nothing")
@@ -86,7 +96,7 @@ rest_marks top count =
 abbrev pub heading_marks : ℕ → List Mark
 heading_marks top = worded (letters (point_at 8800 (top + 350)) 260 anchors.Start weights.Bold) (codes "what the crews heard") [] ∷ []
 
--- A line for each of the first 22 calls.
+-- The first 22 lines.
 unfoldable pub heard_marks : ℕ → Parts → List Entry → LabelWords → List Mark
 heard_marks top e journal labels =
-    heading_marks top ++ (lines top e labels 0 (take most_lines (calls e journal)) ++ rest_marks top (length (calls e journal)))
+    heading_marks top ++ (lines top e labels 0 (take most_lines (call_lines e journal)) ++ rest_marks top (length (call_lines e journal)))

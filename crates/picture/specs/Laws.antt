@@ -17,13 +17,12 @@ use Rattle.deliveries.specs.declared.rows.Row.{Row as MessageRow}
 use Rattle.equal_rows.specs.Rows.{AreInOrder, IsCovered}
 use Rattle.equal_rows.specs.declared.row.Row.{Row}
 use Rattle.labels.specs.Labels.{LabelWords}
-use Rattle.picture.specs.Altitude.{altitude_y}
-use Rattle.picture.specs.Heights.{HoldsAll, IsOn, axis_of}
+use Rattle.picture.specs.Heights.{HoldsModelled, HoldsPlanned, IsOn, altitude_y, axis_of}
 use Rattle.journal_reader.specs.Reading.{read_of}
 use Rattle.picture.specs.Layout.{page_bounds}
 use Rattle.picture.specs.Messages.{arrows}
 use Rattle.picture.specs.Marked.{IsMarked, mark_cycle}
-use Rattle.picture.specs.MarkedDrawn.{letter_of}
+use Rattle.picture.specs.MarkedDrawn.{has_letter, letter_of}
 use Rattle.picture.specs.declared.marked.Marked.{Marked}
 use Rattle.picture.specs.declared.messages_read.Arrow.{Arrow}
 use Rattle.picture.specs.declared.mishaps.SentRow.{SentRow}
@@ -50,10 +49,12 @@ pub record AreBars (journal : List Entry) (cycles own : ℕ) (rows : List Row) :
   pub in_order : AreInOrder 0 rows
   pub all : (cycle : ℕ) → 1 ≤ cycle → cycle ≤ cycles → is_clear (shown_in journal own cycle) ≡ false → IsCovered rows cycle
 
--- The axis of altitudes holds each aircraft in each cycle, and a greater altitude stands no lower than a less one.
-pub record AreCourses (e : Parts) : Type 0 where
-  pub holds : HoldsAll e
-  pub in_order : (low high : ℤ) → IsOn (axis_of e) low → IsOn (axis_of e) high → low ≤ℤ high → altitude_y (axis_of e) high ≤ altitude_y (axis_of e) low
+-- The axis of altitudes holds each aircraft in each cycle, as planned and, of up to 8 aircraft, as modelled. A greater
+-- altitude stands no lower than a less one.
+pub record AreCourses (e : Parts) (journal : List Entry) : Type 0 where
+  pub planned : HoldsPlanned (axis_of e journal) e
+  pub modelled : length e.crafts ≤ 8 → HoldsModelled (axis_of e journal) e journal
+  pub in_order : (low high : ℤ) → IsOn (axis_of e journal) low → IsOn (axis_of e journal) high → low ≤ℤ high → altitude_y (axis_of e journal) high ≤ altitude_y (axis_of e journal) low
 
 -- An arrow stands for a take of a good copy after which another complement is in force on the taker from the sender
 -- than before it. It names the message, where it was sent and taken, and the complement after the take.
@@ -132,12 +133,13 @@ AreBeside one other = (one + 180 ≤ other) ⊎ (other + 180 ≤ one)
 
 -- Each mark that is drawn stands in the list, and has the cycle that its word tells, which is one of the run. They come
 -- in the order of the list, and each mark of the list with such a cycle is exactly one of them. Letters of one cycle
--- stand beside each other.
+-- stand beside each other, and a letter that is drawn stands beside those of all earlier marks.
 pub record AreMarked (it : LabelWords) (cycles : ℕ) (marks : List Marked) : Type 0 where
   pub each : AllByRecursion (IsMarked it cycles) marks
   pub in_order : ArePlaced 0 marks
   pub once : (place : ℕ) → place < length it.marks → 1 ≤ mark_cycle it place → mark_cycle it place ≤ cycles → length (filter (is_at place) marks) ≡ 1
   pub apart : (one other : Marked) → IsMarked it cycles one → IsMarked it cycles other → length it.marks ≤ 26 → one.cycle ≡ other.cycle → one.place < other.place → AreBeside (letter_of it cycles one) (letter_of it cycles other)
+  pub drawn : (one other : Marked) → IsMarked it cycles one → one.place < other.place → has_letter it cycles other ≡ true → AreBeside (letter_of it cycles one) (letter_of it cycles other)
 
 -- All marks lie within the page, and the text is well formed.
 pub record IsSound (it : LabelWords) (e : Parts) (journal : List Entry) : Type 0 where

@@ -55,11 +55,11 @@ panels_top lanes = 6150 + 960 * lanes
 
 -- How high the legend is. It begins where the plan ends.
 abbrev pub legend_height : ℕ
-legend_height = 1600
+legend_height = 2300
 
 -- How high the page is without panels, without the plan and without a list of marks.
 abbrev pub page_height : ℕ → ℕ
-page_height lanes = 7750 + 960 * lanes
+page_height lanes = 8450 + 960 * lanes
 
 -- The box in which the lanes stand.
 abbrev pub plot_area : ℕ → Area

@@ -1,4 +1,4 @@
--- What the boxes, the signs and the arrows mean.
+-- What the boxes, the signs, the arrows and the bands mean.
 use Rattle.std.specs.Prelude.{ℕ, ◌+◌, List, [], ◌∷◌, ◌++◌, codes}
 use Rattle.picture.specs.MishapsDrawn.{sign_marks}
 use Rattle.picture.specs.declared.messages_drawn.Shaft.{Shaft}
@@ -31,6 +31,19 @@ height_words = codes "A tall bar: corrective advice. A low bar: preventive advic
 abbrev pub arrow_words : List ℕ
 arrow_words = codes "An arrow: a message that changes what is in force, in the colour of the sense that it leaves."
 
+abbrev pub band_words : List ℕ
+band_words = codes "A band above a line: up. Below it: down. Half as high: preventive advice. A stripe: traffic."
+
+abbrev pub modelled_words : List ℕ
+modelled_words = codes "A dotted green line: the flight with the modelled response, where it isn't the planned one."
+
+-- A line of words so far down.
+abbrev pub remark : ℕ → List ℕ → Mark
+remark y words = worded (letters (point_at 2000 y) 260 anchors.Start weights.Regular) words []
+
+abbrev pub remarks_marks : ℕ → List Mark
+remarks_marks top = remark (top + 900) height_words ∷ remark (top + 1250) arrow_words ∷ remark (top + 1600) band_words ∷ remark (top + 1950) modelled_words ∷ []
+
 abbrev pub legend_marks : ℕ → List Mark
 legend_marks top =
     item_marks top 2000 kinds.Traffic (codes "traffic")
@@ -39,5 +52,4 @@ legend_marks top =
     ++ (item_marks top 11600 kinds.Both (codes "up and down")
     ++ (sample_marks top 14900 (top + 210) Cross (codes "lost")
     ++ (sample_marks top 16800 (top + 140) HollowHead (codes "spoilt")
-    ++ worded (letters (point_at 2000 (top + 900)) 260 anchors.Start weights.Regular) height_words []
-    ∷ worded (letters (point_at 2000 (top + 1250)) 260 anchors.Start weights.Regular) arrow_words [] ∷ [])))))
+    ++ remarks_marks top)))))

@@ -2,6 +2,7 @@ pub mod Layout
 pub mod Shown
 pub mod Head
 pub mod Heights
+pub mod Modelled
 pub mod Altitude
 pub mod Time
 pub mod Bars
@@ -17,6 +18,7 @@ pub mod MarkedDrawn
 pub mod Panels
 pub mod Picture
 pub mod Calls
+pub mod Gathered
 pub mod Heard
 pub mod HeardLaws
 pub mod Laws

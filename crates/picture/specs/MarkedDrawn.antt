@@ -1,12 +1,12 @@
 -- How the marks of the labels are drawn: a line and a letter for each, and a list of them.
-use Rattle.std.specs.Prelude.{ℕ, ◌+◌, ◌-◌, ◌*◌, if◌then◌else◌, nat_lt, List, [], ◌∷◌, ◌++◌, codes, length}
+use Rattle.std.specs.Prelude.{ℕ, zero, suc, ◌+◌, ◌-◌, ◌*◌, Bool, false, not, ◌||◌, if◌then◌else◌, nat_le, nat_lt, List, [], ◌∷◌, ◌++◌, codes, length, Option, Some, None}
 use Rattle.std.specs.Fmt.{decimal}
 use Rattle.std.specs.List.{flat_map}
 use Rattle.labels.specs.Labels.{LabelWords}
 use Rattle.page_marks.specs.Paints.{dashed_paint, halo, letters, note}
 use Rattle.page_marks.specs.Places.{point_at}
 use Rattle.picture.specs.Layout.{course_top, plot_bottom}
-use Rattle.picture.specs.Marked.{all_marked, count_among, mark_text}
+use Rattle.picture.specs.Marked.{all_marked, count_among, mark_text, marked_at}
 use Rattle.picture.specs.declared.marked.Marked.{Marked}
 use Rattle.plot_axes.specs.Time.{begin_of, label_of}
 use Rattle.svg_text.specs.Marks.{Mark, figure, worded}
@@ -40,16 +40,40 @@ marked_before it marked = count_among it marked.cycle marked.cycle marked.place
 abbrev pub letter_of : LabelWords → ℕ → Marked → ℕ
 letter_of it cycles marked = letter_x (begin_of cycles marked.cycle) (marked_before it marked)
 
--- A line through the altitudes and the lanes, and over it the letter.
-abbrev pub line_at : ℕ → ℕ → ℕ → List ℕ → List ℕ → List Mark
-line_at lanes x at letter title =
-    figure (shapes.Segment (point_at x course_top) (point_at x (plot_bottom lanes))) (dashed_paint note 30 dashes.Short) title
-    ∷ worded (halo (point_at at 1440) 240 anchors.Middle weights.Regular) letter title ∷ worded (letters (point_at at 1440) 240 anchors.Middle weights.Regular) letter title ∷ []
+-- Two letters stand beside each other.
+abbrev pub are_beside : ℕ → ℕ → Bool
+are_beside one other = nat_le (one + 180) other || nat_le (other + 180) one
 
--- It stands where the cycle of the mark begins.
+-- A letter at a place would lie over that of another mark.
+abbrev pub is_over : LabelWords → ℕ → ℕ → Option Marked → Bool
+is_over it cycles at None = false
+is_over it cycles at (Some other) = not (are_beside (letter_of it cycles other) at)
+
+-- Over that of one of the first marks of the list.
+abbrev pub is_over_some : LabelWords → ℕ → ℕ → ℕ → Bool
+is_over_some it cycles at zero = false
+is_over_some it cycles at (suc n) = is_over_some it cycles at n || is_over it cycles at (marked_at it cycles n)
+
+-- A letter is left out where it would lie over that of an earlier mark.
+abbrev pub has_letter : LabelWords → ℕ → Marked → Bool
+has_letter it cycles marked = not (is_over_some it cycles (letter_of it cycles marked) marked.place)
+
+-- A line through the altitudes and the lanes, and over it the letter.
+abbrev pub line_at : ℕ → ℕ → List ℕ → List Mark
+line_at lanes x title = figure (shapes.Segment (point_at x course_top) (point_at x (plot_bottom lanes))) (dashed_paint note 30 dashes.Short) title ∷ []
+
+abbrev pub letter_at : ℕ → List ℕ → List ℕ → List Mark
+letter_at at letter title =
+    worded (halo (point_at at 1440) 240 anchors.Middle weights.Regular) letter title ∷ worded (letters (point_at at 1440) 240 anchors.Middle weights.Regular) letter title ∷ []
+
+abbrev pub letter_where : Bool → ℕ → List ℕ → List ℕ → List Mark
+letter_where there at letter title = if there then letter_at at letter title else []
+
+-- The line stands where the cycle of the mark begins.
 unfoldable pub line_of : LabelWords → ℕ → ℕ → Marked → List Mark
 line_of it cycles lanes marked =
-    line_at lanes (begin_of cycles marked.cycle) (letter_of it cycles marked) (letter_text marked.place) (mark_title it marked)
+    line_at lanes (begin_of cycles marked.cycle) (mark_title it marked)
+    ++ letter_where (has_letter it cycles marked) (letter_of it cycles marked) (letter_text marked.place) (mark_title it marked)
 
 abbrev pub lines_marks : LabelWords → ℕ → ℕ → List Mark
 lines_marks it cycles lanes = flat_map (line_of it cycles lanes) (all_marked it cycles)

@@ -45,7 +45,7 @@ section marks = record { clip = clips.Whole; marks = marks }
 -- marks.
 abbrev pub sections : LabelWords → Parts → List Entry → List Section
 sections it e journal =
-    section (head_marks e journal) ∷ section (time_marks e.cycles it.start (lanes_of e)) ∷ section (lines_marks it e.cycles (lanes_of e)) ∷ section (bands_marks e journal) ∷ section (altitude_marks it e)
+    section (head_marks it e journal (nearest_pair e)) ∷ section (time_marks e.cycles it.start (lanes_of e)) ∷ section (lines_marks it e.cycles (lanes_of e)) ∷ section (bands_marks e journal) ∷ section (altitude_marks it e journal)
     ∷ section (messages_marks e journal) ∷ section (lanes_marks it e journal) ∷ section (panel_marks (panels_top (lanes_of e)) it e (nearest_pair e))
     ∷ section (plan_marks (plan_top e) e it.start it (approach_of (nearest_pair e))) ∷ section (heard_marks (plan_top e) e journal it) ∷ section (legend_marks (legend_top e))
     ∷ section (list_marks (list_top e) it e.cycles) ∷ []

@@ -4,57 +4,40 @@ ghost use Rattle.std.specs.List.{range_with_len};
 ghost use Rattle.acas_base.specs.Ranges.{IsCycle};
 ghost use Rattle.acas_text.specs.Hex.{hex};
 ghost use Rattle.air_journal.specs.Airs.{address_of};
-ghost use Rattle.picture.specs.Altitude.{altitude_marks, altitude_y, axis_marks, course_line, course_marks, course_paint, course_point, course_points, course_y, courses, height_text, name_x, named_course};
-ghost use Rattle.picture.specs.Heights.{IsOn, axis_of};
+ghost use Rattle.picture.specs.Altitude.{altitude_marks, altitude_with, axis_marks, course_line, course_marks, course_paint, course_point, course_points, course_y, courses, height_text, name_x, named_course};
+ghost use Rattle.picture.specs.Heights.{HoldsModelled, HoldsPlanned, axis_of};
 ghost use Rattle.svg_text.specs.Marks.{traced};
 ghost use Rattle.svg_text.specs.declared.drawing.TheConstants.{LABEL_BYTES};
 ghost use Rattle.svg_text.specs.declared.shapes.Outline.TheVariants as outlines;
 
-use crate::heights::{axis_law, axis_of, height_in, height_of};
+use crate::heights::{altitude_y, axis_law, axis_of, height_in};
 use crate::lanes::address_text;
-use crate::layout::{COURSE_BOTTOM, COURSE_HEIGHT, course_area};
+use crate::layout::course_area;
+use crate::modelled::put_modelled;
 use crate::span::Span;
 use acas_base::{Address, Encounter};
 use acas_text::Line;
+use air_journal::AirState;
 use labels::Labels;
 use page_marks::{ink, point_at, put_dot, put_line, put_words};
 use plan_panel::dash_of;
-use plot_axes::{Scale, TimeAxis};
+use plot_axes::TimeAxis;
 use svg_text::{Anchor, Drawing, Fill, Outline, Paint, Point, Shape, Stroke, Weight};
-
-// How far down an altitude stands.
-#[tactic(auto, unfolding(crate::specs::Altitude::altitude_y))]
-fn altitude_y(axis: Span, height: i64) -> u32
-    requires low { unsigned_abs axis.low ≤ 401 }
-    requires high { unsigned_abs axis.high ≤ 401 }
-    requires on { IsOn axis height }
-    ensures value { result ≡ altitude_y axis height }
-    ensures least { 1500 ≤ result }
-    ensures most { result ≤ 4700 }
-{
-    let scale = Scale {
-        low: height_of(axis.low),
-        high: height_of(axis.high),
-        length: COURSE_HEIGHT,
-    };
-    COURSE_BOTTOM - scale.along(height)
-}
 
 /// How far down an aircraft stands in a cycle.
 #[tactic(auto, unfolding(crate::specs::Altitude::course_y))]
 pub(crate) fn course_y(encounter: &Encounter, axis: Span, own: u8, cycle: u16) -> u32
-    requires axis { axis ≡ axis_of encounter.now }
-    requires low { unsigned_abs axis.low ≤ 401 }
-    requires high { unsigned_abs axis.high ≤ 401 }
+    requires holds { HoldsPlanned axis encounter.now }
+    requires low { unsigned_abs axis.low ≤ 1068 }
+    requires high { unsigned_abs axis.high ≤ 1068 }
     requires own { own < length encounter.now.crafts }
     requires first { 1 ≤ cycle }
     requires last { cycle ≤ encounter.now.cycles }
-    ensures value { result ≡ course_y encounter.now own cycle }
+    ensures value { result ≡ course_y axis encounter.now own cycle }
     ensures least { 1500 ≤ result }
     ensures most { result ≤ 4700 }
 {
     encounter.valid_law();
-    axis_law(encounter);
     altitude_y(axis, height_in(encounter, own, cycle))
 }
 
@@ -67,14 +50,14 @@ pub(crate) fn course_point(
     own: u8,
     cycle: u16,
 ) -> Point
-    requires axis { axis ≡ axis_of encounter.now }
-    requires low { unsigned_abs axis.low ≤ 401 }
-    requires high { unsigned_abs axis.high ≤ 401 }
+    requires holds { HoldsPlanned axis encounter.now }
+    requires low { unsigned_abs axis.low ≤ 1068 }
+    requires high { unsigned_abs axis.high ≤ 1068 }
     requires time { time.cycles ≡ encounter.now.cycles }
     requires own { own < length encounter.now.crafts }
     requires first { 1 ≤ cycle }
     requires last { cycle ≤ encounter.now.cycles }
-    ensures { result ≡ course_point encounter.now own cycle }
+    ensures { result ≡ course_point axis encounter.now own cycle }
 {
     point_at(time.begin(cycle), course_y(encounter, axis, own, cycle))
 }
@@ -87,12 +70,12 @@ fn put_points<D: Drawing>(
     own: u8,
     drawing: &mut D,
 )
-    requires axis { axis ≡ axis_of encounter.now }
-    requires low { unsigned_abs axis.low ≤ 401 }
-    requires high { unsigned_abs axis.high ≤ 401 }
+    requires holds { HoldsPlanned axis encounter.now }
+    requires low { unsigned_abs axis.low ≤ 1068 }
+    requires high { unsigned_abs axis.high ≤ 1068 }
     requires time { time.cycles ≡ encounter.now.cycles }
     requires own { own < length encounter.now.crafts }
-    ensures { D.passed drawing.old drawing.new (course_points encounter.now own) }
+    ensures { D.passed drawing.old drawing.new (course_points axis encounter.now own) }
 {
     for cycle in 1..time.cycles + 1 {
         drawing.point(course_point(encounter, axis, time, own, cycle));
@@ -129,13 +112,13 @@ fn put_trace<D: Drawing>(
     title: &Line,
     drawing: &mut D,
 )
-    requires axis { axis ≡ axis_of encounter.now }
-    requires low { unsigned_abs axis.low ≤ 401 }
-    requires high { unsigned_abs axis.high ≤ 401 }
+    requires holds { HoldsPlanned axis encounter.now }
+    requires low { unsigned_abs axis.low ≤ 1068 }
+    requires high { unsigned_abs axis.high ≤ 1068 }
     requires time { time.cycles ≡ encounter.now.cycles }
     requires own { own < length encounter.now.crafts }
     requires title { length title.now ≤ LABEL_BYTES }
-    ensures { D.drew drawing.old drawing.new (traced outlines.Open (course_points encounter.now own) (course_paint own) title.now ∷ []) }
+    ensures { D.drew drawing.old drawing.new (traced outlines.Open (course_points axis encounter.now own) (course_paint own) title.now ∷ []) }
 {
     drawing.begin_points(Outline::Open);
     put_points(encounter, axis, time, own, drawing);
@@ -152,13 +135,13 @@ fn put_line_of<D: Drawing>(
     title: &Line,
     drawing: &mut D,
 )
-    requires axis { axis ≡ axis_of encounter.now }
-    requires low { unsigned_abs axis.low ≤ 401 }
-    requires high { unsigned_abs axis.high ≤ 401 }
+    requires holds { HoldsPlanned axis encounter.now }
+    requires low { unsigned_abs axis.low ≤ 1068 }
+    requires high { unsigned_abs axis.high ≤ 1068 }
     requires time { time.cycles ≡ encounter.now.cycles }
     requires own { own < length encounter.now.crafts }
     requires title { length title.now ≤ LABEL_BYTES }
-    ensures { D.drew drawing.old drawing.new (course_line encounter.now own title.now) }
+    ensures { D.drew drawing.old drawing.new (course_line axis encounter.now own title.now) }
 {
     if time.cycles == 1 {
         let point = course_point(encounter, axis, time, own, 1);
@@ -186,13 +169,13 @@ fn put_named<D: Drawing>(
     name: &Line,
     drawing: &mut D,
 )
-    requires axis { axis ≡ axis_of encounter.now }
-    requires low { unsigned_abs axis.low ≤ 401 }
-    requires high { unsigned_abs axis.high ≤ 401 }
+    requires holds { HoldsPlanned axis encounter.now }
+    requires low { unsigned_abs axis.low ≤ 1068 }
+    requires high { unsigned_abs axis.high ≤ 1068 }
     requires time { time.cycles ≡ encounter.now.cycles }
     requires own { own < length encounter.now.crafts }
     requires name { length name.now ≤ LABEL_BYTES }
-    ensures { D.drew drawing.old drawing.new (named_course encounter.now own address name.now) }
+    ensures { D.drew drawing.old drawing.new (named_course axis encounter.now own address name.now) }
 {
     encounter.valid_law();
     put_line_of(encounter, axis, time, own, &address_text(address), drawing);
@@ -218,12 +201,12 @@ fn put_course<D: Drawing>(
     own: u8,
     drawing: &mut D,
 )
-    requires axis { axis ≡ axis_of encounter.now }
-    requires low { unsigned_abs axis.low ≤ 401 }
-    requires high { unsigned_abs axis.high ≤ 401 }
+    requires holds { HoldsPlanned axis encounter.now }
+    requires low { unsigned_abs axis.low ≤ 1068 }
+    requires high { unsigned_abs axis.high ≤ 1068 }
     requires time { time.cycles ≡ encounter.now.cycles }
     requires own { own < length encounter.now.crafts }
-    ensures { D.drew drawing.old drawing.new (course_marks labels.now encounter.now own) }
+    ensures { D.drew drawing.old drawing.new (course_marks axis labels.now encounter.now own) }
 {
     let address = address_of(encounter, own);
     let name = labels.name(address);
@@ -238,11 +221,11 @@ fn put_courses<D: Drawing>(
     time: TimeAxis,
     drawing: &mut D,
 )
-    requires axis { axis ≡ axis_of encounter.now }
-    requires low { unsigned_abs axis.low ≤ 401 }
-    requires high { unsigned_abs axis.high ≤ 401 }
+    requires holds { HoldsPlanned axis encounter.now }
+    requires low { unsigned_abs axis.low ≤ 1068 }
+    requires high { unsigned_abs axis.high ≤ 1068 }
     requires time { time.cycles ≡ encounter.now.cycles }
-    ensures { D.drew drawing.old drawing.new (courses labels.now encounter.now) }
+    ensures { D.drew drawing.old drawing.new (courses axis labels.now encounter.now) }
 {
     encounter.valid_law();
     for own in 0..encounter.crafts().len() {
@@ -253,7 +236,7 @@ fn put_courses<D: Drawing>(
 // An end of the axis, in ft.
 #[tactic(auto, unfolding(crate::specs::Altitude::height_text))]
 fn height_text(step: i64) -> Line
-    requires { unsigned_abs step ≤ 401 }
+    requires { unsigned_abs step ≤ 1068 }
     ensures text { result ≡ height_text step }
     ensures short { length result ≤ LABEL_BYTES }
 {
@@ -265,8 +248,8 @@ fn height_text(step: i64) -> Line
 
 // Puts the box and the ends of the axis.
 fn put_axis<D: Drawing>(axis: Span, drawing: &mut D)
-    requires low { unsigned_abs axis.low ≤ 401 }
-    requires high { unsigned_abs axis.high ≤ 401 }
+    requires low { unsigned_abs axis.low ≤ 1068 }
+    requires high { unsigned_abs axis.high ≤ 1068 }
     ensures { D.drew drawing.old drawing.new (axis_marks axis) }
 {
     put_line(Shape::Rect(course_area()), ink(), drawing);
@@ -288,17 +271,36 @@ fn put_axis<D: Drawing>(axis: Span, drawing: &mut D)
     );
 }
 
-/// Puts the altitudes.
-pub(crate) fn put_altitude<D: Drawing>(
+// Puts them by this axis.
+fn put_altitude_with<D: Drawing>(
     labels: &Labels<'_>,
-    encounter: &Encounter,
+    state: &AirState,
+    axis: Span,
     time: TimeAxis,
     drawing: &mut D,
 )
-    requires { time.cycles ≡ encounter.now.cycles }
-    ensures { D.drew drawing.old drawing.new (altitude_marks labels.now encounter.now) }
+    requires low { unsigned_abs axis.low ≤ 1068 }
+    requires high { unsigned_abs axis.high ≤ 1068 }
+    requires planned { HoldsPlanned axis state.now.encounter }
+    requires modelled { length state.now.encounter.crafts ≤ 8 → HoldsModelled axis state.now.encounter state.now.journal }
+    requires time { time.cycles ≡ state.now.encounter.cycles }
+    ensures { D.drew drawing.old drawing.new (altitude_with axis labels.now state.now.encounter state.now.journal) }
 {
-    let axis = axis_of(encounter);
     put_axis(axis, drawing);
-    put_courses(labels, encounter, axis, time, drawing);
+    put_modelled(state, axis, time, drawing);
+    put_courses(labels, state.enc(), axis, time, drawing);
+}
+
+/// Puts the altitudes, and under their lines the flights with the modelled response.
+pub(crate) fn put_altitude<D: Drawing>(
+    labels: &Labels<'_>,
+    state: &AirState,
+    time: TimeAxis,
+    drawing: &mut D,
+)
+    requires { time.cycles ≡ state.now.encounter.cycles }
+    ensures { D.drew drawing.old drawing.new (altitude_marks labels.now state.now.encounter state.now.journal) }
+{
+    axis_law(state);
+    put_altitude_with(labels, state, axis_of(state), time, drawing);
 }

@@ -1,8 +1,9 @@
 // Bands of advice at the lines of the altitudes.
-ghost use Rattle.std.specs.Prelude.{◌≡◌, ◌≤◌, ◌∷◌, ◌++◌, [], length};
+ghost use Rattle.std.specs.Prelude.{◌≡◌, ◌≤◌, ◌∷◌, ◌++◌, [], length, unsigned_abs};
 ghost use Rattle.std.specs.List.{flat_map};
 ghost use Rattle.equal_rows.specs.Rows.{rows_at};
-ghost use Rattle.picture.specs.Bands.{above_band, band, band_depth, band_of_row, bands_marks, bands_of, below_band, both_bands, craft_bands, far_edge, has_line, last_area, last_stripe, near_edge, reach_end, row_band, sided_band, stripe, stripe_paint};
+ghost use Rattle.picture.specs.Bands.{above_band, band, band_depth, band_of_row, bands_marks, bands_of, bands_with, below_band, both_bands, craft_bands, far_edge, has_line, last_area, last_stripe, near_edge, reach_end, row_band, sided_band, stripe, stripe_paint};
+ghost use Rattle.picture.specs.Heights.{HoldsPlanned, axis_of};
 ghost use Rattle.picture.specs.Shown.{goes_on, is_shown};
 ghost use Rattle.svg_text.specs.declared.drawing.TheConstants.{LABEL_BYTES};
 ghost use Rattle.svg_text.specs.Marks.{figure, traced};
@@ -12,10 +13,11 @@ ghost use Rattle.svg_text.specs.declared.shapes.Shape.TheVariants as shapes;
 use crate::altitude::address_of;
 use crate::bars::{advised, bar_title};
 use crate::course::Course;
-use crate::heights::axis_of;
+use crate::heights::{axis_law, axis_of};
 use crate::onsets::put_onset;
 use crate::shown::{begins, last_from, shown_in};
 use crate::side::Side;
+use crate::span::Span;
 use acas_base::Address;
 use acas_text::Line;
 use advisory_report::Composite;
@@ -55,7 +57,7 @@ fn put_near<D: Drawing>(course: Course<'_>, row: Row, drawing: &mut D)
     requires first { 1 ≤ row.first }
     requires order { row.first ≤ row.last }
     requires last { row.last ≤ course.time.cycles }
-    ensures { D.passed drawing.old drawing.new (near_edge course.entry.encounter.now course.entry.own row) }
+    ensures { D.passed drawing.old drawing.new (near_edge course.entry.axis course.entry.encounter.now course.entry.own row) }
 {
     let end = reach_end(course, row);
     for step in 0..end + 1 - row.first {
@@ -69,7 +71,7 @@ fn put_far<D: Drawing>(course: Course<'_>, row: Row, side: Side, depth: u32, dra
     requires order { row.first ≤ row.last }
     requires last { row.last ≤ course.time.cycles }
     requires depth { depth ≤ 150 }
-    ensures { D.passed drawing.old drawing.new (far_edge course.entry.encounter.now course.entry.own side depth row) }
+    ensures { D.passed drawing.old drawing.new (far_edge course.entry.axis course.entry.encounter.now course.entry.own side depth row) }
 {
     let end = reach_end(course, row);
     for back in 0..end + 1 - row.first {
@@ -81,7 +83,7 @@ fn put_far<D: Drawing>(course: Course<'_>, row: Row, side: Side, depth: u32, dra
 #[tactic(auto, unfolding(crate::specs::Bands::last_area))]
 fn last_area(course: Course<'_>, side: Side, depth: u32) -> Area
     requires { depth ≤ 150 }
-    ensures { result ≡ last_area course.entry.encounter.now course.entry.own side depth }
+    ensures { result ≡ last_area course.entry.axis course.entry.encounter.now course.entry.own side depth }
 {
     let cycle = course.time.cycles;
     let x = course.begin(cycle);
@@ -96,7 +98,7 @@ fn last_area(course: Course<'_>, side: Side, depth: u32) -> Area
 // The stripe of traffic in the last cycle.
 #[tactic(auto, unfolding(crate::specs::Bands::last_stripe))]
 fn last_stripe(course: Course<'_>) -> Shape
-    ensures { result ≡ last_stripe course.entry.encounter.now course.entry.own }
+    ensures { result ≡ last_stripe course.entry.axis course.entry.encounter.now course.entry.own }
 {
     let cycle = course.time.cycles;
     Shape::Segment {
@@ -122,7 +124,7 @@ fn put_along<D: Drawing>(
     requires last { row.last ≤ course.time.cycles }
     requires depth { depth ≤ 150 }
     requires title { length title.now ≤ LABEL_BYTES }
-    ensures { D.drew drawing.old drawing.new (traced outlines.Closed (near_edge course.entry.encounter.now course.entry.own row ++ far_edge course.entry.encounter.now course.entry.own side depth row) paint title.now ∷ []) }
+    ensures { D.drew drawing.old drawing.new (traced outlines.Closed (near_edge course.entry.axis course.entry.encounter.now course.entry.own row ++ far_edge course.entry.axis course.entry.encounter.now course.entry.own side depth row) paint title.now ∷ []) }
 {
     drawing.begin_points(Outline::Closed);
     put_near(course, row, drawing);
@@ -141,7 +143,7 @@ fn put_last<D: Drawing>(
 )
     requires depth { depth ≤ 150 }
     requires title { length title.now ≤ LABEL_BYTES }
-    ensures { D.drew drawing.old drawing.new (figure (shapes.Rect (last_area course.entry.encounter.now course.entry.own side depth)) paint title.now ∷ []) }
+    ensures { D.drew drawing.old drawing.new (figure (shapes.Rect (last_area course.entry.axis course.entry.encounter.now course.entry.own side depth)) paint title.now ∷ []) }
 {
     drawing.figure(Shape::Rect(last_area(course, side, depth)), paint, title);
 }
@@ -161,7 +163,7 @@ fn put_band<D: Drawing>(
     requires last { row.last ≤ course.time.cycles }
     requires depth { depth ≤ 150 }
     requires title { length title.now ≤ LABEL_BYTES }
-    ensures { D.drew drawing.old drawing.new (band course.entry.encounter.now course.entry.own row title.now side depth paint) }
+    ensures { D.drew drawing.old drawing.new (band course.entry.axis course.entry.encounter.now course.entry.own row title.now side depth paint) }
 {
     if has_line(course, row) {
         put_along(course, row, title, side, depth, paint, drawing);
@@ -182,7 +184,7 @@ fn put_stripe_along<D: Drawing>(course: Course<'_>, row: Row, title: &Line, draw
     requires order { row.first ≤ row.last }
     requires last { row.last ≤ course.time.cycles }
     requires title { length title.now ≤ LABEL_BYTES }
-    ensures { D.drew drawing.old drawing.new (traced outlines.Open (near_edge course.entry.encounter.now course.entry.own row) stripe_paint title.now ∷ []) }
+    ensures { D.drew drawing.old drawing.new (traced outlines.Open (near_edge course.entry.axis course.entry.encounter.now course.entry.own row) stripe_paint title.now ∷ []) }
 {
     drawing.begin_points(Outline::Open);
     put_near(course, row, drawing);
@@ -192,7 +194,7 @@ fn put_stripe_along<D: Drawing>(course: Course<'_>, row: Row, title: &Line, draw
 // Puts a stripe in the last cycle.
 fn put_last_stripe<D: Drawing>(course: Course<'_>, title: &Line, drawing: &mut D)
     requires title { length title.now ≤ LABEL_BYTES }
-    ensures { D.drew drawing.old drawing.new (figure (last_stripe course.entry.encounter.now course.entry.own) stripe_paint title.now ∷ []) }
+    ensures { D.drew drawing.old drawing.new (figure (last_stripe course.entry.axis course.entry.encounter.now course.entry.own) stripe_paint title.now ∷ []) }
 {
     drawing.figure(last_stripe(course), stripe_paint(), title);
 }
@@ -203,7 +205,7 @@ fn put_stripe<D: Drawing>(course: Course<'_>, row: Row, title: &Line, drawing: &
     requires order { row.first ≤ row.last }
     requires last { row.last ≤ course.time.cycles }
     requires title { length title.now ≤ LABEL_BYTES }
-    ensures { D.drew drawing.old drawing.new (stripe course.entry.encounter.now course.entry.own row title.now) }
+    ensures { D.drew drawing.old drawing.new (stripe course.entry.axis course.entry.encounter.now course.entry.own row title.now) }
 {
     if has_line(course, row) {
         put_stripe_along(course, row, title, drawing);
@@ -227,7 +229,7 @@ fn put_above<D: Drawing>(course: Course<'_>, row: Row, title: &Line, depth: u32,
     requires last { row.last ≤ course.time.cycles }
     requires depth { depth ≤ 150 }
     requires title { length title.now ≤ LABEL_BYTES }
-    ensures { D.drew drawing.old drawing.new (above_band course.entry.encounter.now course.entry.own row title.now depth) }
+    ensures { D.drew drawing.old drawing.new (above_band course.entry.axis course.entry.encounter.now course.entry.own row title.now depth) }
 {
     put_band(
         course,
@@ -247,7 +249,7 @@ fn put_below<D: Drawing>(course: Course<'_>, row: Row, title: &Line, depth: u32,
     requires last { row.last ≤ course.time.cycles }
     requires depth { depth ≤ 150 }
     requires title { length title.now ≤ LABEL_BYTES }
-    ensures { D.drew drawing.old drawing.new (below_band course.entry.encounter.now course.entry.own row title.now depth) }
+    ensures { D.drew drawing.old drawing.new (below_band course.entry.axis course.entry.encounter.now course.entry.own row title.now depth) }
 {
     put_band(
         course,
@@ -268,7 +270,7 @@ fn put_both<D: Drawing>(course: Course<'_>, row: Row, title: &Line, depth: u32, 
     requires last { row.last ≤ course.time.cycles }
     requires depth { depth ≤ 150 }
     requires title { length title.now ≤ LABEL_BYTES }
-    ensures { D.drew drawing.old drawing.new (both_bands course.entry.encounter.now course.entry.own row title.now depth) }
+    ensures { D.drew drawing.old drawing.new (both_bands course.entry.axis course.entry.encounter.now course.entry.own row title.now depth) }
 {
     put_band(
         course,
@@ -304,7 +306,7 @@ fn put_sided<D: Drawing>(
     requires last { row.last ≤ course.time.cycles }
     requires depth { depth ≤ 150 }
     requires title { length title.now ≤ LABEL_BYTES }
-    ensures { D.drew drawing.old drawing.new (sided_band course.entry.encounter.now course.entry.own row title.now advised depth) }
+    ensures { D.drew drawing.old drawing.new (sided_band course.entry.axis course.entry.encounter.now course.entry.own row title.now advised depth) }
 {
     match advised {
         Advised::Traffic => put_stripe(course, row, title, drawing),
@@ -329,7 +331,7 @@ fn put_row_band<D: Drawing>(
     requires order { row.first ≤ row.last }
     requires last { row.last ≤ course.time.cycles }
     requires title { length title.now ≤ LABEL_BYTES }
-    ensures { D.drew drawing.old drawing.new (row_band course.entry.encounter.now course.entry.own row title.now before.now now.now) }
+    ensures { D.drew drawing.old drawing.new (row_band course.entry.axis course.entry.encounter.now course.entry.own row title.now before.now now.now) }
 {
     put_sided(course, row, title, advised(now), band_depth(now), drawing);
     put_onset(
@@ -353,7 +355,7 @@ fn put_row<D: Drawing>(
     requires first { 1 ≤ row.first }
     requires order { row.first ≤ row.last }
     requires last { row.last ≤ course.time.cycles }
-    ensures { D.drew drawing.old drawing.new (band_of_row state.now.encounter state.now.journal course.entry.own address row) }
+    ensures { D.drew drawing.old drawing.new (band_of_row course.entry.axis state.now.encounter state.now.journal course.entry.own address row) }
 {
     let now = shown_in(state, course.own, row.first);
     let before = shown_in(state, course.own, row.first - 1);
@@ -373,7 +375,7 @@ fn put_begun<D: Drawing>(
     requires run { course.time.cycles ≡ state.now.encounter.cycles }
     requires first { 1 ≤ cycle }
     requires last { cycle ≤ course.time.cycles }
-    ensures { D.drew drawing.old drawing.new (flat_map (band_of_row state.now.encounter state.now.journal course.entry.own address) (rows_at (is_shown state.now.journal course.entry.own) (goes_on state.now.journal course.entry.own) state.now.encounter.cycles cycle)) }
+    ensures { D.drew drawing.old drawing.new (flat_map (band_of_row course.entry.axis state.now.encounter state.now.journal course.entry.own address) (rows_at (is_shown state.now.journal course.entry.own) (goes_on state.now.journal course.entry.own) state.now.encounter.cycles cycle)) }
 {
     if begins(state, course.own, cycle) {
         let row = Row {
@@ -388,7 +390,7 @@ fn put_begun<D: Drawing>(
 fn put_bands_of<D: Drawing>(state: &AirState, course: Course<'_>, address: Address, drawing: &mut D)
     requires encounter { course.encounter.now ≡ state.now.encounter }
     requires run { course.time.cycles ≡ state.now.encounter.cycles }
-    ensures { D.drew drawing.old drawing.new (bands_of state.now.encounter state.now.journal course.entry.own address) }
+    ensures { D.drew drawing.old drawing.new (bands_of course.entry.axis state.now.encounter state.now.journal course.entry.own address) }
 {
     for cycle in 1..course.time.cycles + 1 {
         put_begun(state, course, address, cycle, drawing);
@@ -398,20 +400,22 @@ fn put_bands_of<D: Drawing>(state: &AirState, course: Course<'_>, address: Addre
 fn put_craft_bands<D: Drawing>(state: &AirState, course: Course<'_>, drawing: &mut D)
     requires encounter { course.encounter.now ≡ state.now.encounter }
     requires run { course.time.cycles ≡ state.now.encounter.cycles }
-    ensures { D.drew drawing.old drawing.new (craft_bands state.now.encounter state.now.journal course.entry.own) }
+    ensures { D.drew drawing.old drawing.new (craft_bands course.entry.axis state.now.encounter state.now.journal course.entry.own) }
 {
     let address = address_of(course.encounter, course.own);
     put_bands_of(state, course, address, drawing);
 }
 
-/// Puts the bands of all aircraft.
-pub(crate) fn put_bands<D: Drawing>(state: &AirState, time: TimeAxis, drawing: &mut D)
-    requires { time.cycles ≡ state.now.encounter.cycles }
-    ensures { D.drew drawing.old drawing.new (bands_marks state.now.encounter state.now.journal) }
+// Puts the bands of all aircraft, by this axis.
+fn put_bands_with<D: Drawing>(state: &AirState, axis: Span, time: TimeAxis, drawing: &mut D)
+    requires low { unsigned_abs axis.low ≤ 1068 }
+    requires high { unsigned_abs axis.high ≤ 1068 }
+    requires holds { HoldsPlanned axis state.now.encounter }
+    requires time { time.cycles ≡ state.now.encounter.cycles }
+    ensures { D.drew drawing.old drawing.new (bands_with axis state.now.encounter state.now.journal) }
 {
     state.legal_law();
     let encounter = state.enc();
-    let axis = axis_of(encounter);
     for own in 0..encounter.crafts().len() {
         let course = Course {
             encounter,
@@ -421,4 +425,13 @@ pub(crate) fn put_bands<D: Drawing>(state: &AirState, time: TimeAxis, drawing: &
         };
         put_craft_bands(state, course, drawing);
     }
+}
+
+/// Puts the bands of all aircraft.
+pub(crate) fn put_bands<D: Drawing>(state: &AirState, time: TimeAxis, drawing: &mut D)
+    requires { time.cycles ≡ state.now.encounter.cycles }
+    ensures { D.drew drawing.old drawing.new (bands_marks state.now.encounter state.now.journal) }
+{
+    axis_law(state);
+    put_bands_with(state, axis_of(state), time, drawing);
 }

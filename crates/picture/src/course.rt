@@ -2,7 +2,7 @@
 ghost use Rattle.std.specs.Prelude.{◌≡◌, ◌<◌, ◌≤◌, length, unsigned_abs};
 ghost use Rattle.picture.specs.Altitude.{course_point, course_y};
 ghost use Rattle.picture.specs.Bands.{edge_point, shifted};
-ghost use Rattle.picture.specs.Heights.{axis_of};
+ghost use Rattle.picture.specs.Heights.{HoldsPlanned};
 ghost use Rattle.plot_axes.specs.Time.{begin_of};
 
 use crate::altitude::{course_point, course_y};
@@ -21,9 +21,9 @@ pub(crate) struct Course<'a> {
     pub time: TimeAxis,
     pub own: u8,
 
-    ghost heights: { axis ≡ axis_of encounter.now },
-    ghost low: { unsigned_abs axis.low ≤ 401 },
-    ghost high: { unsigned_abs axis.high ≤ 401 },
+    ghost heights: { HoldsPlanned axis encounter.now },
+    ghost low: { unsigned_abs axis.low ≤ 1068 },
+    ghost high: { unsigned_abs axis.high ≤ 1068 },
     ghost run: { time.cycles ≡ encounter.now.cycles },
     ghost craft: { own < length encounter.now.crafts },
 }
@@ -47,7 +47,7 @@ impl Course<'_> {
     pub fn y(self, cycle: u16) -> u32
         requires first { 1 ≤ cycle }
         requires last { cycle ≤ self.time.cycles }
-        ensures value { result ≡ course_y self.entry.encounter.now self.entry.own cycle }
+        ensures value { result ≡ course_y self.entry.axis self.entry.encounter.now self.entry.own cycle }
         ensures least { 1500 ≤ result }
         ensures most { result ≤ 4700 }
     {
@@ -69,7 +69,7 @@ impl Course<'_> {
     pub fn place(self, cycle: u16) -> Point
         requires first { 1 ≤ cycle }
         requires last { cycle ≤ self.time.cycles }
-        ensures { result ≡ course_point self.entry.encounter.now self.entry.own cycle }
+        ensures { result ≡ course_point self.entry.axis self.entry.encounter.now self.entry.own cycle }
     {
         course_point(self.encounter, self.axis, self.time, self.own, cycle)
     }
@@ -80,7 +80,7 @@ impl Course<'_> {
         requires depth { depth ≤ 150 }
         requires first { 1 ≤ cycle }
         requires last { cycle ≤ self.time.cycles }
-        ensures { result ≡ edge_point self.entry.encounter.now self.entry.own side depth cycle }
+        ensures { result ≡ edge_point self.entry.axis self.entry.encounter.now self.entry.own side depth cycle }
     {
         point_at(self.begin(cycle), shifted(side, depth, self.y(cycle)))
     }

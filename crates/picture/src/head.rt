@@ -1,14 +1,18 @@
 // The head of the page.
-ghost use Rattle.std.specs.Prelude.{◌≡◌, ◌-◌, ◌<◌, ◌≤◌, ◌^◌, length};
+ghost use Rattle.std.specs.Prelude.{◌≡◌, ◌-◌, ◌<◌, ◌≤◌, ◌^◌, IfSome, length};
 ghost use Rattle.air_journal.specs.EntryRefs.{entry_of};
-ghost use Rattle.picture.specs.Head.{count_of, counted, crafts_text, description, head_marks, is_same_kind, is_send, number_text, sent_in, sent_text, title_text};
+ghost use Rattle.pair_panels.specs.Nearest.{IsPair};
+ghost use Rattle.picture.specs.Head.{count_of, counted, crafts_text, description, head_marks, is_same_kind, is_send, nearest_marks, number_text, sent_in, sent_text, title_marks, title_text};
 ghost use Rattle.svg_text.specs.declared.drawing.TheConstants.{LABEL_BYTES};
 
 use acas_base::{CraftSpec, Encounter, Kind};
 use acas_lines::fixed_line;
 use acas_text::Line;
 use air_journal::{AirState, EntryRef};
+use labels::Labels;
 use page_marks::{point_at, put_words};
+use pair_panels::{NearPair, put_headline};
+use plot_axes::TimeAxis;
 use svg_text::{Anchor, Drawing, Weight};
 
 fn is_same_kind(kind: Kind, other: Kind) -> bool
@@ -136,11 +140,11 @@ fn sent_text(sent: u32) -> Line
     line
 }
 
-/// Puts the title and how many messages were sent.
-pub(crate) fn put_head<D: Drawing>(state: &AirState, title: &Line, drawing: &mut D)
+// Puts the title and how many messages were sent.
+fn put_title<D: Drawing>(state: &AirState, title: &Line, drawing: &mut D)
     requires title { title.now ≡ title_text state.now.encounter }
     requires short { length title.now ≤ LABEL_BYTES }
-    ensures { D.drew drawing.old drawing.new (head_marks state.now.encounter state.now.journal) }
+    ensures { D.drew drawing.old drawing.new (title_marks state.now.encounter state.now.journal) }
 {
     put_words(
         point_at(400, 700),
@@ -158,4 +162,42 @@ pub(crate) fn put_head<D: Drawing>(state: &AirState, title: &Line, drawing: &mut
         &sent_text(sent_in(state)),
         drawing,
     );
+}
+
+// Puts where the nearest pair comes nearest, where there is one.
+fn put_nearest<D: Drawing>(
+    labels: &Labels<'_>,
+    encounter: &Encounter,
+    pair: Option<NearPair>,
+    axis: TimeAxis,
+    drawing: &mut D,
+)
+    requires pair { IfSome pair (IsPair encounter.now) }
+    requires axis { axis.cycles ≡ encounter.now.cycles }
+    requires start { axis.start ≡ labels.now.start }
+    ensures { D.drew drawing.old drawing.new (nearest_marks labels.now encounter.now pair) }
+{
+    if let Some(pair) = pair {
+        put_headline(1_150, encounter, labels, pair, axis, drawing);
+    }
+}
+
+/// Puts the title, how many messages were sent, and where the nearest pair comes nearest.
+pub(crate) fn put_head<D: Drawing>(
+    labels: &Labels<'_>,
+    state: &AirState,
+    title: &Line,
+    pair: Option<NearPair>,
+    axis: TimeAxis,
+    drawing: &mut D,
+)
+    requires title { title.now ≡ title_text state.now.encounter }
+    requires short { length title.now ≤ LABEL_BYTES }
+    requires pair { IfSome pair (IsPair state.now.encounter) }
+    requires axis { axis.cycles ≡ state.now.encounter.cycles }
+    requires start { axis.start ≡ labels.now.start }
+    ensures { D.drew drawing.old drawing.new (head_marks labels.now state.now.encounter state.now.journal pair) }
+{
+    put_title(state, title, drawing);
+    put_nearest(labels, state.enc(), pair, axis, drawing);
 }

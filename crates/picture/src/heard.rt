@@ -1,13 +1,13 @@
 // What the crews heard, as a list on the page.
 ghost use Rattle.std.specs.Prelude.{◌≡◌, ◌+◌, ◌-◌, ◌*◌, ◌<◌, ◌≤◌, length};
-ghost use Rattle.picture.specs.Calls.{call_in, calls, calls_at, calls_in};
-ghost use Rattle.picture.specs.Heard.{call_marks, call_title, heading_marks, heard_marks, line_marks, line_with, line_y, listed, more_text, quoted, rest_marks, sense_marks, words_at, words_marks};
+ghost use Rattle.picture.specs.Gathered.{call_lines, line_in, lines_at, lines_in};
+ghost use Rattle.picture.specs.Heard.{call_marks, call_title, heading_marks, heard_marks, line_marks, line_with, line_y, listed, more_text, quoted, rest_marks, said_text, sense_marks, shared_text, words_at, words_marks};
 ghost use Rattle.svg_text.specs.declared.drawing.TheConstants.{LABEL_BYTES};
 
 use crate::altitude::address_of;
 use crate::bars::advised;
 use crate::call::Call;
-use crate::calls::call_in;
+use crate::gathered::{CallLine, line_in};
 use crate::shown::is_clear;
 use crate::time::axis_of;
 use acas_base::{Address, Encounter};
@@ -16,7 +16,7 @@ use acas_text::Line;
 use advisory_report::{Composite, phrase, word};
 use air_journal::AirState;
 use labels::Labels;
-use page_marks::{area_at, point_at, put_box, put_words};
+use page_marks::{add_words, area_at, point_at, put_box, put_words};
 use svg_text::{Anchor, Drawing, Weight};
 
 /// How much of the page the list takes below its top.
@@ -32,7 +32,7 @@ const MOST_LINES: u32 = 22;
 fn quoted(phrase: &str) -> Line
     requires { length phrase.now ≤ 32 }
     ensures text { result ≡ quoted phrase.now }
-    ensures short { length result ≤ LABEL_BYTES }
+    ensures short { length result ≤ 34 }
 {
     let mut line = Line::new();
     line.text("\"");
@@ -59,12 +59,38 @@ fn call_title(address: Address, cycle: u16, shown: &Composite) -> Line
 #[tactic(auto, unfolding(crate::specs::Heard::more_text))]
 fn more_text(count: u32) -> Line
     ensures text { result ≡ more_text count }
-    ensures short { length result ≤ LABEL_BYTES }
+    ensures short { length result ≤ 19 }
 {
     let mut line = Line::new();
     line.text("and ");
     line.u32(count);
     line.text(" more");
+    line
+}
+
+// That a line stands for more calls than its own, where it does.
+fn shared_text(calls: u32) -> Line
+    ensures text { result ≡ shared_text calls }
+    ensures short { length result ≤ 20 }
+{
+    let mut line = Line::new();
+    if calls <= 1 {
+        return line;
+    }
+    line.text(" ");
+    add_words(&mut line, &more_text(calls - 1));
+    line
+}
+
+// A phrase in quotes, and for how many calls it stands.
+#[tactic(auto, unfolding(crate::specs::Heard::said_text))]
+fn said_text(phrase: &str, calls: u32) -> Line
+    requires { length phrase.now ≤ 32 }
+    ensures text { result ≡ said_text phrase.now calls }
+    ensures short { length result ≤ LABEL_BYTES }
+{
+    let mut line = quoted(phrase);
+    add_words(&mut line, &shared_text(calls));
     line
 }
 
@@ -132,24 +158,26 @@ fn put_line_words<D: Drawing>(y: u32, label: &Line, name: &Line, phrase: &Line, 
     );
 }
 
-// Puts the line of a call.
+// Puts the line of a call that stands for so many.
 fn put_line_with<D: Drawing>(
     y: u32,
     address: Address,
     label: &Line,
     name: &Line,
     call: &Call,
+    calls: u32,
     drawing: &mut D,
 )
     requires least { 750 ≤ y }
     requires most { y ≤ 46470 }
     requires label { length label.now ≤ LABEL_BYTES }
     requires name { length name.now ≤ LABEL_BYTES }
-    ensures { D.drew drawing.old drawing.new (line_with y address label.now name.now call.now) }
+    ensures { D.drew drawing.old drawing.new (line_with y address label.now name.now call.now calls) }
 {
     let title = call_title(address, call.cycle, &call.shown);
     put_sense(y, &call.shown, &title, drawing);
-    put_line_words(y, label, name, &quoted(phrase(call.heard)), drawing);
+    let words = said_text(phrase(call.heard), calls);
+    put_line_words(y, label, name, &words, drawing);
 }
 
 #[tactic(auto, unfolding(crate::specs::Heard::line_marks))]
@@ -158,49 +186,50 @@ fn put_call_line<D: Drawing>(
     encounter: &Encounter,
     labels: &Labels<'_>,
     number: u32,
-    call: &Call,
+    it: &CallLine,
     drawing: &mut D,
 )
     requires top { top ≤ 40000 }
     requires number { number < 22 }
-    requires own { call.now.own < length encounter.now.crafts }
-    requires first { 1 ≤ call.now.cycle }
-    requires last { call.now.cycle ≤ 600 }
-    ensures { D.drew drawing.old drawing.new (line_marks top encounter.now labels.now number call.now) }
+    requires own { it.now.call.own < length encounter.now.crafts }
+    requires first { 1 ≤ it.now.call.cycle }
+    requires last { it.now.call.cycle ≤ 600 }
+    ensures { D.drew drawing.old drawing.new (line_marks top encounter.now labels.now number it.now) }
 {
-    let address = address_of(encounter, call.own);
+    let address = address_of(encounter, it.call.own);
     put_line_with(
         line_y(top, number),
         address,
-        &axis_of(labels, encounter).label(call.cycle),
+        &axis_of(labels, encounter).label(it.call.cycle),
         &labels.name(address),
-        call,
+        &it.call,
+        it.calls,
         drawing,
     );
 }
 
-// Puts the line of a call, where there is room for it.
+// Puts a line, where there is room for it.
 #[tactic(auto, unfolding(crate::specs::Heard::call_marks))]
 fn put_call<D: Drawing>(
     top: u32,
     encounter: &Encounter,
     labels: &Labels<'_>,
     number: u32,
-    call: &Call,
+    it: &CallLine,
     drawing: &mut D,
 )
     requires top { top ≤ 40000 }
-    requires own { call.now.own < length encounter.now.crafts }
-    requires first { 1 ≤ call.now.cycle }
-    requires last { call.now.cycle ≤ 600 }
-    ensures { D.drew drawing.old drawing.new (call_marks top encounter.now labels.now number call.now) }
+    requires own { it.now.call.own < length encounter.now.crafts }
+    requires first { 1 ≤ it.now.call.cycle }
+    requires last { it.now.call.cycle ≤ 600 }
+    ensures { D.drew drawing.old drawing.new (call_marks top encounter.now labels.now number it.now) }
 {
     if number < MOST_LINES {
-        put_call_line(top, encounter, labels, number, call, drawing);
+        put_call_line(top, encounter, labels, number, it, drawing);
     }
 }
 
-// Puts the line of the call of an aircraft's commit, if it has one, and gives the number of the next call.
+// Puts the line of the call of an aircraft's commit, if it has one, and gives the number of the next line.
 fn put_call_of<D: Drawing>(
     top: u32,
     state: &AirState,
@@ -215,14 +244,14 @@ fn put_call_of<D: Drawing>(
     requires last { cycle ≤ 600 }
     requires own { own < length state.now.encounter.crafts }
     requires number { number ≤ 9600 }
-    ensures drawn { D.drew drawing.old drawing.new (listed top state.now.encounter labels.now number (calls_at state.now.journal cycle own)) }
-    ensures next { result ≡ number + length (calls_at state.now.journal cycle own) }
+    ensures drawn { D.drew drawing.old drawing.new (listed top state.now.encounter labels.now number (lines_at state.now.journal (length state.now.encounter.crafts) cycle own)) }
+    ensures next { result ≡ number + length (lines_at state.now.journal (length state.now.encounter.crafts) cycle own) }
     ensures few { result ≤ number + 1 }
 {
-    match call_in(state, cycle, own) {
+    match line_in(state, cycle, own) {
         None => number,
-        Some(call) => {
-            put_call(top, state.enc(), labels, number, &call, drawing);
+        Some(it) => {
+            put_call(top, state.enc(), labels, number, &it, drawing);
             number + 1
         }
     }
@@ -241,8 +270,8 @@ fn put_cycle<D: Drawing>(
     requires cycle { 1 ≤ cycle }
     requires last { cycle ≤ 600 }
     requires first { first ≤ 9584 }
-    ensures drawn { D.drew drawing.old drawing.new (listed top state.now.encounter labels.now first (calls_in state.now.journal (length state.now.encounter.crafts) cycle)) }
-    ensures next { result ≡ first + length (calls_in state.now.journal (length state.now.encounter.crafts) cycle) }
+    ensures drawn { D.drew drawing.old drawing.new (listed top state.now.encounter labels.now first (lines_in state.now.journal (length state.now.encounter.crafts) cycle)) }
+    ensures next { result ≡ first + length (lines_in state.now.journal (length state.now.encounter.crafts) cycle) }
     ensures few { result ≤ first + 16 }
 {
     state.legal_law();
@@ -253,11 +282,11 @@ fn put_cycle<D: Drawing>(
     number
 }
 
-// Puts all of them, and gives how many calls there are.
+// Puts all of them, and gives how many lines there are.
 fn put_calls<D: Drawing>(top: u32, state: &AirState, labels: &Labels<'_>, drawing: &mut D) -> u32
     requires top { top ≤ 40000 }
-    ensures drawn { D.drew drawing.old drawing.new (listed top state.now.encounter labels.now 0 (calls state.now.encounter state.now.journal)) }
-    ensures count { result ≡ length (calls state.now.encounter state.now.journal) }
+    ensures drawn { D.drew drawing.old drawing.new (listed top state.now.encounter labels.now 0 (call_lines state.now.encounter state.now.journal)) }
+    ensures count { result ≡ length (call_lines state.now.encounter state.now.journal) }
 {
     state.legal_law();
     let mut number = 0;
@@ -313,8 +342,8 @@ fn put_heading<D: Drawing>(top: u32, drawing: &mut D)
     );
 }
 
-/// Draws what the crews heard from `top` downward, over [`HEARD_HEIGHT`], to the right of the plan: a line for each of
-/// the first 22 calls, by cycle and then by index, and how many more there are.
+/// Draws what the crews heard from `top` downward, over [`HEARD_HEIGHT`], to the right of the plan: the first 22 lines
+/// of calls, by cycle and then by index, and how many more there are.
 #[tactic(auto, unfolding(crate::specs::Heard::heard_marks))]
 pub(crate) fn put_heard<D: Drawing>(
     top: u32,

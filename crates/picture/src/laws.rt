@@ -18,10 +18,10 @@ pub fn bars_law()
     ensures { (e : Parts) (journal : List Entry) → IsLegal (air_of e) journal → (own : ℕ) → AreBars journal e.cycles own (shown_rows journal e.cycles own) }
 {}
 
-/// A law: the axis of altitudes holds each aircraft in each cycle, and a greater altitude stands no lower than a less
-/// one.
+/// A law: the axis of altitudes holds each aircraft in each cycle, as planned and, of up to 8 aircraft, as modelled. A
+/// greater altitude stands no lower than a less one.
 pub fn courses_law()
-    ensures { (e : Parts) → AreCourses e }
+    ensures { (e : Parts) (journal : List Entry) → AreCourses e journal }
 {}
 
 /// A law: an arrow stands exactly for each take of a good copy that changes the complement in force on the taker from
@@ -39,7 +39,7 @@ pub fn mishaps_law()
 {}
 
 /// A law: of the marks of the labels exactly those are drawn whose cycle is one of the run, each once and in the order
-/// of the list. Letters of one cycle don't hide each other.
+/// of the list. Letters that are drawn don't hide each other.
 pub fn marks_law()
     ensures { (it : LabelWords) (cycles : ℕ) → AreMarked it cycles (all_marked it cycles) }
 {}

@@ -13,7 +13,7 @@ const PAGE_WIDTH: u32 = 20_000;
 const PLOT_TOP: u32 = 5_100;
 
 /// How high the legend is.
-pub(crate) const LEGEND_HEIGHT: u32 = 1_600;
+pub(crate) const LEGEND_HEIGHT: u32 = 2_300;
 
 /// Where the box of the altitudes begins.
 pub(crate) const COURSE_TOP: u32 = 1_500;
@@ -93,9 +93,9 @@ pub(crate) fn panels_top(lanes: u32) -> u32
 fn page_height(lanes: u32) -> u32
     requires { lanes ≤ 16 }
     ensures value { result ≡ page_height lanes }
-    ensures most { result ≤ 23110 }
+    ensures most { result ≤ 23810 }
 {
-    7_750 + LANE * lanes
+    8_450 + LANE * lanes
 }
 
 /// The page, with so much more for panels, for the plan and for a list of marks.

@@ -1,6 +1,6 @@
-// What the boxes, the signs and the arrows mean.
-ghost use Rattle.std.specs.Prelude.{◌≡◌, ◌<◌, ◌≤◌, ◌^◌, length};
-ghost use Rattle.picture.specs.Legend.{arrow_words, height_words, item_marks, legend_marks, sample_marks, sample_shaft};
+// What the boxes, the signs, the arrows and the bands mean.
+ghost use Rattle.std.specs.Prelude.{◌≡◌, ◌<◌, ◌≤◌, ◌^◌, ◌∷◌, [], length};
+ghost use Rattle.picture.specs.Legend.{arrow_words, band_words, height_words, item_marks, legend_marks, modelled_words, remark, remarks_marks, sample_marks, sample_shaft};
 ghost use Rattle.picture.specs.MessagesDrawn.{IsShaft};
 ghost use Rattle.svg_text.specs.declared.drawing.TheConstants.{LABEL_BYTES};
 
@@ -71,6 +71,49 @@ fn put_sample<D: Drawing>(top: u32, x: u32, y: u32, sign: Sign, words: &str, dra
     );
 }
 
+// Puts a line of words.
+fn put_remark<D: Drawing>(y: u32, words: &str, drawing: &mut D)
+    requires y { y ≤ 41000 }
+    requires words { length words.now ≤ LABEL_BYTES }
+    ensures { D.drew drawing.old drawing.new (remark y words.now ∷ []) }
+{
+    put_words(
+        point_at(2_000, y),
+        260,
+        Anchor::Start,
+        Weight::Regular,
+        &fixed_line(words),
+        drawing,
+    );
+}
+
+// Puts what the heights of bars, the arrows and the bands mean.
+fn put_remarks<D: Drawing>(top: u32, drawing: &mut D)
+    requires { top ≤ 38500 }
+    ensures { D.drew drawing.old drawing.new (remarks_marks top) }
+{
+    put_remark(
+        top + 900,
+        "A tall bar: corrective advice. A low bar: preventive advice, or traffic alone.",
+        drawing,
+    );
+    put_remark(
+        top + 1_250,
+        "An arrow: a message that changes what is in force, in the colour of the sense that it leaves.",
+        drawing,
+    );
+    put_remark(
+        top + 1_600,
+        "A band above a line: up. Below it: down. Half as high: preventive advice. A stripe: traffic.",
+        drawing,
+    );
+    put_remark(
+        top + 1_950,
+        "A dotted green line: the flight with the modelled response, where it isn't the planned one.",
+        drawing,
+    );
+}
+
 /// Puts the legend, from `top` downward.
 pub(crate) fn put_legend<D: Drawing>(top: u32, drawing: &mut D)
     requires { top ≤ 38500 }
@@ -82,24 +125,5 @@ pub(crate) fn put_legend<D: Drawing>(top: u32, drawing: &mut D)
     put_item(top, 11_600, Advised::Both, "up and down", drawing);
     put_sample(top, 14_900, top + 210, Sign::Cross, "lost", drawing);
     put_sample(top, 16_800, top + 140, Sign::HollowHead, "spoilt", drawing);
-    put_words(
-        point_at(2_000, top + 900),
-        260,
-        Anchor::Start,
-        Weight::Regular,
-        &fixed_line(
-            "A tall bar: corrective advice. A low bar: preventive advice, or traffic alone.",
-        ),
-        drawing,
-    );
-    put_words(
-        point_at(2_000, top + 1_250),
-        260,
-        Anchor::Start,
-        Weight::Regular,
-        &fixed_line(
-            "An arrow: a message that changes what is in force, in the colour of the sense that it leaves.",
-        ),
-        drawing,
-    );
+    put_remarks(top, drawing);
 }

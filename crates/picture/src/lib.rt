@@ -1,6 +1,7 @@
 //! A drawing of a recording as SVG: how high each aircraft flew, which advisories each one showed, and when.
 //!
-//! It has a head, an axis of time, a line for the altitude of each aircraft, a lane for each aircraft that advises with
+//! It has a head, an axis of time, a line for the altitude of each aircraft, a dotted one where it would have flown
+//! otherwise with the modelled response, a lane for each aircraft that advises with
 //! a bar for each of its rows of cycles, a legend, and the marks of the labels. The bars are exactly the longest rows
 //! of cycles with one word and one corrective mark (`bars_law`). Between the lanes stands an arrow for each take of a
 //! message that changes the complement in force (`arrows_law`), a cross for each maximal row of lost messages of two
@@ -16,6 +17,7 @@ mod bars;
 mod call;
 mod calls;
 mod course;
+mod gathered;
 mod head;
 mod heard;
 mod heard_laws;
@@ -31,6 +33,7 @@ mod messages_drawn;
 mod messages_read;
 mod mishaps;
 mod mishaps_drawn;
+mod modelled;
 mod onsets;
 mod panels;
 mod picture;

@@ -3,7 +3,7 @@ ghost use Rattle.std.specs.Prelude.{◌≡◌, ◌+◌, ◌*◌, ◌<◌, ◌≤
 ghost use Rattle.std.specs.Fmt.{decimal};
 ghost use Rattle.std.specs.List.{flat_map};
 ghost use Rattle.picture.specs.Marked.{IsMarked, count_among, mark_text, marked_at};
-ghost use Rattle.picture.specs.MarkedDrawn.{letter_text, letter_x, line_at, line_of, lines_marks, list_height, list_marks, mark_title, row_at, row_number, row_of};
+ghost use Rattle.picture.specs.MarkedDrawn.{are_beside, has_letter, is_over, is_over_some, letter_of, letter_text, letter_where, letter_x, line_at, line_of, lines_marks, list_height, list_marks, mark_title, row_at, row_number, row_of};
 ghost use Rattle.picture.specs.Layout.{plot_bottom};
 ghost use Rattle.svg_text.specs.declared.drawing.TheConstants.{LABEL_BYTES};
 
@@ -66,31 +66,90 @@ fn letter_x(x: u32, before: u32) -> u32
     }
 }
 
-// Puts a line and its letter.
-fn put_line_at<D: Drawing>(
-    lanes: u32,
-    x: u32,
-    at: u32,
-    letter: &Line,
-    title: &Line,
-    drawing: &mut D,
-)
+// Puts a line.
+fn put_line_at<D: Drawing>(lanes: u32, x: u32, title: &Line, drawing: &mut D)
     requires lanes { lanes ≤ 16 }
     requires x { x < 2 ^ 16 }
-    requires at { at < 2 ^ 16 }
-    requires letter { length letter.now ≤ LABEL_BYTES }
     requires title { length title.now ≤ LABEL_BYTES }
-    ensures { D.drew drawing.old drawing.new (line_at lanes x at letter.now title.now) }
+    ensures { D.drew drawing.old drawing.new (line_at lanes x title.now) }
 {
     let line = Shape::Segment {
         from: point_at(x, COURSE_TOP),
         to: point_at(x, plot_bottom(lanes)),
     };
     drawing.figure(line, dashed_paint(note(), 30, Dash::Short), title);
-    put_over(point_at(at, 1_440), 240, letter, title, drawing);
 }
 
-// Puts those of a mark, where its cycle begins.
+// Puts a letter, where it is there.
+fn put_letter_where<D: Drawing>(there: bool, at: u32, letter: &Line, title: &Line, drawing: &mut D)
+    requires at { at < 2 ^ 16 }
+    requires letter { length letter.now ≤ LABEL_BYTES }
+    requires title { length title.now ≤ LABEL_BYTES }
+    ensures { D.drew drawing.old drawing.new (letter_where there at letter.now title.now) }
+{
+    if there {
+        put_over(point_at(at, 1_440), 240, letter, title, drawing);
+    }
+}
+
+// Where the letter of a mark stands.
+fn letter_of(labels: &Labels<'_>, axis: TimeAxis, marked: Marked) -> u32
+    requires marked { IsMarked labels.now axis.cycles marked }
+    requires few { marked.place < 26 }
+    ensures value { result ≡ letter_of labels.now axis.cycles marked }
+    ensures most { result ≤ 17800 }
+{
+    let before = count_among(labels, marked.cycle, marked.cycle, marked.place);
+    letter_x(axis.begin(marked.cycle), before)
+}
+
+// Whether two letters stand beside each other.
+fn are_beside(one: u32, other: u32) -> bool
+    requires one { one ≤ 17800 }
+    requires other { other ≤ 17800 }
+    ensures { result ≡ are_beside one other }
+{
+    one + 180 <= other || other + 180 <= one
+}
+
+// Whether a letter at a place would lie over that of the mark at a place of the list.
+fn is_over(labels: &Labels<'_>, axis: TimeAxis, at: u32, place: usize) -> bool
+    requires at { at ≤ 17800 }
+    requires place { place < length labels.now.marks }
+    requires few { place < 26 }
+    ensures { result ≡ is_over labels.now axis.cycles at (marked_at labels.now axis.cycles place) }
+{
+    match marked_at(labels, axis.cycles, place) {
+        None => false,
+        Some(other) => !are_beside(letter_of(labels, axis, other), at),
+    }
+}
+
+// Whether it would lie over that of one of the first marks of the list.
+fn is_over_some(labels: &Labels<'_>, axis: TimeAxis, at: u32, places: usize) -> bool
+    requires at { at ≤ 17800 }
+    requires places { places ≤ length labels.now.marks }
+    requires few { places ≤ 26 }
+    ensures { result ≡ is_over_some labels.now axis.cycles at places }
+{
+    let mut over = false;
+    for place in 0..places {
+        over = over || is_over(labels, axis, at, place);
+    }
+    over
+}
+
+// Whether the letter of a mark is drawn.
+fn has_letter(labels: &Labels<'_>, axis: TimeAxis, marked: Marked) -> bool
+    requires marked { IsMarked labels.now axis.cycles marked }
+    requires few { marked.place < 26 }
+    ensures { result ≡ has_letter labels.now axis.cycles marked }
+{
+    let at = letter_of(labels, axis, marked);
+    !is_over_some(labels, axis, at, marked.place)
+}
+
+// Puts the line and the letter of a mark, where its cycle begins.
 #[tactic(auto, unfolding(crate::specs::MarkedDrawn::line_of))]
 fn put_line_of<D: Drawing>(
     labels: &Labels<'_>,
@@ -104,16 +163,11 @@ fn put_line_of<D: Drawing>(
     requires few { marked.place < 26 }
     ensures { D.drew drawing.old drawing.new (line_of labels.now axis.cycles lanes marked) }
 {
-    let x = axis.begin(marked.cycle);
-    let before = count_among(labels, marked.cycle, marked.cycle, marked.place);
-    put_line_at(
-        lanes,
-        x,
-        letter_x(x, before),
-        &letter_text(marked.place),
-        &mark_title(labels, marked),
-        drawing,
-    );
+    let title = mark_title(labels, marked);
+    let there = has_letter(labels, axis, marked);
+    let at = letter_of(labels, axis, marked);
+    put_line_at(lanes, axis.begin(marked.cycle), &title, drawing);
+    put_letter_where(there, at, &letter_text(marked.place), &title, drawing);
 }
 
 // Puts those of the mark at a place of the list, where it is drawn.
@@ -194,7 +248,7 @@ fn put_row_of<D: Drawing>(
     marked: Marked,
     drawing: &mut D,
 )
-    requires top { top ≤ 40000 }
+    requires top { top ≤ 41000 }
     requires axis { axis.start ≡ labels.now.start }
     requires marked { IsMarked labels.now axis.cycles marked }
     requires few { marked.place < 26 }
@@ -212,7 +266,7 @@ fn put_row_of<D: Drawing>(
 
 // Puts the row of the mark at a place of the list, where it is drawn.
 fn put_row<D: Drawing>(top: u32, labels: &Labels<'_>, axis: TimeAxis, place: usize, drawing: &mut D)
-    requires top { top ≤ 40000 }
+    requires top { top ≤ 41000 }
     requires axis { axis.start ≡ labels.now.start }
     requires place { place < length labels.now.marks }
     requires few { place < 26 }
@@ -225,7 +279,7 @@ fn put_row<D: Drawing>(top: u32, labels: &Labels<'_>, axis: TimeAxis, place: usi
 
 /// Puts the list of marks, from `top` downward.
 pub(crate) fn put_list<D: Drawing>(top: u32, labels: &Labels<'_>, axis: TimeAxis, drawing: &mut D)
-    requires top { top ≤ 40000 }
+    requires top { top ≤ 41000 }
     requires axis { axis.start ≡ labels.now.start }
     ensures { D.drew drawing.old drawing.new (list_marks top labels.now axis.cycles) }
 {

@@ -43,13 +43,23 @@ use svg_text::{Clip, begin_drawing, begin_section, end_drawing, end_section};
 
 // ---- sections
 
-fn put_head_section<S: LineSink>(state: &AirState, title: &Line, sink: &mut S)
+fn put_head_section<S: LineSink>(
+    labels: &Labels<'_>,
+    state: &AirState,
+    title: &Line,
+    pair: Option<NearPair>,
+    axis: TimeAxis,
+    sink: &mut S,
+)
     requires title { title.now ≡ title_text state.now.encounter }
     requires short { length title.now ≤ LABEL_BYTES }
-    ensures { S.took sink.old sink.new (section_lines (section (head_marks state.now.encounter state.now.journal))) }
+    requires pair { IfSome pair (IsPair state.now.encounter) }
+    requires axis { axis.cycles ≡ state.now.encounter.cycles }
+    requires start { axis.start ≡ labels.now.start }
+    ensures { S.took sink.old sink.new (section_lines (section (head_marks labels.now state.now.encounter state.now.journal pair))) }
 {
     begin_section(sink, Clip::Whole);
-    put_head(state, title, sink);
+    put_head(labels, state, title, pair, axis, sink);
     end_section(sink);
 }
 
@@ -82,15 +92,15 @@ fn put_bands_section<S: LineSink>(state: &AirState, axis: TimeAxis, sink: &mut S
 
 fn put_altitude_section<S: LineSink>(
     labels: &Labels<'_>,
-    encounter: &Encounter,
+    state: &AirState,
     axis: TimeAxis,
     sink: &mut S,
 )
-    requires { axis.cycles ≡ encounter.now.cycles }
-    ensures { S.took sink.old sink.new (section_lines (section (altitude_marks labels.now encounter.now))) }
+    requires { axis.cycles ≡ state.now.encounter.cycles }
+    ensures { S.took sink.old sink.new (section_lines (section (altitude_marks labels.now state.now.encounter state.now.journal))) }
 {
     begin_section(sink, Clip::Whole);
-    put_altitude(labels, encounter, axis, sink);
+    put_altitude(labels, state, axis, sink);
     end_section(sink);
 }
 
@@ -176,7 +186,7 @@ fn put_legend_section<S: LineSink>(top: u32, sink: &mut S)
 }
 
 fn put_list_section<S: LineSink>(top: u32, labels: &Labels<'_>, axis: TimeAxis, sink: &mut S)
-    requires top { top ≤ 40000 }
+    requires top { top ≤ 41000 }
     requires axis { axis.start ≡ labels.now.start }
     ensures { S.took sink.old sink.new (section_lines (section (list_marks top labels.now axis.cycles))) }
 {
@@ -222,11 +232,11 @@ impl Text for Picture<'_> {
         let below = panels + PLAN_HEIGHT;
         let frame = frame_of(lanes, below + list_height(labels, axis.cycles));
         begin_drawing(sink, &frame, &title, &description());
-        put_head_section(state, &title, sink);
+        put_head_section(labels, state, &title, pair, axis, sink);
         put_time_section(axis, lanes, sink);
         put_lines_section(labels, axis, lanes, sink);
         put_bands_section(state, axis, sink);
-        put_altitude_section(labels, encounter, axis, sink);
+        put_altitude_section(labels, state, axis, sink);
         put_messages_section(deliveries, axis, sink);
         put_lanes_section(labels, state, axis, sink);
         let top = panels_top(lanes);

@@ -23,7 +23,8 @@ pub(crate) fn is_clear(composite: &Composite) -> bool
     !has_advice(composite) && !composite.traffic
 }
 
-fn is_same_word(one: &Composite, other: &Composite) -> bool
+/// Whether two have one word of the report.
+pub(crate) fn is_same_word(one: &Composite, other: &Composite) -> bool
     ensures { result ≡ is_same_word one.now other.now }
 {
     word(one) == word(other)

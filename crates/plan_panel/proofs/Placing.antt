@@ -1,5 +1,5 @@
 -- Where the marks of the plan stand.
-use Rattle.std.proofs.Common.{◌≡◌, ℕ, ◌+◌, ◌-◌, ◌*◌, ◌<◌, ◌≤◌, List, [], ◌∷◌, ◌++◌, Option, Some, None, ℤ, pos, ◌-ℤ◌, ◌≤ℤ◌, length, unsigned_abs, refl, sym, ap, ap₂, ◌∙◌, subst, arith, inl, inr}
+use Rattle.std.proofs.Common.{◌≡◌, ℕ, ◌+◌, ◌-◌, ◌*◌, ◌<◌, ◌≤◌, List, cond, [], ◌∷◌, ◌++◌, Option, Some, None, ℤ, pos, ◌-ℤ◌, ◌≤ℤ◌, length, unsigned_abs, refl, sym, ap, ap₂, ◌∙◌, subst, arith, inl, inr}
 use Rattle.std.proofs.Math.Nat.{div-le_of_le-mul}
 use Rattle.std.proofs.lemmas.Bool.{cases_Bool, cond-false, cond-true}
 use Rattle.std.proofs.lemmas.Int.{ints}
@@ -17,7 +17,8 @@ use Rattle.page_marks.specs.Within.{AreInside, Bounds, IsMarkWithin, IsWithin}
 use Rattle.plan_panel.proofs.Lengths.{across, is-length, upward, whole-is}
 use Rattle.plan_panel.proofs.Showing.{holds-all}
 use Rattle.plan_panel.specs.Laws.{AreShown, AreWithin, IsShare, box_from, part_from}
-use Rattle.plan_panel.specs.Marks.{IsApproach, address_of, approach_marks, approach_title, bar_marks, bar_width, between_marks, cross_marks, dot, flight_marks, flight_paint, flight_points, flights, flown_marks, frame_marks, heading, length_for, length_text, line_marks, moment_text, name_marks, name_y, plan_marks, start_marks, tick_marks, ticks}
+use Rattle.plan_panel.specs.Marks.{IsApproach, address_of, approach_marks, approach_title, bar_marks, bar_width, between_marks, cross_marks, dot, flight_marks, flight_paint, flight_points, flights, flown_marks, frame_marks, heading, length_for, length_text, line_marks, moment_text, plan_marks, start_marks, tick_marks, ticks}
+use Rattle.plan_panel.specs.Names.{has_room, name_at, name_marks, name_y, placed_name}
 use Rattle.plan_panel.specs.Places.{IsOn, box_bottom, box_height, box_left, box_top, box_width, placed, plan_point, view_of, x_in, y_in}
 use Rattle.plan_panel.specs.declared.panel.Approach.{Approach}
 use Rattle.plan_panel.specs.declared.view.Axis.{Axis}
@@ -221,6 +222,26 @@ good-name top x y name most left right is =
       | inr near ↦ subst P (sym (cond-false (nat_le x 7100) right_of left_of near)) (good-words bounds (x - 120) y 240 anchors.End weights.Regular name [] (omega arith) (small-box top most) (place top (x - 120) y (omega arith) (omega arith) is.above is.below), tt)
     ]
 
+good-name-at : (top : ℕ) (e : Parts) (own cycle : ℕ) (name : List ℕ) → top ≤ 40000 → IsCraft e own → 1 ≤ cycle → cycle ≤ e.cycles → AllByRecursion (Good (box_from top)) (name_at top e own cycle name)
+good-name-at top e own cycle name most is first last =
+    let at = in-box top e own cycle is.within first last in
+    good-name top (x_in e own cycle) (name_y (y_in top e own cycle) own) name most at.left at.right (name-height top (y_in top e own cycle) own at.above at.below)
+
+good-placed : (top : ℕ) (e : Parts) (own : ℕ) (name : List ℕ) → top ≤ 40000 → IsCraft e own → AllByRecursion (Good (box_from top)) (placed_name top e own name)
+unfolding placed_name
+good-placed top e own name most is =
+    let P = AllByRecursion (Good (box_from top)) in
+    let end = name_at top e own e.cycles name in
+    let start = name_at top e own 1 name in
+    let other : List Mark = cond (has_room top e own 1) start [] in
+    elim (cases_Bool (has_room top e own e.cycles)) [
+      | inl met ↦ subst P (sym (cond-true (has_room top e own e.cycles) end other met)) (good-name-at top e own e.cycles name most is is.begun (omega arith))
+      | inr unmet ↦ subst P (sym (cond-false (has_room top e own e.cycles) end other unmet)) (elim (cases_Bool (has_room top e own 1)) [
+        | inl room ↦ subst P (sym (cond-true (has_room top e own 1) start [] room)) (good-name-at top e own 1 name most is (omega arith) is.begun)
+        | inr none ↦ subst P (sym (cond-false (has_room top e own 1) start [] none)) tt
+      ])
+    ]
+
 good-flight : (top : ℕ) (e : Parts) (start : Option ℕ) (labels : LabelWords) (own : ℕ) → top ≤ 40000 → IsCraft e own → AllByRecursion (Good (box_from top)) (flight_marks top e start labels own)
 unfolding flight_marks
 good-flight top e start labels own most is =
@@ -228,11 +249,10 @@ good-flight top e start labels own most is =
     let address = address_of e own in
     let name = name_of labels address in
     let begin = in-box top e own 1 is.within (omega arith) is.begun in
-    let end = in-box top e own e.cycles is.within is.begun (omega arith) in
     let line = good-line-of top e own (hex 6 address) most is in
     let dots = all-range P (tick_marks top e start own address) 1 e.cycles (λ cycle first last. good-tick top e start own address cycle most is first last) in
     let circle = good-start top (x_in e own 1) (y_in top e own 1) address most begin in
-    let named = good-name top (x_in e own e.cycles) (name_y (y_in top e own e.cycles) own) name most end.left end.right (name-height top (y_in top e own e.cycles) own end.above end.below) in
+    let named = good-placed top e own name most is in
     all-append P (line_marks top e own (hex 6 address)) _ line
     (all-append P (ticks top e start own address) _ dots
     (all-append P (start_marks (x_in e own 1) (y_in top e own 1) address) _ circle named))
@@ -248,13 +268,13 @@ good-cross top x y title most is =
     let rising = good-line bounds (x - 90) (y + 90) (x + 90) (y - 90) (line_paint ink 30) title (omega arith) (small-box top most) (place top (x - 90) (y + 90) (omega arith) (omega arith) (omega arith) (omega arith)) (place top (x + 90) (y - 90) (omega arith) (omega arith) (omega arith) (omega arith)) in
     (falling, (rising, tt))
 
-good-approach : (top : ℕ) (e : Parts) (nearest : Option Approach) → top ≤ 40000 → IfSome nearest (IsApproach e) → AllByRecursion (Good (box_from top)) (approach_marks top e nearest)
+good-approach : (top : ℕ) (e : Parts) (start : Option ℕ) (nearest : Option Approach) → top ≤ 40000 → IfSome nearest (IsApproach e) → AllByRecursion (Good (box_from top)) (approach_marks top e start nearest)
 unfolding approach_marks plan_point
-good-approach top e None most is = tt
-good-approach top e (Some it) most is =
+good-approach top e start None most is = tt
+good-approach top e start (Some it) most is =
     let bounds = box_from top in
     let P = Good bounds in
-    let title = approach_title e it in
+    let title = approach_title e start it in
     let one = in-box top e it.one it.cycle is.one is.begun is.in_run in
     let other = in-box top e it.other it.cycle is.other is.begun is.in_run in
     let line = good-line bounds (x_in e it.one it.cycle) (y_in top e it.one it.cycle) (x_in e it.other it.cycle) (y_in top e it.other it.cycle) (dashed_paint ink 20 dashes.Dotted) title (omega arith) (small-box top most) (placed-in top (x_in e it.one it.cycle) (y_in top e it.one it.cycle) one) (placed-in top (x_in e it.other it.cycle) (y_in top e it.other it.cycle) other) in
@@ -269,7 +289,7 @@ good-flown : (top : ℕ) (e : Parts) (start : Option ℕ) (labels : LabelWords) 
 good-flown top e start labels nearest most some is =
     let P = Good (box_from top) in
     let crafts = all-range P (flight_marks top e start labels) 0 (length e.crafts) (λ own first last. good-flight top e start labels own most (record { within = omega arith; begun = some })) in
-    all-append P (flights top e start labels) (approach_marks top e nearest) crafts (good-approach top e nearest most is)
+    all-append P (flights top e start labels) (approach_marks top e start nearest) crafts (good-approach top e start nearest most is)
 
 -- ---- marks of the panel
 

@@ -1,11 +1,12 @@
 -- What holds of the plan.
-use Rattle.std.specs.Prelude.{◌≡◌, ℕ, ◌+◌, ◌-◌, ◌*◌, ◌<◌, ◌≤◌, ◌≤ℤ◌, ◌-ℤ◌, unsigned_abs, length, Option}
+use Rattle.std.specs.Prelude.{◌≡◌, ℕ, ◌+◌, ◌-◌, ◌*◌, ◌<◌, ◌≤◌, ◌≤ℤ◌, ◌-ℤ◌, true, false, unsigned_abs, length, Option}
 use Rattle.std.specs.List.{AllByRecursion}
 use Rattle.acas_base.specs.Encounter.{Parts}
 use Rattle.flight.specs.Flight.{position}
 use Rattle.labels.specs.Labels.{LabelWords}
 use Rattle.page_marks.specs.Within.{Bounds, IsMarkWithin}
 use Rattle.plan_panel.specs.Marks.{flown_marks, panel_height, plan_marks}
+use Rattle.plan_panel.specs.Names.{has_room, lies_over}
 use Rattle.plan_panel.specs.Places.{box_bottom, box_height, box_left, box_top, box_width, view_of, x_in, y_in}
 use Rattle.plan_panel.specs.declared.panel.Approach.{Approach}
 use Rattle.svg_text.specs.Fitting.{FitsMark}
@@ -22,6 +23,15 @@ box_from top = record { left = box_left; top = box_top top; right = box_left + b
 pub record AreWithin (top : ℕ) (e : Parts) (start : Option ℕ) (labels : LabelWords) (nearest : Option Approach) : Type 0 where
   pub panel : AllByRecursion (λ mark. IsMarkWithin (part_from top) mark × FitsMark mark) (plan_marks top e start labels nearest)
   pub flown : AllByRecursion (IsMarkWithin (box_from top)) (flown_marks top e start labels nearest)
+
+-- Two names stand so far apart, to the side or down.
+abbrev pub AreApart : ℕ → Parts → ℕ → ℕ → ℕ → ℕ → Type 0
+AreApart top e one cycle other moment = lies_over top e one cycle other moment ≡ false
+
+-- Where the name of an aircraft has room at its end or at its start, it stands apart from both places of the name of
+-- each aircraft of lower index. So no two names that are drawn lie over each other.
+abbrev pub AreNamesApart : ℕ → Parts → Type 0
+AreNamesApart top e = (own cycle other : ℕ) → has_room top e own cycle ≡ true → other < own → AreApart top e own cycle other e.cycles × AreApart top e own cycle other 1
 
 -- A part of a whole stands along a length at its share, with a loss of less than one unit.
 pub record IsShare (length whole part at : ℕ) : Type 0 where

@@ -1,5 +1,5 @@
 -- The marks of the plan.
-use Rattle.std.specs.Prelude.{ℕ, ◌+◌, ◌-◌, ◌*◌, ◌/◌, ◌%◌, ◌<◌, ◌≤◌, ◌==◌, if◌then◌else◌, nat_le, nat_lt, pos, List, [], ◌∷◌, ◌++◌, codes, length, map, Option, Some, None}
+use Rattle.std.specs.Prelude.{ℕ, ◌+◌, ◌-◌, ◌*◌, ◌/◌, ◌%◌, ◌<◌, ◌≤◌, ◌==◌, if◌then◌else◌, nat_lt, pos, List, [], ◌∷◌, ◌++◌, codes, length, map, Option, Some, None}
 use Rattle.std.specs.Fmt.{decimal}
 use Rattle.std.specs.List.{flat_map, range_with_len}
 use Rattle.acas_base.specs.Encounter.{Parts, address_in}
@@ -7,6 +7,8 @@ use Rattle.acas_text.specs.Hex.{hex}
 use Rattle.labels.specs.Labels.{LabelWords, name_of}
 use Rattle.page_marks.specs.Paints.{dashed_paint, ink, letters, line_paint, plain}
 use Rattle.page_marks.specs.Places.{area_at, point_at}
+use Rattle.page_marks.specs.Words.{when_text}
+use Rattle.plan_panel.specs.Names.{placed_name}
 use Rattle.plan_panel.specs.Places.{box_height, box_left, box_top, box_width, plan_point, view_of, x_in, y_in}
 use Rattle.plan_panel.specs.declared.panel.Approach.{Approach}
 use Rattle.plot_axes.specs.Scale.{along}
@@ -31,8 +33,8 @@ heading = codes "plan, north up"
 unfoldable pub moment_text : ℕ → ℕ → List ℕ
 moment_text address cycle = hex 6 address ++ codes ", cycle " ++ decimal cycle
 
-unfoldable pub approach_text : ℕ → ℕ → ℕ → List ℕ
-approach_text one other cycle = codes "closest approach: " ++ hex 6 one ++ codes " and " ++ hex 6 other ++ codes ", cycle " ++ decimal cycle
+unfoldable pub approach_text : ℕ → ℕ → List ℕ → List ℕ
+approach_text one other when = codes "closest approach: " ++ hex 6 one ++ codes " and " ++ hex 6 other ++ codes ", " ++ when
 
 -- A length in nautical miles of 6,076 ft: whole ones, or hundredths of one.
 unfoldable pub length_text : ℕ → List ℕ
@@ -103,23 +105,12 @@ ticks top e start own address = flat_map (tick_marks top e start own address) (r
 abbrev pub start_marks : ℕ → ℕ → ℕ → List Mark
 start_marks x y address = figure (shapes.Circle (point_at x y) 80) (line_paint ink 25) (moment_text address 1) ∷ []
 
--- The names of aircraft stand above their ends and below them, in turn.
-unfoldable pub name_y : ℕ → ℕ → ℕ
-name_y y own = if own % 2 == 0 then y - 100 else y + 260
-
--- A name of eight letters is some 1,150 wide. It stands to the right of the end, or where that is too near to the edge,
--- to the left.
-unfoldable pub name_marks : ℕ → ℕ → List ℕ → List Mark
-name_marks x y name =
-    if nat_le x 7100 then worded (letters (point_at (x + 120) y) 240 anchors.Start weights.Regular) name [] ∷ []
-    else worded (letters (point_at (x - 120) y) 240 anchors.End weights.Regular) name [] ∷ []
-
 abbrev pub flight_with : ℕ → Parts → Option ℕ → ℕ → ℕ → List ℕ → List Mark
 flight_with top e start own address name =
     line_marks top e own (hex 6 address)
     ++ (ticks top e start own address
     ++ (start_marks (x_in e own 1) (y_in top e own 1) address
-    ++ name_marks (x_in e own e.cycles) (name_y (y_in top e own e.cycles) own) name))
+    ++ placed_name top e own name))
 
 abbrev pub address_of : Parts → ℕ → ℕ
 address_of e own = address_in e.crafts own
@@ -154,18 +145,18 @@ approach_with top e it title =
     ++ (cross_marks (x_in e it.other it.cycle) (y_in top e it.other it.cycle) title
     ++ between_marks (plan_point top e it.one it.cycle) (plan_point top e it.other it.cycle) title)
 
-abbrev pub approach_title : Parts → Approach → List ℕ
-approach_title e it = approach_text (address_of e it.one) (address_of e it.other) it.cycle
+abbrev pub approach_title : Parts → Option ℕ → Approach → List ℕ
+approach_title e start it = approach_text (address_of e it.one) (address_of e it.other) (when_text start it.cycle)
 
-unfoldable pub approach_marks : ℕ → Parts → Option Approach → List Mark
-approach_marks top e None = []
-approach_marks top e (Some it) = approach_with top e it (approach_title e it)
+unfoldable pub approach_marks : ℕ → Parts → Option ℕ → Option Approach → List Mark
+approach_marks top e start None = []
+approach_marks top e start (Some it) = approach_with top e it (approach_title e start it)
 
 -- ---- all
 
 -- What stands in the box.
 abbrev pub flown_marks : ℕ → Parts → Option ℕ → LabelWords → Option Approach → List Mark
-flown_marks top e start labels nearest = flights top e start labels ++ approach_marks top e nearest
+flown_marks top e start labels nearest = flights top e start labels ++ approach_marks top e start nearest
 
 unfoldable pub plan_marks : ℕ → Parts → Option ℕ → LabelWords → Option Approach → List Mark
 plan_marks top e start labels nearest = frame_marks top ++ (bar_marks top (view_of e).x.whole ++ flown_marks top e start labels nearest)

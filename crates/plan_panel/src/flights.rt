@@ -3,19 +3,20 @@ ghost use Rattle.std.specs.Prelude.{◌≡◌, ◌+◌, ◌<◌, ◌≤◌, ◌�
 ghost use Rattle.std.specs.List.{flat_map, range_with_len};
 ghost use Rattle.acas_text.specs.Hex.{hex};
 ghost use Rattle.labels.specs.Labels.{name_of};
-ghost use Rattle.plan_panel.specs.Marks.{address_of, dash_of, dot, flight_marks, flight_paint, flight_points, flight_with, flights, line_marks, name_marks, name_y, start_marks, tick_marks, ticks};
+ghost use Rattle.plan_panel.specs.Marks.{address_of, dash_of, dot, flight_marks, flight_paint, flight_points, flight_with, flights, line_marks, start_marks, tick_marks, ticks};
 ghost use Rattle.plan_panel.specs.Places.{plan_point, x_in, y_in};
 ghost use Rattle.svg_text.specs.Marks.{traced};
 ghost use Rattle.svg_text.specs.declared.drawing.TheConstants.{LABEL_BYTES};
 ghost use Rattle.svg_text.specs.declared.shapes.Outline.TheVariants as outlines;
 
 use crate::chart::Chart;
+use crate::names::put_placed;
 use crate::texts::{address_text, moment_text};
 use acas_base::{Address, Encounter};
 use acas_text::Line;
 use labels::Labels;
-use page_marks::{dashed_paint, ink, line_paint, plain, point_at, put_words};
-use svg_text::{Anchor, Dash, Drawing, Outline, Paint, Shape, Weight};
+use page_marks::{dashed_paint, ink, line_paint, plain, point_at};
+use svg_text::{Dash, Drawing, Outline, Paint, Shape};
 
 /// How the line of an aircraft is broken, by its index: four kinds of lines, in turn.
 #[tactic(auto, unfolding(crate::specs::Marks::dash_of))]
@@ -128,45 +129,6 @@ fn put_start<D: Drawing>(x: u32, y: u32, address: Address, drawing: &mut D)
     drawing.figure(circle, line_paint(ink(), 25), &moment_text(address, 1));
 }
 
-#[tactic(auto, unfolding(crate::specs::Marks::name_y))]
-fn name_y(y: u32, own: u8) -> u32
-    requires least { 100 ≤ y }
-    requires most { y ≤ 50000 }
-    ensures value { result ≡ name_y y own }
-    ensures most { result ≤ 50260 }
-{
-    if own % 2 == 0 { y - 100 } else { y + 260 }
-}
-
-// Puts a name beside its end.
-#[tactic(auto, unfolding(crate::specs::Marks::name_marks))]
-fn put_name<D: Drawing>(x: u32, y: u32, name: &Line, drawing: &mut D)
-    requires x { x ≤ 8000 }
-    requires y { y ≤ 50260 }
-    requires name { length name.now ≤ LABEL_BYTES }
-    ensures { D.drew drawing.old drawing.new (name_marks x y name.now) }
-{
-    if x <= 7_100 {
-        put_words(
-            point_at(x + 120, y),
-            240,
-            Anchor::Start,
-            Weight::Regular,
-            name,
-            drawing,
-        );
-    } else {
-        put_words(
-            point_at(x - 120, y),
-            240,
-            Anchor::End,
-            Weight::Regular,
-            name,
-            drawing,
-        );
-    }
-}
-
 fn put_flight_with<D: Drawing>(
     chart: Chart<'_>,
     own: u8,
@@ -178,16 +140,10 @@ fn put_flight_with<D: Drawing>(
     requires name { length name.now ≤ LABEL_BYTES }
     ensures { D.drew drawing.old drawing.new (flight_with chart.entry.top chart.entry.encounter.now chart.entry.time.start own address name.now) }
 {
-    let last = chart.time.cycles;
     put_line_of(chart, own, &address_text(address), drawing);
     put_ticks(chart, own, address, drawing);
     put_start(chart.x(own, 1), chart.y(own, 1), address, drawing);
-    put_name(
-        chart.x(own, last),
-        name_y(chart.y(own, last), own),
-        name,
-        drawing,
-    );
+    put_placed(chart, own, name, drawing);
 }
 
 /// The address of an aircraft.

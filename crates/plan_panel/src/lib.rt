@@ -9,6 +9,7 @@ mod chart;
 mod extent;
 mod flights;
 mod laws;
+mod names;
 mod panel;
 mod scale_bar;
 mod texts;

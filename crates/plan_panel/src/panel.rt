@@ -13,7 +13,9 @@ use acas_base::Encounter;
 use acas_lines::fixed_line;
 use acas_text::Line;
 use labels::Labels;
-use page_marks::{area_at, dashed_paint, ink, line_paint, point_at, put_line, put_words};
+use page_marks::{
+    area_at, dashed_paint, ink, line_paint, point_at, put_line, put_words, when_text,
+};
 use plot_axes::TimeAxis;
 use svg_text::{Anchor, Dash, Drawing, Shape, Weight};
 
@@ -104,15 +106,16 @@ fn put_approach_with<D: Drawing>(chart: Chart<'_>, it: Approach, title: &Line, d
 }
 
 // Where two aircraft are nearest, in words.
-fn title_of(encounter: &Encounter, it: Approach) -> Line
-    requires { IsApproach encounter.now it }
-    ensures text { result ≡ approach_title encounter.now it }
+fn title_of(encounter: &Encounter, time: TimeAxis, it: Approach) -> Line
+    requires it { IsApproach encounter.now it }
+    requires time { time.cycles ≡ encounter.now.cycles }
+    ensures text { result ≡ approach_title encounter.now time.start it }
     ensures short { length result ≤ LABEL_BYTES }
 {
     approach_text(
         address_of(encounter, it.one),
         address_of(encounter, it.other),
-        it.cycle,
+        &when_text(time, it.cycle),
     )
 }
 
@@ -120,11 +123,14 @@ fn title_of(encounter: &Encounter, it: Approach) -> Line
 #[tactic(auto, unfolding(crate::specs::Marks::approach_marks))]
 fn put_approach<D: Drawing>(chart: Chart<'_>, nearest: Option<Approach>, drawing: &mut D)
     requires { IfSome nearest (IsApproach chart.encounter.now) }
-    ensures { D.drew drawing.old drawing.new (approach_marks chart.entry.top chart.entry.encounter.now nearest) }
+    ensures { D.drew drawing.old drawing.new (approach_marks chart.entry.top chart.entry.encounter.now chart.entry.time.start nearest) }
 {
     match nearest {
         None => {}
-        Some(it) => put_approach_with(chart, it, &title_of(chart.encounter, it), drawing),
+        Some(it) => {
+            let title = title_of(chart.encounter, chart.time, it);
+            put_approach_with(chart, it, &title, drawing);
+        }
     }
 }
 

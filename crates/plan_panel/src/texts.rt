@@ -6,6 +6,7 @@ ghost use Rattle.svg_text.specs.declared.drawing.TheConstants.{LABEL_BYTES};
 
 use acas_base::Address;
 use acas_text::Line;
+use page_marks::add_words;
 
 // The feet of a nautical mile.
 const MILE: u32 = 6_076;
@@ -33,10 +34,11 @@ pub(crate) fn moment_text(address: Address, cycle: u16) -> Line
     line
 }
 
-/// Where two aircraft are nearest.
+/// When two aircraft are nearest.
 #[tactic(auto, unfolding(crate::specs::Marks::approach_text))]
-pub(crate) fn approach_text(one: Address, other: Address, cycle: u16) -> Line
-    ensures text { result ≡ approach_text one other cycle }
+pub(crate) fn approach_text(one: Address, other: Address, when: &Line) -> Line
+    requires { length when.now ≤ 16 }
+    ensures text { result ≡ approach_text one other when.now }
     ensures short { length result ≤ LABEL_BYTES }
 {
     let mut line = Line::new();
@@ -44,8 +46,8 @@ pub(crate) fn approach_text(one: Address, other: Address, cycle: u16) -> Line
     line.address(one.value());
     line.text(" and ");
     line.address(other.value());
-    line.text(", cycle ");
-    line.u16(cycle);
+    line.text(", ");
+    add_words(&mut line, when);
     line
 }
 

@@ -20,7 +20,7 @@ use acas_base::{CraftSpec, Encounter, Kind};
 use acas_io::{MemSink, Sink};
 use deliveries::Deliveries;
 use distances::{ADDRESSES, Headings, NAMES};
-use frame::{FIFTHS, ONE, TIMES, Tick, add_head, add_legend, add_time};
+use frame::{FIFTHS, Head, ONE, TIMES, Tick, add_head, add_legend, add_time};
 use labels::Labels;
 use marks::Page;
 use picture::write;
@@ -37,7 +37,7 @@ fn pictured_with(alloc: Global, enc: &Encounter, words: &[&str]) -> Result<Vec<u
     let Some(labels) = Labels::parse(&words) else {
         return Err("no labels".into());
     };
-    let mut sink = MemSink::new(Vec::with_capacity(alloc, 40_000)?, 40_000, Vec::new(alloc));
+    let mut sink = MemSink::new(Vec::with_capacity(alloc, 80_000)?, 80_000, Vec::new(alloc));
     if write(&deliveries, &labels, &mut sink).is_err() {
         return Err("not written".into());
     }
@@ -113,14 +113,49 @@ fn meeting(
     }
 }
 
+// An aircraft of a pair, so far north of the first pair.
+fn of_pair(address: u32, x: i32, y: i32) -> Result<CraftSpec, Fail> {
+    Ok(CraftSpec {
+        y,
+        ..aircraft(address, x, 35_000)?
+    })
+}
+
+// The first two aircraft of examples/reversal.enc, and two more such pairs that are too far away to be measured.
+fn three_pairs(alloc: Global) -> Result<Encounter, Fail>
+    ensures { IfOk result IsInside }
+{
+    let crafts = [
+        of_pair(0x40_0A01, 0, 0)?,
+        of_pair(0x40_0B02, 91_200, 0)?,
+        of_pair(0x40_0C03, 0, 300_000)?,
+        of_pair(0x40_0D04, 91_200, 300_000)?,
+        of_pair(0x40_0E05, 0, 600_000)?,
+        of_pair(0x40_0F06, 91_200, 600_000)?,
+    ];
+    let legs = [
+        leg(0, 1, 760, 0),
+        leg(1, 1, -760, 0),
+        leg(2, 1, 760, 0),
+        leg(3, 1, -760, 0),
+        leg(4, 1, 760, 0),
+        leg(5, 1, -760, 0),
+    ];
+    encounter(alloc, 13, Some(1024), &crafts, &legs, &[], &[])
+}
+
 // Of examples/one-cycle.enc.
 fn one_cycle(alloc: Global) -> Result<Page, AllocError> {
     let mut page = Page::new(alloc, 0);
     add_head(
         &mut page,
-        1308,
-        "Encounter of 2 aircraft (0 RA, 2 TA, 0 XPDR), 1 cycles",
-        "0 messages sent",
+        1343,
+        &Head {
+            title: "Encounter of 2 aircraft (0 RA, 2 TA, 0 XPDR), 1 cycles",
+            messages: "0 messages sent",
+            closest: "closest as planned: 400A01 and 400B02, cycle 1; the run ends there",
+            apart: "slant range 91200 ft, vertical distance 300 ft",
+        },
     )?;
     add_time(&mut page, &ONE, "cycle")?;
     labelled::add_none(&mut page)?;
@@ -134,7 +169,12 @@ fn one_cycle(alloc: Global) -> Result<Page, AllocError> {
     Ok(page)
 }
 
-const REVERSAL: &str = "Encounter of 2 aircraft (2 RA, 0 TA, 0 XPDR), 31 cycles";
+const REVERSAL: Head = Head {
+    title: "Encounter of 2 aircraft (2 RA, 0 TA, 0 XPDR), 31 cycles",
+    messages: "12 messages sent",
+    closest: "closest as planned: 400A01 and 400B02, cycle 31; the run ends there",
+    apart: "slant range 45601 ft, vertical distance 400 ft",
+};
 
 // What stands between the axis of time and the list of marks, where the first aircraft has this name.
 fn add_reversal(
@@ -153,7 +193,7 @@ fn add_reversal(
 // Of examples/reversal.enc.
 fn reversal(alloc: Global) -> Result<Page, AllocError> {
     let mut page = Page::new(alloc, 0);
-    add_head(&mut page, 1308, REVERSAL, "12 messages sent")?;
+    add_head(&mut page, 1343, &REVERSAL)?;
     add_time(&mut page, &FIFTHS, "cycle")?;
     labelled::add_none(&mut page)?;
     add_reversal(&mut page, "400A01", ADDRESSES, &FIFTHS)?;
@@ -162,10 +202,17 @@ fn reversal(alloc: Global) -> Result<Page, AllocError> {
     Ok(page)
 }
 
-// The same with a clock, a name and five marks in the run. They make the page higher by 2,000.
+// The same with a clock, a name and seven marks in the run. They make the page higher by 2,800.
 fn labelled_reversal(alloc: Global) -> Result<Page, AllocError> {
-    let mut page = Page::with_list(alloc, 2000);
-    add_head(&mut page, 1408, REVERSAL, "12 messages sent")?;
+    let mut page = Page::with_list(alloc, 2800);
+    add_head(
+        &mut page,
+        1483,
+        &Head {
+            closest: "closest as planned: AB-12 and 400B02, 00:00:20; the run ends there",
+            ..REVERSAL
+        },
+    )?;
     add_time(&mut page, &TIMES, "time")?;
     labelled::add_lines(&mut page)?;
     add_reversal(&mut page, "AB-12", NAMES, &TIMES)?;
@@ -179,9 +226,12 @@ fn transponder_only(alloc: Global) -> Result<Page, AllocError> {
     let mut page = Page::new(alloc, 960);
     add_head(
         &mut page,
-        1260,
-        "Encounter of 2 aircraft (1 RA, 0 TA, 1 XPDR), 31 cycles",
-        "0 messages sent",
+        1295,
+        &Head {
+            title: "Encounter of 2 aircraft (1 RA, 0 TA, 1 XPDR), 31 cycles",
+            messages: "0 messages sent",
+            ..REVERSAL
+        },
     )?;
     add_time(&mut page, &FIFTHS, "cycle")?;
     labelled::add_none(&mut page)?;
@@ -248,6 +298,36 @@ fn draws_seconds_plan_and_calls(rt: HostRuntime) -> Result<(), Fail> {
             further::ONE_CYCLE.as_bytes()
         )
     );
+    Ok(())
+}
+
+// Three aircraft. The third one flies from above the second one to above the first one.
+fn crossing(alloc: Global) -> Result<Encounter, Fail>
+    ensures { IfOk result IsInside }
+{
+    let crafts = [
+        aircraft(0x40_0A01, 0, 35_000)?,
+        aircraft(0x40_0B02, 3_040, 37_000)?,
+        aircraft(0x40_0C03, 3_040, 39_000)?,
+    ];
+    let legs = [leg(2, 1, -760, 0)];
+    encounter(alloc, 5, None, &crafts, &legs, &[], &[])
+}
+
+#[test]
+fn keeps_names_apart(rt: HostRuntime) -> Result<(), Fail> {
+    let alloc = rt.alloc();
+    let text = pictured(alloc, &crossing(alloc)?)?;
+    assert!(rt; stands_in(text.as_slice(), further::PLACED.as_bytes()));
+    Ok(())
+}
+
+#[test]
+fn gathers_equal_calls(rt: HostRuntime) -> Result<(), Fail> {
+    let alloc = rt.alloc();
+    let text = pictured(alloc, &three_pairs(alloc)?)?;
+    assert!(rt; stands_in(text.as_slice(), further::SIX.as_bytes()));
+    assert!(rt; !stands_in(text.as_slice(), further::SECOND.as_bytes()));
     Ok(())
 }
 

@@ -95,6 +95,35 @@ fn add_frame(page: &mut Page) -> Result<(), AllocError> {
     page.words((1880, 4700), style, "", "34500 ft")
 }
 
+// A flight with the modelled response: the cycle in which its line begins, how high it is from there on, and its title.
+#[derive(Clone, Copy)]
+struct Modelled {
+    first: usize,
+    line: &'static [u32],
+    title: &'static str,
+}
+
+// The advice up has a delay of 10 half-seconds, and the one down of 5. So the rate changes in the sixth half-second
+// from cycle 28 on, by 5,632/1024 ft/s: in cycle 31 it is 2.75 ft lower.
+const DESCENDING: [u32; 2] = [3100, 3109];
+
+// It is turned before each delay is over, and doesn't climb.
+const STAYING: [u32; 5] = [3100; 5];
+
+// A dotted line for each one.
+fn add_modelled(page: &mut Page, flights: &[Modelled]) -> Result<(), AllocError> {
+    for place in 0..flights.len() {
+        let flight = &flights[place];
+        page.polyline(
+            flight.first,
+            flight.line,
+            drawn("#007A5A", 40, "20 50"),
+            flight.title,
+        )?;
+    }
+    Ok(())
+}
+
 // What an aircraft is called behind the end of its line.
 fn add_name(page: &mut Page, at: Point, name: &str) -> Result<(), AllocError> {
     page.words(at, "font-size=\"240\" fill=\"#222222\"", "", name)
@@ -108,10 +137,12 @@ fn add_lines(
     second: &[u32],
     ends: [u32; 2],
     name: &str,
+    modelled: &[Modelled],
 ) -> Result<(), AllocError> {
     let [one, other] = ends;
     page.lines("<g>\n")?;
     add_frame(page)?;
+    add_modelled(page, modelled)?;
     page.polyline(1, first, drawn(BLACK, 30, ""), "400A01")?;
     add_name(page, (17900, one), name)?;
     page.polyline(1, second, drawn(BLACK, 30, "260 100"), "400B02")?;
@@ -135,7 +166,19 @@ pub fn add_reversal(page: &mut Page, name: &str) -> Result<(), AllocError> {
     add_reversed(page, &FIRST_REVERSED)?;
     add_turned(page)?;
     page.lines("</g>\n")?;
-    add_lines(page, &LEVEL, &CLIMBING, [3180, 1900], name)
+    let modelled = [
+        Modelled {
+            first: 30,
+            line: &DESCENDING,
+            title: "400A01 as modelled",
+        },
+        Modelled {
+            first: 27,
+            line: &STAYING,
+            title: "400B02 as modelled",
+        },
+    ];
+    add_lines(page, &LEVEL, &CLIMBING, [3180, 1900], name, &modelled)
 }
 
 // The first aircraft has a transponder alone and climbs.
@@ -143,5 +186,10 @@ pub fn add_transponder(page: &mut Page) -> Result<(), AllocError> {
     page.lines("<g>\n")?;
     add_reversed(page, &SECOND_REVERSED)?;
     page.lines("</g>\n")?;
-    add_lines(page, &CLIMBING, &LEVEL, [1900, 3180], "400A01")
+    let modelled = [Modelled {
+        first: 30,
+        line: &DESCENDING,
+        title: "400B02 as modelled",
+    }];
+    add_lines(page, &CLIMBING, &LEVEL, [1900, 3180], "400A01", &modelled)
 }

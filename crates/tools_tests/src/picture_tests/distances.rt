@@ -25,6 +25,7 @@ const FEET: [Level; 5] = [
 
 // A panel: its top, the levels that it names, the level of ALIM, what it says of the closest approach, and where that
 // is. All as on a page with two lanes.
+#[derive(Clone, Copy)]
 struct Panel {
     top: u32,
     levels: [Level; 5],
@@ -34,18 +35,30 @@ struct Panel {
     y: u32,
 }
 
-// The headings of the two panels: of the slant range, and of the vertical distance.
-pub type Headings = (&'static str, &'static str);
+// The headings of the two panels, of the slant range and of the vertical distance, and what they say of the closest
+// approach in cycle 31.
+#[derive(Clone, Copy)]
+pub struct Headings {
+    range: &'static str,
+    height: &'static str,
+    closest_range: &'static str,
+    closest_height: &'static str,
+}
 
-pub const ADDRESSES: Headings = (
-    "400A01 and 400B02: slant range",
-    "400A01 and 400B02: vertical distance",
-);
+pub const ADDRESSES: Headings = Headings {
+    range: "400A01 and 400B02: slant range",
+    height: "400A01 and 400B02: vertical distance",
+    closest_range: "closest approach: cycle 31, slant range 45601 ft",
+    closest_height: "closest approach: cycle 31, vertical distance 400 ft",
+};
 
-pub const NAMES: Headings = (
-    "AB-12 and 400B02: slant range",
-    "AB-12 and 400B02: vertical distance",
-);
+// With a clock and a name.
+pub const NAMES: Headings = Headings {
+    range: "AB-12 and 400B02: slant range",
+    height: "AB-12 and 400B02: vertical distance",
+    closest_range: "closest approach: 00:00:20, slant range 45601 ft",
+    closest_height: "closest approach: 00:00:20, vertical distance 400 ft",
+};
 
 // Both aircraft fly towards each other to the end.
 const RANGES: [u32; 31] = [
@@ -155,43 +168,48 @@ const ONE_HEIGHT: Panel = Panel {
     y: 13408,
 };
 
-const LAST_RANGE: Panel = Panel {
-    top: 8570,
-    levels: MILES,
-    alim: None,
-    closest: "closest approach: cycle 31, slant range 45601 ft",
-    x: 17290,
-    y: 10007,
-};
+// The slant range in cycle 31, and what is said of it.
+fn last_range(closest: &'static str) -> Panel {
+    Panel {
+        top: 8570,
+        levels: MILES,
+        alim: None,
+        closest,
+        x: 17290,
+        y: 10007,
+    }
+}
 
-const LAST_HEIGHT: Panel = Panel {
-    top: 11970,
-    levels: FEET,
-    alim: Some(12545),
-    closest: "closest approach: cycle 31, vertical distance 400 ft",
-    x: 17290,
-    y: 13120,
-};
+// The vertical distance in cycle 31.
+fn last_height(closest: &'static str) -> Panel {
+    Panel {
+        top: 11970,
+        levels: FEET,
+        alim: Some(12545),
+        closest,
+        x: 17290,
+        y: 13120,
+    }
+}
 
 // One cycle, 91,200 ft and 300 ft apart. The lines are dots.
 pub fn add_one_cycle(page: &mut Page) -> Result<(), AllocError> {
-    let (range, height) = ADDRESSES;
+    let it = ADDRESSES;
     page.lines("<g>\n")?;
-    add_panel(page, &ONE_RANGE, range, &ONE)?;
-    page.circle((2000, 9144), 40, filled(BLACK), range)?;
-    add_panel(page, &ONE_HEIGHT, height, &ONE)?;
-    page.circle((2000, 13408), 40, filled(BLACK), height)?;
+    add_panel(page, &ONE_RANGE, it.range, &ONE)?;
+    page.circle((2000, 9144), 40, filled(BLACK), it.range)?;
+    add_panel(page, &ONE_HEIGHT, it.height, &ONE)?;
+    page.circle((2000, 13408), 40, filled(BLACK), it.height)?;
     page.lines("</g>\n")
 }
 
 // All pictures of 31 cycles have the same distances.
-pub fn add_meeting(page: &mut Page, headings: Headings, ticks: &[Tick]) -> Result<(), AllocError> {
-    let (range, height) = headings;
+pub fn add_meeting(page: &mut Page, it: Headings, ticks: &[Tick]) -> Result<(), AllocError> {
     let paint = drawn(BLACK, 30, "");
     page.lines("<g>\n")?;
-    add_panel(page, &LAST_RANGE, range, ticks)?;
-    page.low_polyline(&RANGES, paint, range)?;
-    add_panel(page, &LAST_HEIGHT, height, ticks)?;
-    page.low_polyline(&HEIGHTS, paint, height)?;
+    add_panel(page, &last_range(it.closest_range), it.range, ticks)?;
+    page.low_polyline(&RANGES, paint, it.range)?;
+    add_panel(page, &last_height(it.closest_height), it.height, ticks)?;
+    page.low_polyline(&HEIGHTS, paint, it.height)?;
     page.lines("</g>\n")
 }

@@ -14,34 +14,56 @@ const PATTERN: &str =
 <clipPath id=\"window\">
 ";
 
-// The head: how high the page is in pixels, what is drawn, and how many messages were sent.
-pub fn add_head(
-    page: &mut Page,
-    pixels: u32,
-    title: &str,
-    messages: &str,
-) -> Result<(), AllocError> {
-    let height = page.height();
-    let lanes = page.low(2020);
-    page.opening(pixels)?;
-    page.title(title)?;
-    page.lines(PATTERN)?;
-    page.window((2000, 5100), (15800, lanes))?;
-    page.lines("</clipPath>\n</defs>\n")?;
-    page.rect((0, 0), (20000, height), filled("#FFFFFF"), "")?;
-    page.lines("<g>\n")?;
+// What the head says: what is drawn, how many messages were sent, when the nearest pair is nearest, and how far apart
+// it is then.
+#[derive(Clone, Copy)]
+pub struct Head {
+    pub title: &'static str,
+    pub messages: &'static str,
+    pub closest: &'static str,
+    pub apart: &'static str,
+}
+
+// The words of the head.
+fn add_head_words(page: &mut Page, head: &Head) -> Result<(), AllocError> {
     page.words(
         (400, 700),
         "font-size=\"440\" font-weight=\"bold\" fill=\"#222222\"",
         "",
-        title,
+        head.title,
     )?;
     page.words(
         (400, 1150),
         "font-size=\"280\" fill=\"#222222\"",
         "",
-        messages,
+        head.messages,
     )?;
+    page.words(
+        (4000, 1150),
+        "font-size=\"240\" fill=\"#222222\"",
+        "",
+        head.closest,
+    )?;
+    page.words(
+        (19600, 1150),
+        "font-size=\"240\" text-anchor=\"end\" fill=\"#222222\"",
+        "",
+        head.apart,
+    )
+}
+
+// The head: how high the page is in pixels, and what it says.
+pub fn add_head(page: &mut Page, pixels: u32, head: &Head) -> Result<(), AllocError> {
+    let height = page.height();
+    let lanes = page.low(2020);
+    page.opening(pixels)?;
+    page.title(head.title)?;
+    page.lines(PATTERN)?;
+    page.window((2000, 5100), (15800, lanes))?;
+    page.lines("</clipPath>\n</defs>\n")?;
+    page.rect((0, 0), (20000, height), filled("#FFFFFF"), "")?;
+    page.lines("<g>\n")?;
+    add_head_words(page, head)?;
     page.lines("</g>\n")
 }
 
@@ -162,6 +184,18 @@ pub fn add_legend(page: &mut Page) -> Result<(), AllocError> {
         2000,
         25820,
         "An arrow: a message that changes what is in force, in the colour of the sense that it leaves.",
+    )?;
+    add_remark(
+        page,
+        2000,
+        26170,
+        "A band above a line: up. Below it: down. Half as high: preventive advice. A stripe: traffic.",
+    )?;
+    add_remark(
+        page,
+        2000,
+        26520,
+        "A dotted green line: the flight with the modelled response, where it isn't the planned one.",
     )?;
     page.lines("</g>\n")
 }

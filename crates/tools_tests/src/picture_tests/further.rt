@@ -45,6 +45,7 @@ what the crews heard
 pub const LABELLED: &str = "AB-12 against 400B02: seconds that its tests need
 AB-12
 400B02
+<title>closest approach: 400A01 and 400B02, 00:00:20</title>
 what the crews heard
 00:00:02
 AB-12
@@ -60,3 +61,26 @@ plan, north up
 <title>400A01</title>
 <text x=\"10300\" y=\"18720\" font-size=\"240\" fill=\"#222222\">
 nothing";
+
+// Of three pairs of aircraft that meet far from each other: in cycle 13 all six have one call.
+pub const SIX: &str = "what the crews heard
+13
+400A01
+\"Traffic traffic\" and 5 more
+</g>";
+
+// What would stand there if the second one had a line of its own.
+pub const SECOND: &str = "what the crews heard
+400A01
+400B02
+</svg>";
+
+// Three aircraft of which the third one ends where the first one is. So its name stands at its start. The box of the
+// plan shows 6,808 ft to the east of -1,884, and 5,106 ft to the north of -2,553. The plan begins at 18930.
+pub const PLACED: &str = "<text x=\"2733\" y=\"22330\" font-size=\"240\" fill=\"#222222\">
+400A01
+<text x=\"6306\" y=\"22690\" font-size=\"240\" fill=\"#222222\">
+400B02
+<text x=\"6306\" y=\"22330\" font-size=\"240\" fill=\"#222222\">
+400C03
+what the crews heard";

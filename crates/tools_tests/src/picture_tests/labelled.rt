@@ -7,7 +7,7 @@ use std::alloc::AllocError;
 #[derive(Clone, Copy)]
 struct Mark {
     x: u32,
-    letter_x: u32,
+    letter_x: Option<u32>,
     letter: &'static str,
     title: &'static str,
     time: &'static str,
@@ -16,8 +16,9 @@ struct Mark {
 
 // What the words of these marks are. The first and the fourth one are of one cycle, in the left half of the axis, and
 // the third and the sixth one of one cycle in the other half. The second one is past the run. The fifth one is of the
-// first second of a day.
-pub const WORDS: [&str; 8] = [
+// first second of a day. The seventh one is the third one of its cycle, and the letter of the eighth one would lie over
+// its letter.
+pub const WORDS: [&str; 10] = [
     "23:59:50",
     "400A01=AB-12",
     "5=both \"climb\" & turn",
@@ -26,12 +27,14 @@ pub const WORDS: [&str; 8] = [
     "23:59:54=again",
     "00:00:00=midnight=12",
     "21=the last",
+    "5=the third one",
+    "6=too near",
 ];
 
-const MARKS: [Mark; 5] = [
+const MARKS: [Mark; 7] = [
     Mark {
         x: 4038,
-        letter_x: 4038,
+        letter_x: Some(4038),
         letter: "A",
         title: "mark A, cycle 5, both \"climb\" &amp; turn",
         time: "23:59:54",
@@ -39,7 +42,7 @@ const MARKS: [Mark; 5] = [
     },
     Mark {
         x: 12193,
-        letter_x: 12193,
+        letter_x: Some(12193),
         letter: "C",
         title: "mark C, cycle 21, 1 &lt; 2",
         time: "00:00:10",
@@ -47,7 +50,7 @@ const MARKS: [Mark; 5] = [
     },
     Mark {
         x: 4038,
-        letter_x: 4218,
+        letter_x: Some(4218),
         letter: "D",
         title: "mark D, cycle 5, again",
         time: "23:59:54",
@@ -55,7 +58,7 @@ const MARKS: [Mark; 5] = [
     },
     Mark {
         x: 7096,
-        letter_x: 7096,
+        letter_x: Some(7096),
         letter: "E",
         title: "mark E, cycle 11, midnight=12",
         time: "00:00:00",
@@ -63,11 +66,27 @@ const MARKS: [Mark; 5] = [
     },
     Mark {
         x: 12193,
-        letter_x: 12013,
+        letter_x: Some(12013),
         letter: "F",
         title: "mark F, cycle 21, the last",
         time: "00:00:10",
         text: "the last",
+    },
+    Mark {
+        x: 4038,
+        letter_x: Some(4398),
+        letter: "G",
+        title: "mark G, cycle 5, the third one",
+        time: "23:59:54",
+        text: "the third one",
+    },
+    Mark {
+        x: 4548,
+        letter_x: None,
+        letter: "H",
+        title: "mark H, cycle 6, too near",
+        time: "23:59:55",
+        text: "too near",
     },
 ];
 
@@ -96,7 +115,10 @@ fn add_line(page: &mut Page, mark: &Mark) -> Result<(), AllocError> {
         drawn("#777777", 30, "100 70"),
         mark.title,
     )?;
-    add_letter(page, (mark.letter_x, 1440), mark.title, mark.letter)
+    if let Some(x) = mark.letter_x {
+        add_letter(page, (x, 1440), mark.title, mark.letter)?;
+    }
+    Ok(())
 }
 
 // No mark is drawn.
@@ -127,7 +149,7 @@ fn add_row(page: &mut Page, y: u32, mark: &Mark) -> Result<(), AllocError> {
 
 // The list begins where the page of two lanes ends that has none.
 pub fn add_list(page: &mut Page) -> Result<(), AllocError> {
-    let rows: [u32; 5] = [26270, 26670, 27070, 27470, 27870];
+    let rows: [u32; 7] = [26970, 27370, 27770, 28170, 28570, 28970, 29370];
     page.lines("<g>\n")?;
     for place in 0..MARKS.len() {
         add_row(page, rows[place], &MARKS[place])?;

@@ -112,7 +112,7 @@ impl Page {
 
     // How high the page is.
     pub fn height(&self) -> u32 {
-        self.low(26170).saturating_add(self.list)
+        self.low(26870).saturating_add(self.list)
     }
 
     pub fn bytes(&self) -> &[u8] {

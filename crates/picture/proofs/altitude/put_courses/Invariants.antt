@@ -4,4 +4,4 @@ use Rattle.picture.proofs.altitude.put_courses.Given as goal
 
 -- The lines of the aircraft so far were put.
 abbrev pub invariant-loop-own : goal.invariant-loop-own
-invariant-loop-own g l = g.D.Drawing.drew l.fn.drawing l.drawing (flat_map (course_marks l.labels l.encounter) (range_with_len 0 l.own))
+invariant-loop-own g l = g.D.Drawing.drew l.fn.drawing l.drawing (flat_map (course_marks l.axis l.labels l.encounter) (range_with_len 0 l.own))

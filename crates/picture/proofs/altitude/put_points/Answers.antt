@@ -7,7 +7,7 @@ use Rattle.picture.proofs.altitude.put_points.Goals as goal
 
 pub loop-cycle-preserved : goal.loop-cycle-preserved
 loop-cycle-preserved g c =
-    let f = course_point c.args.encounter.now c.args.own in
+    let f = course_point c.args.axis c.args.encounter.now c.args.own in
     let n = c.loop-cycle.cycle - 1 in
     let here : 1 + n ≡ c.loop-cycle.cycle = omega arith in
     let next : n + 1 ≡ (c.loop-cycle.cycle + 1) - 1 = omega arith in
@@ -18,7 +18,7 @@ loop-cycle-preserved g c =
 
 pub returns : goal.returns
 returns g c =
-    let f = course_point c.args.encounter.now c.args.own in
+    let f = course_point c.args.axis c.args.encounter.now c.args.own in
     let run = c.requires.time in
     let all : c.loop-cycle.cycle - 1 ≡ c.args.encounter.now.cycles = (let end = c.loop-cycle-test.false in let most = c.loop-cycle.auto.cycle-end in omega arith) in
     subst (λ (n : ℕ). g.D.Drawing.passed c.args.drawing.now c.loop-cycle.drawing (map f (range_with_len 1 n))) all c.loop-cycle.invariant

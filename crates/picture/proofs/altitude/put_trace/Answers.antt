@@ -6,4 +6,4 @@ pub returns : goal.returns
 returns g c =
     let own = c.args.own in
     let end = rw c.course_paint.ensures at c.end_points.ensures in
-    g.met.D.Drawing.whole _ _ _ _ outlines.Open (course_points c.args.encounter.now own) (course_paint own) c.args.title.now c.begin_points.ensures c.put_points.ensures end
+    g.met.D.Drawing.whole _ _ _ _ outlines.Open (course_points c.args.axis c.args.encounter.now own) (course_paint own) c.args.title.now c.begin_points.ensures c.put_points.ensures end

@@ -9,4 +9,4 @@ returns g c =
     let own = c.args.course.own in
     let row = c.args.row in
     let points = g.met.D.Drawing.more_points _ _ _ _ _ c.put_near.ensures c.put_far.ensures in
-    g.met.D.Drawing.whole _ _ _ _ outlines.Closed (near_edge e own row ++ far_edge e own c.args.side c.args.depth row) c.args.paint c.args.title.now c.begin_points.ensures points c.end_points.ensures
+    g.met.D.Drawing.whole _ _ _ _ outlines.Closed (near_edge c.args.course.axis e own row ++ far_edge c.args.course.axis e own c.args.side c.args.depth row) c.args.paint c.args.title.now c.begin_points.ensures points c.end_points.ensures

@@ -12,7 +12,7 @@ loop-cycle-preserved g c =
     let e = c.args.state.now.encounter in
     let J = c.args.state.now.journal in
     let own = c.args.course.own in
-    let f = band_of_row e J own c.args.address in
+    let f = band_of_row c.args.course.axis e J own c.args.address in
     let rows = rows_at (is_shown J own) (goes_on J own) e.cycles in
     let n = c.loop-cycle.cycle - 1 in
     let here : 1 + n ≡ c.loop-cycle.cycle = omega arith in
@@ -28,7 +28,7 @@ returns g c =
     let e = c.args.state.now.encounter in
     let J = c.args.state.now.journal in
     let own = c.args.course.own in
-    let f = band_of_row e J own c.args.address in
+    let f = band_of_row c.args.course.axis e J own c.args.address in
     let rows = rows_at (is_shown J own) (goes_on J own) e.cycles in
     let run = c.requires.run in
     let all : c.loop-cycle.cycle - 1 ≡ e.cycles = (let end = c.loop-cycle-test.false in let most = c.loop-cycle.auto.cycle-end in omega arith) in

@@ -9,10 +9,10 @@ pub loop-back-preserved : goal.loop-back-preserved
 loop-back-preserved g c =
     let e = c.args.course.encounter.now in
     let end = reach_end e.cycles c.args.row in
-    let f = λ (k : ℕ). edge_point e c.args.course.own c.args.side c.args.depth (end - k) in
+    let f = λ (k : ℕ). edge_point c.args.course.axis e c.args.course.own c.args.side c.args.depth (end - k) in
     let n = c.loop-back.back in
     let here : 0 + n ≡ n = omega arith in
-    let where_it_is = c.beside.ensures ∙ ap (λ (m : ℕ). edge_point e c.args.course.own c.args.side c.args.depth (m - n)) c.reach_end-end.ensures.value in
+    let where_it_is = c.beside.ensures ∙ ap (λ (m : ℕ). edge_point c.args.course.axis e c.args.course.own c.args.side c.args.depth (m - n)) c.reach_end-end.ensures.value in
     let point = rw where_it_is at c.point.ensures in
     subst (g.D.Drawing.passed c.args.drawing.now c.point.new.self)
     (ap (λ (k : ℕ). map f (range_with_len 0 n) ++ f k ∷ []) (sym here) ∙ sym (map-more f 0 n))
@@ -23,7 +23,7 @@ unfolding far_edge
 returns g c =
     let e = c.args.course.encounter.now in
     let end = reach_end e.cycles c.args.row in
-    let f = λ (k : ℕ). edge_point e c.args.course.own c.args.side c.args.depth (end - k) in
+    let f = λ (k : ℕ). edge_point c.args.course.axis e c.args.course.own c.args.side c.args.depth (end - k) in
     let value = c.reach_end-end.ensures.value in
     let least = c.reach_end-end.ensures.least in
     let order = c.requires.order in

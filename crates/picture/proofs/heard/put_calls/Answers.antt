@@ -2,7 +2,7 @@ use Rattle.std.proofs.Common.{◌≡◌, ℕ, ◌+◌, ◌-◌, ◌++◌, length
 use Rattle.std.specs.List.{flat_map, range_with_len}
 use Rattle.acas_lines.proofs.Ranges.{flat-more}
 use Rattle.picture.proofs.Listing.{listed-append}
-use Rattle.picture.specs.Calls.{calls_in}
+use Rattle.picture.specs.Gathered.{lines_in}
 use Rattle.picture.specs.Heard.{listed}
 use Rattle.picture.proofs.heard.put_calls.Goals as goal
 
@@ -11,7 +11,7 @@ loop-cycle-preserved g c =
     let top = c.args.top in
     let e = c.args.state.now.encounter in
     let labels = c.args.labels.now in
-    let f = calls_in c.args.state.now.journal (length e.crafts) in
+    let f = lines_in c.args.state.now.journal (length e.crafts) in
     let n = c.loop-cycle.cycle - 1 in
     let before = flat_map f (range_with_len 1 n) in
     let here : 1 + n ≡ c.loop-cycle.cycle = omega arith in

@@ -2,7 +2,7 @@ use Rattle.std.proofs.Common.{◌≡◌, ℕ, ◌+◌, ◌++◌, length, length-
 use Rattle.std.specs.List.{flat_map, range_with_len}
 use Rattle.acas_lines.proofs.Ranges.{flat-more}
 use Rattle.picture.proofs.Listing.{listed-append}
-use Rattle.picture.specs.Calls.{calls_at}
+use Rattle.picture.specs.Gathered.{lines_at}
 use Rattle.picture.specs.Heard.{listed}
 use Rattle.picture.proofs.heard.put_cycle.Goals as goal
 
@@ -12,7 +12,7 @@ loop-own-preserved g c =
     let e = c.args.state.now.encounter in
     let labels = c.args.labels.now in
     let first = c.args.first in
-    let f = calls_at c.args.state.now.journal c.args.cycle in
+    let f = lines_at c.args.state.now.journal (length c.args.state.now.encounter.crafts) c.args.cycle in
     let n = c.loop-own.own in
     let before = flat_map f (range_with_len 0 n) in
     let here : 0 + n ≡ n = omega arith in

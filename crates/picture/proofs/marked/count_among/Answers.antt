@@ -1,4 +1,4 @@
-use Rattle.std.proofs.Common.{◌+◌, ◌≤◌, sym, ap, ap₂, ◌∙◌, arith}
+use Rattle.std.proofs.Common.{sym, ap, ap₂, ◌∙◌, arith}
 use Rattle.picture.specs.Marked.{counted, is_from}
 use Rattle.picture.proofs.Marking.{count-more, count-none}
 use Rattle.picture.proofs.marked.count_among.Goals as goal

@@ -8,6 +8,4 @@ returns g c =
     let from = rw c.point_at.ensures at c.figure.ensures in
     let line = rw to at from in
     let painted = rw c.dashed_paint.ensures at line in
-    let one = rw c.note.ensures at painted in
-    let two = rw c.point_at-3.ensures at c.put_over.ensures in
-    g.met.D.Drawing.then _ _ _ _ _ one two
+    rw c.note.ensures at painted

@@ -3,12 +3,12 @@ use Rattle.std.specs.List.{flat_map, range_with_len}
 use Rattle.acas_base.specs.Encounter.{Parts}
 use Rattle.acas_lines.proofs.Ranges.{flat-more}
 use Rattle.picture.specs.Bands.{craft_bands}
-use Rattle.picture.proofs.bands.put_bands.Goals as goal
+use Rattle.picture.proofs.bands.put_bands_with.Goals as goal
 
 pub loop-own-preserved : goal.loop-own-preserved
 loop-own-preserved g c =
     let J = c.args.state.now.journal in
-    let f = craft_bands c.args.state.now.encounter J in
+    let f = craft_bands c.args.axis c.args.state.now.encounter J in
     let n = c.loop-own.own in
     let here : 0 + n ≡ n = omega arith in
     subst (g.D.Drawing.drew c.args.drawing.now c.put_craft_bands.new.drawing) (ap (λ (k : ℕ). flat_map f (range_with_len 0 n) ++ f k) (sym here) ∙ sym (flat-more f 0 n))
@@ -16,7 +16,7 @@ loop-own-preserved g c =
 
 pub returns : goal.returns
 returns g c =
-    let f = craft_bands c.args.state.now.encounter c.args.state.now.journal in
+    let f = craft_bands c.args.axis c.args.state.now.encounter c.args.state.now.journal in
     let count = ap length (c.crafts-own-end.ensures.value ∙ ap (λ (p : Parts). p.crafts) c.enc-encounter.ensures) in
     let all : c.loop-own.own ≡ length c.args.state.now.encounter.crafts = (let end = c.loop-own-test.false in let most = c.loop-own.auto.own-end in omega arith) in
     subst (λ (n : ℕ). g.D.Drawing.drew c.args.drawing.now c.loop-own.drawing (flat_map f (range_with_len 0 n))) all c.loop-own.invariant
