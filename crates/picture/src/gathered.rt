@@ -12,7 +12,7 @@ use air_journal::AirState;
 const MOST_ALONE: usize = 4;
 
 /// A line: the call of which it tells, and for how many equal ones of its cycle it stands, with this one.
-#[derive(Clone, Copy, Debug, PartialEq, Eq)]
+#[derive(Clone, Copy)]
 pub(crate) struct CallLine {
     pub call: Call,
     pub calls: u32,
