@@ -131,7 +131,7 @@ type Twice = (
     u64,
 );
 
-const TWICE: [Twice; 3] = [
+const TWICE: &[Twice] = &[
     (8192, 0, Ok(8192), Ok(8192), 0),
     (1, 2, Ok(1), Err(Failed), 1),
     (1, 1, Err(Failed), Ok(1), 1),
@@ -177,7 +177,7 @@ fn reads_no_more_after_a_fault(rt: HostRuntime) {
 // and flushes it counts.
 type Once = (usize, u64, u64, Result<usize, Failed>, u64, u64);
 
-const ONCE: [Once; 5] = [
+const ONCE: &[Once] = &[
     (8192, 0, 0, Ok(8192), 0, 1),
     (2, 0, 0, Ok(2), 0, 1),
     (0, 0, 0, Err(Failed), 1, 0),

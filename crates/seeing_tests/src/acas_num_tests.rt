@@ -4,7 +4,7 @@ use acas_num::{Limits, TrackState, floor_div, root};
 const FOOT: i64 = 1024;
 
 // A number, a divisor, and the quotient.
-const QUOTIENTS: [(i64, i64, i64); 9] = [
+const QUOTIENTS: &[(i64, i64, i64)] = &[
     (7, 2, 3),
     (-7, 2, -4),
     (8, 2, 4),
@@ -29,11 +29,11 @@ fn first_divided(rows: &[(i64, i64, i64)]) -> Option<usize> {
 
 #[test]
 fn rounds_down(rt: HostRuntime) {
-    assert_eq!(rt; first_divided(&QUOTIENTS), None);
+    assert_eq!(rt; first_divided(QUOTIENTS), None);
 }
 
 // A number and its root.
-const ROOTS: [(u64, u64); 7] = [
+const ROOTS: &[(u64, u64)] = &[
     (0, 0),
     (1, 1),
     (3, 1),
@@ -56,7 +56,7 @@ fn first_rooted(rows: &[(u64, u64)]) -> Option<usize> {
 
 #[test]
 fn takes_roots(rt: HostRuntime) {
-    assert_eq!(rt; first_rooted(&ROOTS), None);
+    assert_eq!(rt; first_rooted(ROOTS), None);
 }
 
 #[test]

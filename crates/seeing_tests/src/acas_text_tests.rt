@@ -4,7 +4,7 @@ use acas_text::{Line, parse, parse_hex};
 // A text, and its number where it is a plain decimal.
 type Decimal = (&'static [u8], Option<i64>);
 
-const DECIMALS: [Decimal; 9] = [
+const DECIMALS: &[Decimal] = &[
     (b"0", Some(0)),
     (b"-1", Some(-1)),
     (b"007", None),
@@ -29,13 +29,13 @@ fn first_decimal(rows: &[Decimal]) -> Option<usize> {
 
 #[test]
 fn reads_plain_decimals(rt: HostRuntime) {
-    assert_eq!(rt; first_decimal(&DECIMALS), None);
+    assert_eq!(rt; first_decimal(DECIMALS), None);
 }
 
 // A text, and its number where it has six digits.
 type Digits = (&'static [u8], Option<u64>);
 
-const DIGITS: [Digits; 5] = [
+const DIGITS: &[Digits] = &[
     (b"00AB09", Some(0x00AB_09)),
     (b"FFFFFF", Some(0xFF_FFFF)),
     (b"00ab09", None),
@@ -56,7 +56,7 @@ fn first_digits(rows: &[Digits]) -> Option<usize> {
 
 #[test]
 fn reads_digits(rt: HostRuntime) {
-    assert_eq!(rt; first_digits(&DIGITS), None);
+    assert_eq!(rt; first_digits(DIGITS), None);
 }
 
 #[test]

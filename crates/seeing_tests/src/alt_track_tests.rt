@@ -23,7 +23,7 @@ const ALL: Gains = Gains {
 // A measurement, the gains, and the state after it.
 type Step = (Option<i32>, Gains, TrackState);
 
-const STEPS: [Step; 7] = [
+const STEPS: &[Step] = &[
     (None, USUAL, TrackState::Empty),
     (Some(35_000), USUAL, TrackState::One { est: 35_000 * FOOT }),
     (
@@ -101,5 +101,5 @@ fn first_other(steps: &[Step]) -> Option<usize> {
 
 #[test]
 fn follows_altitudes_and_misses(rt: HostRuntime) {
-    assert_eq!(rt; first_other(&STEPS), None);
+    assert_eq!(rt; first_other(STEPS), None);
 }

@@ -79,7 +79,7 @@ fn may_be_shared<T: Send + Sync>(_: &T) {}
 // An aircraft, a cycle, and the first one's view of it: tested, traffic, resolves, threat.
 type Seen = (usize, u16, bool, bool, bool, bool);
 
-const SEEN: [Seen; 8] = [
+const SEEN: &[Seen] = &[
     (1, 1, false, false, true, false),
     (1, 2, true, false, true, false),
     (1, 12, true, false, true, false),

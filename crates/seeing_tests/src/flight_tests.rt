@@ -46,7 +46,7 @@ fn first_other(enc: &Encounter, rows: &[Row]) -> Option<usize> {
     None
 }
 
-const MEETING: [Row; 4] = [
+const MEETING: &[Row] = &[
     (0, 1, 1, Some((91_200, 35_300))),
     (0, 1, 13, Some((72_960, 35_300))),
     (1, 0, 26, Some((53_200, 35_000))),
@@ -54,7 +54,7 @@ const MEETING: [Row; 4] = [
 ];
 
 // Missed from cycle 5 to 7, and beyond 30 nautical miles from cycle 9 on.
-const FAR: [Row; 6] = [
+const FAR: &[Row] = &[
     (0, 1, 4, Some((182_280, 0))),
     (0, 1, 5, None),
     (0, 1, 7, None),
@@ -63,13 +63,13 @@ const FAR: [Row; 6] = [
     (0, 1, 9, None),
 ];
 
-const LOW: [Row; 1] = [(0, 1, 16, Some((6_000, 1_100)))];
+const LOW: &[Row] = &[(0, 1, 16, Some((6_000, 1_100)))];
 
 // The first row with another measurement: of two that meet, of two far from each other, and of two near the ground.
 fn other_of_meeting(alloc: Global) -> Result<Option<usize>, Fail> {
     let legs = [leg(0, 1, 760, 0), leg(1, 1, -760, 0)];
     let enc = pair(alloc, 35_000, 91_200, 35_300, &legs, &[])?;
-    Ok(first_other(&enc, &MEETING))
+    Ok(first_other(&enc, MEETING))
 }
 
 fn other_of_far(alloc: Global) -> Result<Option<usize>, Fail> {
@@ -81,13 +81,13 @@ fn other_of_far(alloc: Global) -> Result<Option<usize>, Fail> {
         &[leg(1, 8, 1, 0)],
         &[miss(0, 1, 5, 7)],
     )?;
-    Ok(first_other(&enc, &FAR))
+    Ok(first_other(&enc, FAR))
 }
 
 fn other_of_low(alloc: Global) -> Result<Option<usize>, Fail> {
     let legs = [leg(0, 1, 200, 0), leg(1, 1, -200, 0)];
     let enc = pair(alloc, 1_099, 12_000, 1_099, &legs, &[])?;
-    Ok(first_other(&enc, &LOW))
+    Ok(first_other(&enc, LOW))
 }
 
 #[test]
@@ -118,7 +118,7 @@ fn first_elsewhere(enc: &Encounter, craft: u8, rows: &[(u16, i64, i64, i32)]) ->
     None
 }
 
-const FLOWN: [(u16, i64, i64, i32); 5] = [
+const FLOWN: &[(u16, i64, i64, i32)] = &[
     (1, 0, 60_000, 1_000),
     (2, 0, 60_000, 1_000),
     (3, 5, 60_000, 1_000),
@@ -131,7 +131,7 @@ fn moves_by_the_leg_of_the_cycle_left(rt: HostRuntime) -> Result<(), Fail> {
     let alloc = rt.alloc();
     let legs = [leg(0, 2, 5, 0), leg(0, 4, -7, 60), leg(1, 1, 100, 0)];
     let flown = pair(alloc, 1_000, 0, 0, &legs, &[])?;
-    assert_eq!(rt; first_elsewhere(&flown, 0, &FLOWN), None);
+    assert_eq!(rt; first_elsewhere(&flown, 0, FLOWN), None);
     // A sixtieth of a foot below zero is a foot below.
     let sinking = pair(alloc, 0, 0, 0, &[leg(1, 1, 0, -1)], &[])?;
     assert_eq!(rt; first_elsewhere(&sinking, 1, &[(2, 0, -1, -1)]), None);

@@ -14,45 +14,104 @@ fn axis(cycles: u16, start: Option<u32>) -> TimeAxis
     TimeAxis { cycles, start }
 }
 
+// The place of the first cycle of 31 that begins elsewhere.
+fn first_elsewhere(run: TimeAxis, rows: &[(u16, u32)]) -> Option<usize>
+    requires { run.cycles ≡ 31 }
+{
+    for place in 0..rows.len() {
+        let (cycle, x) = rows[place];
+        if cycle == 0 || cycle > 32 || run.begin(cycle) != x {
+            return Some(place);
+        }
+    }
+    None
+}
+
+const BEGUN: &[(u16, u32)] = &[(1, 2_000), (2, 2_509), (31, 17_290), (32, 17_800)];
+
 // 15,800 units are 509 and 21/31 for each of 31 cycles.
 #[test]
 fn places_of_cycles(rt: HostRuntime) {
-    let run = axis(31, None);
-    assert_eq!(rt; run.begin(1), 2_000);
-    assert_eq!(rt; run.begin(2), 2_509);
-    assert_eq!(rt; run.begin(31), 17_290);
-    assert_eq!(rt; run.begin(32), 17_800);
-    assert_eq!(rt; run.middle(31), 17_545);
+    assert_eq!(rt; first_elsewhere(axis(31, None), BEGUN), None);
+    assert_eq!(rt; axis(31, None).middle(31), 17_545);
     assert_eq!(rt; axis(1, None).middle(1), 9_900);
 }
+
+// The place of the first number of cycles, without a clock, whose ticks have another step.
+fn first_other_step(rows: &[(u16, u32)]) -> Option<usize> {
+    for place in 0..rows.len() {
+        let (cycles, step) = rows[place];
+        if cycles == 0 || cycles > 600 || axis(cycles, None).step() != step {
+            return Some(place);
+        }
+    }
+    None
+}
+
+// The same of a span, where at most seven steps of 5 or of 10 hold.
+fn first_other_least(rows: &[(u32, u32)]) -> Option<usize> {
+    for place in 0..rows.len() {
+        let (span, step) = rows[place];
+        if least_step(span, 7, &[5, 10]) != step {
+            return Some(place);
+        }
+    }
+    None
+}
+
+const STEPS: &[(u16, u32)] = &[(14, 1), (28, 2), (29, 5), (600, 50)];
+
+const LEAST: &[(u32, u32)] = &[(71, 10), (70, 10), (35, 5)];
 
 // Of 28 cycles 14 steps of 2 hold; of 29 they don't, and 14 of 5 do. Twelve cycles with a clock take steps of 2.
 #[test]
 fn steps_of_ticks(rt: HostRuntime) {
-    assert_eq!(rt; axis(14, None).step(), 1);
-    assert_eq!(rt; axis(28, None).step(), 2);
-    assert_eq!(rt; axis(29, None).step(), 5);
-    assert_eq!(rt; axis(600, None).step(), 50);
+    assert_eq!(rt; first_other_step(STEPS), None);
     assert_eq!(rt; axis(12, Some(0)).step(), 2);
-    assert_eq!(rt; least_step(71, 7, &[5, 10]), 10);
-    assert_eq!(rt; least_step(70, 7, &[5, 10]), 10);
-    assert_eq!(rt; least_step(35, 7, &[5, 10]), 5);
+    assert_eq!(rt; first_other_least(LEAST), None);
 }
 
-// The run begins at 23:59:57, so cycle 4 is midnight.
+// A cycle, the second of the day, whether it is a tick, and its label.
+type Row = (u16, u32, bool, &'static [u8]);
+
+fn is_row(run: TimeAxis, row: &Row) -> bool {
+    let (cycle, name, is_tick, label) = *row;
+    if cycle == 0 || cycle > 600 {
+        return false;
+    }
+    run.name(cycle) == name && run.is_tick(cycle) == is_tick && run.label(cycle).bytes() == label
+}
+
+// The place of the first row with something else.
+fn first_other(run: TimeAxis, rows: &[Row]) -> Option<usize> {
+    for place in 0..rows.len() {
+        if !is_row(run, &rows[place]) {
+            return Some(place);
+        }
+    }
+    None
+}
+
+// The run begins at 23:59:57, so cycle 4 is midnight. Each fifth second is a tick.
+const PAST_MIDNIGHT: &[Row] = &[
+    (3, 86_399, false, b"23:59:59"),
+    (4, 0, true, b"00:00:00"),
+    (5, 1, false, b"00:00:01"),
+    (9, 5, true, b"00:00:05"),
+];
+
+// Without a clock a cycle has its number.
+const UNTIMED: &[Row] = &[(5, 5, true, b"5")];
+
+const LONGEST: &[Row] = &[(600, 600, true, b"600")];
+
 #[test]
 fn clock_past_midnight(rt: HostRuntime) {
     let run = axis(50, Some(86_397));
     assert_eq!(rt; run.step(), 5);
-    assert_eq!(rt; run.name(3), 86_399);
-    assert_eq!(rt; run.name(4), 0);
-    assert!(rt; run.is_tick(4));
-    assert!(rt; !run.is_tick(5));
-    assert!(rt; run.is_tick(9));
-    assert!(rt; axis(50, None).is_tick(5));
-    assert_eq!(rt; run.label(3).bytes(), b"23:59:59".as_slice());
-    assert_eq!(rt; run.label(4).bytes(), b"00:00:00".as_slice());
-    assert_eq!(rt; axis(600, None).label(600).bytes(), b"600".as_slice());
+    assert_eq!(rt; first_other(run, PAST_MIDNIGHT), None);
+    assert_eq!(rt; first_other(axis(50, None), UNTIMED), None);
+    assert_eq!(rt; first_other(axis(600, None), LONGEST), None);
 }
 
 // 6,400 units for 1,000 ft: 6.4 for each.

@@ -22,7 +22,7 @@ const ALL: Gains = Gains {
 // A measurement, the gains, and the state after it.
 type Step = (Option<u32>, Gains, TrackState);
 
-const STEPS: [Step; 7] = [
+const STEPS: &[Step] = &[
     (None, USUAL, TrackState::Empty),
     (Some(10_000), USUAL, TrackState::One { est: 10_000 * FOOT }),
     (
@@ -100,5 +100,5 @@ fn first_other(steps: &[Step]) -> Option<usize> {
 
 #[test]
 fn follows_ranges_and_misses(rt: HostRuntime) {
-    assert_eq!(rt; first_other(&STEPS), None);
+    assert_eq!(rt; first_other(STEPS), None);
 }

@@ -21,7 +21,7 @@ fn thresholds(tau: i64, dmod: i64, zthr: i64) -> Row
 type Band = (i32, i32, u8, i16);
 
 // The first and the last altitude of each band over ground at sea level, and over high and low ground.
-const BANDS: [Band; 21] = [
+const BANDS: &[Band] = &[
     (-100_000, 0, 2, 0),
     (999, 0, 2, 0),
     (1_000, 0, 3, 300),
@@ -66,7 +66,7 @@ fn first_other(bands: &[Band]) -> Option<usize> {
 
 #[test]
 fn bands_begin_and_end(rt: HostRuntime) {
-    assert_eq!(rt; first_other(&BANDS), None);
+    assert_eq!(rt; first_other(BANDS), None);
 }
 
 #[test]

@@ -17,46 +17,102 @@ const TRAFFIC: Composite = Composite {
 };
 
 // Advice to climb, which asks for another rate.
-fn up(strength: Strength) -> Composite {
-    Composite {
-        up: Some(strength),
-        corrective: true,
-        ..CLEAR
-    }
-}
+const CLIMB: Composite = Composite {
+    up: Some(Strength::Positive),
+    corrective: true,
+    ..CLEAR
+};
 
-fn down(strength: Strength) -> Composite {
-    Composite {
-        down: Some(strength),
-        corrective: true,
-        ..CLEAR
-    }
-}
+const INCREASED_CLIMB: Composite = Composite {
+    up: Some(Strength::Increase),
+    ..CLIMB
+};
+
+const UP_LEVEL: Composite = Composite {
+    up: Some(Strength::Level),
+    ..CLIMB
+};
+
+const UP_2000: Composite = Composite {
+    up: Some(Strength::Limit2000),
+    ..CLIMB
+};
+
+const DESCENT: Composite = Composite {
+    down: Some(Strength::Positive),
+    corrective: true,
+    ..CLEAR
+};
+
+const INCREASED_DESCENT: Composite = Composite {
+    down: Some(Strength::Increase),
+    ..DESCENT
+};
+
+const DOWN_1000: Composite = Composite {
+    down: Some(Strength::Limit1000),
+    ..DESCENT
+};
 
 // Advice that crosses.
-fn crossing(composite: Composite) -> Composite {
-    Composite {
-        crossing: true,
-        ..composite
-    }
-}
+const CROSSING_CLIMB: Composite = Composite {
+    crossing: true,
+    ..CLIMB
+};
+
+const CROSSING_INCREASED_CLIMB: Composite = Composite {
+    crossing: true,
+    ..INCREASED_CLIMB
+};
+
+const CROSSING_DESCENT: Composite = Composite {
+    crossing: true,
+    ..DESCENT
+};
 
 // Advice whose rate own aircraft flies already.
-fn preventive(composite: Composite) -> Composite {
-    Composite {
-        corrective: false,
-        ..composite
-    }
-}
+const KEPT_CLIMB: Composite = Composite {
+    corrective: false,
+    ..CLIMB
+};
 
-fn both(up: Strength, down: Strength) -> Composite {
-    Composite {
-        up: Some(up),
-        down: Some(down),
-        corrective: true,
-        ..CLEAR
-    }
-}
+const KEPT_UP_LEVEL: Composite = Composite {
+    corrective: false,
+    ..UP_LEVEL
+};
+
+const KEPT_UP_500: Composite = Composite {
+    up: Some(Strength::Limit500),
+    ..KEPT_CLIMB
+};
+
+const KEPT_DESCENT: Composite = Composite {
+    corrective: false,
+    ..DESCENT
+};
+
+const KEPT_DOWN_LEVEL: Composite = Composite {
+    down: Some(Strength::Level),
+    ..KEPT_DESCENT
+};
+
+// Advice in both senses.
+const BETWEEN: Composite = Composite {
+    up: Some(Strength::Positive),
+    ..DESCENT
+};
+
+const LEVEL_AND_DESCENT: Composite = Composite {
+    up: Some(Strength::Level),
+    ..DESCENT
+};
+
+const LEVEL_BOTH: Composite = Composite {
+    up: Some(Strength::Level),
+    down: Some(Strength::Level),
+    corrective: true,
+    ..CLEAR
+};
 
 // A composite, the next one, and the phrase.
 type Phrase = (Composite, Composite, Aural);
@@ -72,114 +128,133 @@ fn first_unsaid(phrases: &[Phrase]) -> Option<usize> {
     None
 }
 
+const PHRASES: &[Phrase] = &[
+    // the encounters that are worked out
+    (CLEAR, TRAFFIC, Aural::TrafficTraffic),
+    (TRAFFIC, DESCENT, Aural::DescendDescend),
+    (TRAFFIC, CLIMB, Aural::ClimbClimb),
+    (CLIMB, DESCENT, Aural::DescendNow),
+    (DESCENT, INCREASED_DESCENT, Aural::IncreaseDescent),
+    (INCREASED_DESCENT, CLIMB, Aural::ClimbNow),
+    (TRAFFIC, CROSSING_CLIMB, Aural::ClimbCrossing),
+    (
+        CROSSING_CLIMB,
+        CROSSING_INCREASED_CLIMB,
+        Aural::IncreaseClimb,
+    ),
+    (CROSSING_CLIMB, KEPT_DOWN_LEVEL, Aural::Monitor),
+    (TRAFFIC, BETWEEN, Aural::LevelOff),
+    // the other lines of the table
+    (CLIMB, CLEAR, Aural::ClearOfConflict),
+    (LEVEL_AND_DESCENT, TRAFFIC, Aural::ClearOfConflict),
+    (TRAFFIC, CLEAR, Aural::Silent),
+    (TRAFFIC, TRAFFIC, Aural::Silent),
+    (CLIMB, KEPT_CLIMB, Aural::Silent),
+    (KEPT_CLIMB, CLIMB, Aural::ClimbClimb),
+    (LEVEL_AND_DESCENT, LEVEL_AND_DESCENT, Aural::Silent),
+    (LEVEL_AND_DESCENT, LEVEL_BOTH, Aural::LevelOff),
+    (CLEAR, UP_2000, Aural::Monitor),
+    (CLEAR, DOWN_1000, Aural::Monitor),
+    (CLEAR, KEPT_UP_500, Aural::Monitor),
+    (TRAFFIC, UP_LEVEL, Aural::LevelOff),
+    (CLIMB, KEPT_UP_LEVEL, Aural::LevelOff),
+    (INCREASED_DESCENT, KEPT_DOWN_LEVEL, Aural::LevelOff),
+    (LEVEL_AND_DESCENT, DESCENT, Aural::DescendDescend),
+    (CLEAR, KEPT_DESCENT, Aural::Maintain),
+    (CLEAR, CROSSING_DESCENT, Aural::DescendCrossing),
+];
+
 #[test]
 fn says_the_phrases(rt: HostRuntime) {
-    use Strength::{Increase, Level, Limit500, Limit1000, Limit2000, Positive};
-    let phrases = [
-        // the encounters that are worked out
-        (CLEAR, TRAFFIC, Aural::TrafficTraffic),
-        (TRAFFIC, down(Positive), Aural::DescendDescend),
-        (TRAFFIC, up(Positive), Aural::ClimbClimb),
-        (up(Positive), down(Positive), Aural::DescendNow),
-        (down(Positive), down(Increase), Aural::IncreaseDescent),
-        (down(Increase), up(Positive), Aural::ClimbNow),
-        (TRAFFIC, crossing(up(Positive)), Aural::ClimbCrossing),
-        (
-            crossing(up(Positive)),
-            crossing(up(Increase)),
-            Aural::IncreaseClimb,
-        ),
-        (
-            crossing(up(Positive)),
-            preventive(down(Level)),
-            Aural::Monitor,
-        ),
-        (TRAFFIC, both(Positive, Positive), Aural::LevelOff),
-        // the other lines of the table
-        (up(Positive), CLEAR, Aural::ClearOfConflict),
-        (both(Level, Positive), TRAFFIC, Aural::ClearOfConflict),
-        (TRAFFIC, CLEAR, Aural::Silent),
-        (TRAFFIC, TRAFFIC, Aural::Silent),
-        (up(Positive), preventive(up(Positive)), Aural::Silent),
-        (preventive(up(Positive)), up(Positive), Aural::ClimbClimb),
-        (both(Level, Positive), both(Level, Positive), Aural::Silent),
-        (both(Level, Positive), both(Level, Level), Aural::LevelOff),
-        (CLEAR, up(Limit2000), Aural::Monitor),
-        (CLEAR, down(Limit1000), Aural::Monitor),
-        (CLEAR, preventive(up(Limit500)), Aural::Monitor),
-        (TRAFFIC, up(Level), Aural::LevelOff),
-        (up(Positive), preventive(up(Level)), Aural::LevelOff),
-        (down(Increase), preventive(down(Level)), Aural::LevelOff),
-        (both(Level, Positive), down(Positive), Aural::DescendDescend),
-        (CLEAR, preventive(down(Positive)), Aural::Maintain),
-        (CLEAR, crossing(down(Positive)), Aural::DescendCrossing),
-    ];
-    assert_eq!(rt; first_unsaid(&phrases), None);
+    assert_eq!(rt; first_unsaid(PHRASES), None);
 }
 
-fn advisory(sense: Sense, strength: Strength) -> Cell {
-    Cell::Ra(Intent {
-        sense,
-        strength,
-        age: 1,
-        turned: false,
-        crossing: false,
-        corrective: true,
-    })
-}
+const UP: Cell = Cell::Ra(Intent {
+    sense: Sense::Up,
+    strength: Strength::Positive,
+    age: 1,
+    turned: false,
+    crossing: false,
+    corrective: true,
+});
 
-fn cells(first: Cell, second: Cell, third: Cell) -> Cells {
+const DOWN: Cell = Cell::Ra(Intent {
+    sense: Sense::Down,
+    strength: Strength::Positive,
+    age: 1,
+    turned: false,
+    crossing: false,
+    corrective: true,
+});
+
+fn cells(first: Cell, second: Cell) -> Cells {
     let mut list = [Cell::Clear; CRAFTS];
     list[0] = first;
     list[1] = second;
-    list[2] = third;
     Cells { list }
+}
+
+// A cycle, own address, the composite before, the cells for the first two aircraft, and the line.
+type Told = (u16, u32, Composite, Cell, Cell, &'static str);
+
+const TOLD: &[Told] = &[
+    (
+        13,
+        0x40_0A01,
+        CLEAR,
+        Cell::Clear,
+        Cell::Traffic,
+        "r,13,400A01,TRAFFIC,Traffic traffic\n",
+    ),
+    (
+        26,
+        0x40_0A01,
+        TRAFFIC,
+        Cell::Clear,
+        DOWN,
+        "r,26,400A01,DOWN-DESCEND,Descend descend\n",
+    ),
+    (
+        24,
+        0x40_0C03,
+        TRAFFIC,
+        UP,
+        DOWN,
+        "r,24,400C03,LEVEL-BOTH,Level off level off\n",
+    ),
+];
+
+fn is_told(row: &Told) -> bool {
+    let (cycle, address, before, first, second, want) = *row;
+    let Some(own) = Address::new(address) else {
+        return false;
+    };
+    match line(cycle, own, &before, &composite_of(&cells(first, second))) {
+        Some(told) => told.bytes() == want.as_bytes(),
+        None => false,
+    }
+}
+
+// The place of the first row with another line.
+fn first_untold(rows: &[Told]) -> Option<usize> {
+    for place in 0..rows.len() {
+        if !is_told(&rows[place]) {
+            return Some(place);
+        }
+    }
+    None
 }
 
 #[test]
 fn tells_lines_of_cells(rt: HostRuntime) -> Result<(), Fail> {
-    let clear = Cell::Clear;
-    let seen = cells(clear, Cell::Traffic, clear);
-    let descend = cells(clear, advisory(Sense::Down, Strength::Positive), clear);
-    let between = cells(
-        advisory(Sense::Up, Strength::Positive),
-        advisory(Sense::Down, Strength::Positive),
-        clear,
-    );
-    for (cycle, address, before, after, want) in [
-        (
-            13,
-            0x40_0A01,
-            CLEAR,
-            seen,
-            "r,13,400A01,TRAFFIC,Traffic traffic\n",
-        ),
-        (
-            26,
-            0x40_0A01,
-            TRAFFIC,
-            descend,
-            "r,26,400A01,DOWN-DESCEND,Descend descend\n",
-        ),
-        (
-            24,
-            0x40_0C03,
-            TRAFFIC,
-            between,
-            "r,24,400C03,LEVEL-BOTH,Level off level off\n",
-        ),
-    ] {
-        let own = Address::new(address).ok_or("no address")?;
-        let told = line(cycle, own, &before, &composite_of(&after)).ok_or("no line")?;
-        assert_eq!(rt; told.bytes(), want.as_bytes());
-    }
+    assert_eq!(rt; first_untold(TOLD), None);
     Ok(())
 }
 
 // A strength of each sense, and the line where they are advised first.
 type Word = (Option<Strength>, Option<Strength>, &'static str);
 
-const WORDS: [Word; 11] = [
+const WORDS: &[Word] = &[
     (
         Some(Strength::Limit2000),
         None,
@@ -262,23 +337,36 @@ fn first_other(own: Address, words: &[Word]) -> Option<usize> {
     None
 }
 
+// A composite, the next one, and the line between them; none where it is empty.
+type Change = (Composite, Composite, &'static str);
+
+const CHANGES: &[Change] = &[
+    (TRAFFIC, CLEAR, "r,1,400B02,CLEAR,-\n"),
+    (
+        LEVEL_AND_DESCENT,
+        LEVEL_BOTH,
+        "r,1,400B02,LEVEL-BOTH,Level off level off\n",
+    ),
+    (CLEAR, CLEAR, ""),
+    (TRAFFIC, TRAFFIC, ""),
+    (CLIMB, CLIMB, ""),
+    (LEVEL_AND_DESCENT, LEVEL_AND_DESCENT, ""),
+];
+
+fn first_unlike(own: Address, changes: &[Change]) -> Option<usize> {
+    for place in 0..changes.len() {
+        let (before, after, want) = &changes[place];
+        if !says(own, before, after, want) {
+            return Some(place);
+        }
+    }
+    None
+}
+
 #[test]
 fn tells_words(rt: HostRuntime) -> Result<(), Fail> {
     let own = Address::new(0x40_0B02).ok_or("no address")?;
-    assert_eq!(rt; first_other(own, &WORDS), None);
-    assert!(rt; says(own, &TRAFFIC, &CLEAR, "r,1,400B02,CLEAR,-\n"));
-    let strong = both(Strength::Level, Strength::Positive);
-    let level = both(Strength::Level, Strength::Level);
-    assert!(rt;
-        says(
-            own,
-            &strong,
-            &level,
-            "r,1,400B02,LEVEL-BOTH,Level off level off\n"
-        )
-    );
-    for quiet in [CLEAR, TRAFFIC, up(Strength::Positive), strong] {
-        assert!(rt; says(own, &quiet, &quiet, ""));
-    }
+    assert_eq!(rt; first_other(own, WORDS), None);
+    assert_eq!(rt; first_unlike(own, CHANGES), None);
     Ok(())
 }

@@ -46,7 +46,7 @@ const REPORT_OF_BOTH_UP: &[u8] =
 // The parts of two recordings, and what differs between them.
 type Compared = ([&'static [u8]; 10], &'static [u8]);
 
-const COMPARED: [Compared; 5] = [
+const COMPARED: &[Compared] = &[
     (
         [RUN, TWO, END, SERIAL, REPORT, RUN, TWO, END, SERIAL, REPORT],
         b"compare,equal\n",
@@ -184,12 +184,12 @@ fn first_other(alloc: Global, rows: &[Compared]) -> Result<Option<usize>, Fail> 
 
 #[test]
 fn compares_recordings(rt: HostRuntime) -> Result<(), Fail> {
-    assert_eq!(rt; first_other(rt.alloc(), &COMPARED)?, None);
+    assert_eq!(rt; first_other(rt.alloc(), COMPARED)?, None);
     Ok(())
 }
 
 // Bytes, and how many of them and of their lines stand in the first recording.
-const CUT: [(&[u8], usize, u32); 4] = [
+const CUT: &[(&[u8], usize, u32)] = &[
     (b"", 0, 0),
     (b"a\nclose\nb\nclose\n", 8, 2),
     (b"a\nclose", 7, 2),
@@ -212,6 +212,6 @@ fn first_cut_otherwise(rows: &[(&[u8], usize, u32)]) -> Option<usize> {
 
 #[test]
 fn cuts_behind_the_first_close(rt: HostRuntime) -> Result<(), Fail> {
-    assert_eq!(rt; first_cut_otherwise(&CUT), None);
+    assert_eq!(rt; first_cut_otherwise(CUT), None);
     Ok(())
 }

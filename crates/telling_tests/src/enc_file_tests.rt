@@ -11,7 +11,7 @@ use std::alloc::{AllocError, Global};
 use std::test::Fail;
 
 // How a text of 31 cycles may be spelled.
-const SPELLINGS: [&[u8]; 7] = [
+const SPELLINGS: &[&[u8]] = &[
     b"encounter,1\nrun,31,0\ncraft,400A01,TA,0,0,35000\ncraft,400B02,TA,91200,0,35300\nleg,400A01,1,760,0,0\nleg,400B02,1,-760,0,0\nend\n",
     b"encounter,1\rrun,31,0\rcraft,400A01,TA,0,0,35000\rcraft,400B02,TA,91200,0,35300\rleg,400A01,1,760,0,0\rleg,400B02,1,-760,0,0\rend\r",
     b"encounter,1\r\nrun,31,0\r\ncraft,400A01,TA,0,0,35000\r\ncraft,400B02,TA,91200,0,35300\r\nleg,400A01,1,760,0,0\r\nleg,400B02,1,-760,0,0\r\nend\r\n",
@@ -38,7 +38,7 @@ const ORDERED_2: &[u8] =
     b"encounter,2\nrun,31,0\ngains,683,256,512,128\ncraft,400C03,RA,0,0,35000\ncraft,400A01,RA,91200,0,35000\ncraft,400B02,RA,0,91200,35000\nclimb,400C03,-1000\nclimb,400A01,60000\nclimb,400B02,0\nleg,400C03,1,760,0,0\nplan,400C03,400A01\nplan,400C03,400B02,0,00\nplan,400A01,400C03,60,C1,0,00,5,0A\nfate,400C03,400A01,1\nfate,400A01,400C03,2,0,00\nfate,400A01,400C03,3\nend\n";
 
 // Canonical texts at the ends of what is accepted.
-const LIMITS: [&[u8]; 8] = [
+const LIMITS: &[&[u8]] = &[
     // The ends of all ranges; a leg past the run's end.
     b"encounter,1\nrun,600,15000\ngains,0,1024,1024,0\ncraft,000001,XPDR,-1000000,1000000,60000\ncraft,FFFFFE,TA,1000000,-1000000,-1000\nleg,000001,600,2000,-2000,10000\nleg,FFFFFE,600,-2000,2000,-10000\nmiss,FFFFFE,000001,1,600\nfate,000001,FFFFFE,600,60,E0,0,07,1,92\nend\n",
     // Out of the box in the cycle after the run.
@@ -56,8 +56,14 @@ const LIMITS: [&[u8]; 8] = [
 
 // A sink with room for each text here, which takes pieces of 16 bytes.
 fn sink(alloc: Global, fails: &[u64]) -> Result<MemSink, AllocError> {
-    let room = Vec::with_capacity(alloc, 1_000)?;
-    Ok(MemSink::new(room, 16, fails.to_vec(alloc)?))
+    let fails = fails.to_vec(alloc)?;
+    Ok(MemSink::new(Vec::with_capacity(alloc, 1_000)?, 16, fails))
+}
+
+fn written(alloc: Global, encounter: &Encounter) -> Result<MemSink, Fail> {
+    let mut sink = sink(alloc, &[])?;
+    write(encounter, &mut sink)?;
+    Ok(sink)
 }
 
 // The canonical text of what a text says.
@@ -65,9 +71,8 @@ fn canonical(alloc: Global, text: &[u8]) -> Result<MemSink, Fail> {
     if text.len() >= 4_294_967_295 {
         return Err("too long a text".into());
     }
-    let mut sink = sink(alloc, &[])?;
-    write(&read(alloc, text)?, &mut sink)?;
-    Ok(sink)
+    let encounter = read(alloc, text)?;
+    written(alloc, &encounter)
 }
 
 // The place of the first text whose canonical text isn't this one. Where none is given, it should be the text itself.
@@ -88,10 +93,10 @@ fn first_unlike(
 #[test]
 fn texts_have_one_canonical_text(rt: HostRuntime) -> Result<(), Fail> {
     let alloc = rt.alloc();
-    assert_eq!(rt; first_unlike(alloc, &SPELLINGS, Some(CANONICAL))?, None);
+    assert_eq!(rt; first_unlike(alloc, SPELLINGS, Some(CANONICAL))?, None);
     assert_eq!(rt; first_unlike(alloc, &[UNORDERED_1], Some(ORDERED_1))?, None);
     assert_eq!(rt; first_unlike(alloc, &[UNORDERED_2], Some(ORDERED_2))?, None);
-    assert_eq!(rt; first_unlike(alloc, &LIMITS, None)?, None);
+    assert_eq!(rt; first_unlike(alloc, LIMITS, None)?, None);
     Ok(())
 }
 
@@ -106,18 +111,15 @@ fn craft(address: Address, kind: Kind, x: i32, ceiling: Option<i32>) -> CraftSpe
     }
 }
 
-fn aircraft(alloc: Global) -> Result<Vec<CraftSpec>, AllocError> {
-    let mut crafts = Vec::new(alloc);
-    if let Some(address) = Address::new(0x40_0A01) {
-        crafts.push(craft(address, Kind::Ra, 0, Some(-1_000)))?;
-    }
-    if let Some(address) = Address::new(0x0B_0002) {
-        crafts.push(craft(address, Kind::Xpdr, 91_200, None))?;
-    }
-    if let Some(address) = Address::new(0xFF_FFFE) {
-        crafts.push(craft(address, Kind::Ta, -1_000_000, Some(36_000)))?;
-    }
-    Ok(crafts)
+fn aircraft() -> Result<[CraftSpec; 3], Fail> {
+    let one = Address::new(0x40_0A01).ok_or("no address")?;
+    let two = Address::new(0x0B_0002).ok_or("no address")?;
+    let three = Address::new(0xFF_FFFE).ok_or("no address")?;
+    Ok([
+        craft(one, Kind::Ra, 0, Some(-1_000)),
+        craft(two, Kind::Xpdr, 91_200, None),
+        craft(three, Kind::Ta, -1_000_000, Some(36_000)),
+    ])
 }
 
 const NONE: CopyPlan = CopyPlan { hold: 0, mask: 0 };
@@ -174,7 +176,7 @@ const THRICE: Fate = Fate {
     },
 };
 
-fn encounter(alloc: Global) -> Result<Option<Encounter>, AllocError> {
+fn encounter(alloc: Global, crafts: &[CraftSpec]) -> Result<Option<Encounter>, AllocError> {
     Ok(Encounter::make(
         2,
         31,
@@ -184,7 +186,7 @@ fn encounter(alloc: Global) -> Result<Option<Encounter>, AllocError> {
             beta: 0,
         },
         Gains { alpha: 1, beta: 2 },
-        aircraft(alloc)?,
+        crafts.to_vec(alloc)?,
         Vec::from_slice(alloc, &[LEG])?,
         Vec::from_slice(alloc, &[MISS])?,
         Vec::from_slice(alloc, &[TWICE])?,
@@ -195,6 +197,11 @@ fn encounter(alloc: Global) -> Result<Option<Encounter>, AllocError> {
 const FORMAT_2: &[u8] =
     b"encounter,2\nrun,31,-500\ngains,1024,0,1,2\ncraft,400A01,RA,0,-20,35000\ncraft,0B0002,XPDR,91200,-20,35000\ncraft,FFFFFE,TA,-1000000,-20,35000\nclimb,400A01,-1000\nclimb,FFFFFE,36000\nleg,0B0002,600,-2000,0,10000\nmiss,FFFFFE,400A01,7,9\nplan,400A01,FFFFFE,0,00,60,C1\nfate,400A01,FFFFFE,1\nfate,400A01,FFFFFE,12,60,C1,0,00,5,0A\nend\n";
 
+// Whether a sink has these bytes, and so many writes failed.
+fn has(sink: &MemSink, fails: u64, want: &[u8]) -> bool {
+    sink.bytes() == want && sink.faults() == fails
+}
+
 // Whether an encounter is written so. Where these writes of 16 bytes fail, a front of it is written.
 fn is_written(
     alloc: Global,
@@ -203,21 +210,27 @@ fn is_written(
     want: &[u8],
 ) -> Result<bool, AllocError> {
     let mut sink = sink(alloc, fails)?;
-    let written = write(encounter, &mut sink);
+    let written = write(encounter, &mut sink).is_ok();
+    Ok(written == fails.is_empty() && has(&sink, fails.len() as u64, want))
+}
+
+fn is_written_in_format_2(alloc: Global, encounter: &Encounter) -> Result<bool, AllocError> {
     Ok(
-        written.is_ok() == fails.is_empty()
-            && sink.bytes() == want
-            && sink.faults() == fails.len() as u64,
+        is_written(alloc, encounter, &[], FORMAT_2)?
+            && is_written(alloc, encounter, &[3], &FORMAT_2[..32])?,
     )
+}
+
+fn is_format_2_written(alloc: Global) -> Result<bool, Fail> {
+    match encounter(alloc, &aircraft()?)? {
+        Some(encounter) => Ok(is_written_in_format_2(alloc, &encounter)?),
+        None => Ok(false),
+    }
 }
 
 #[test]
 fn format_2_is_written(rt: HostRuntime) -> Result<(), Fail> {
-    let encounter = encounter(rt.alloc())?.ok_or("no encounter")?;
-    assert!(rt;
-        is_written(rt.alloc(), &encounter, &[], FORMAT_2)?
-            && is_written(rt.alloc(), &encounter, &[3], &FORMAT_2[..32])?
-    );
+    assert!(rt; is_format_2_written(rt.alloc())?);
     Ok(())
 }
 
@@ -635,28 +648,37 @@ const ENDS: &[Fault] = &[
     (Pair2, "end\n\n\nclimb,400A01,30000", 8, 12),
 ];
 
-// The number of the record and of the code with which a text of two parts is refused; zeros where it is accepted.
-fn refusal(alloc: Global, front: Front, rest: &str) -> Result<(u32, u8), Fail> {
-    let mut text = Vec::new(alloc);
-    text.extend_from_slice(front.text())?;
-    text.extend_from_slice(rest.as_bytes())?;
+fn joined(alloc: Global, front: &[u8], rest: &[u8]) -> Result<Vec<u8>, AllocError> {
+    let mut text = Vec::from_slice(alloc, front)?;
+    text.extend_from_slice(rest)?;
+    Ok(text)
+}
+
+// The number of the record and of the code with which a text is refused; zeros where it is accepted.
+fn refused(alloc: Global, text: &[u8]) -> Result<(u32, u8), Fail> {
     if text.len() >= 4_294_967_295 {
         return Err("too long a text".into());
     }
-    match read(alloc, &text) {
+    match read(alloc, text) {
         Ok(_) => Ok((0, 0)),
         Err(ReadError::Refused(refusal)) => Ok((refusal.at, refusal.code.number())),
         Err(ReadError::OutOfMemory) => Err("out of memory".into()),
     }
 }
 
-// The first text that is accepted or refused with something else, and what it is refused with.
-fn first_other(alloc: Global, faults: &[Fault]) -> Result<Option<(Fault, u32, u8)>, Fail> {
-    for &fault in faults {
-        let (front, rest, at, code) = fault;
-        let (found_at, found_code) = refusal(alloc, front, rest)?;
-        if found_at != at || found_code != code {
-            return Ok(Some((fault, found_at, found_code)));
+// The same of a text of two parts.
+fn refusal(alloc: Global, front: Front, rest: &str) -> Result<(u32, u8), Fail> {
+    let text = joined(alloc, front.text(), rest.as_bytes())?;
+    refused(alloc, &text)
+}
+
+// The place of the first text that is accepted or refused with something else, and what it is refused with.
+fn first_other(alloc: Global, faults: &[Fault]) -> Result<Option<(usize, (u32, u8))>, Fail> {
+    for place in 0..faults.len() {
+        let (front, rest, at, code) = faults[place];
+        let found = refusal(alloc, front, rest)?;
+        if found != (at, code) {
+            return Ok(Some((place, found)));
         }
     }
     Ok(None)
@@ -664,8 +686,9 @@ fn first_other(alloc: Global, faults: &[Fault]) -> Result<Option<(Fault, u32, u8
 
 #[test]
 fn faulty_texts_are_refused(rt: HostRuntime) -> Result<(), Fail> {
-    for faults in [KINDS, NUMBERS, NAMES, ENDS] {
-        assert_eq!(rt; first_other(rt.alloc(), faults)?, None);
-    }
+    assert_eq!(rt; first_other(rt.alloc(), KINDS)?, None);
+    assert_eq!(rt; first_other(rt.alloc(), NUMBERS)?, None);
+    assert_eq!(rt; first_other(rt.alloc(), NAMES)?, None);
+    assert_eq!(rt; first_other(rt.alloc(), ENDS)?, None);
     Ok(())
 }

@@ -11,7 +11,7 @@ const FRONT: &[u8] =
     b"encounter,1\nrun,31,0\ncraft,400A01,TA,0,0,35000\ncraft,400B02,TA,91200,0,35300\nleg,400A01,1,760,0,0\nleg,400B02,1,-760,0,0\n";
 
 // A record, or the rest of a text, after six right ones, and the line that tells its fault.
-const AFTER_SIX: [(&[u8], &[u8]); 24] = [
+const AFTER_SIX: &[(&[u8], &[u8])] = &[
     (
         b"run,31,0\nend\n",
         b"line 7: a second run record; the first one is in line 2\n",
@@ -111,7 +111,7 @@ const AFTER_SIX: [(&[u8], &[u8]); 24] = [
 ];
 
 // A text from its start, and the line that tells its fault.
-const WHOLE: [(&[u8], &[u8]); 32] = [
+const WHOLE: &[(&[u8], &[u8])] = &[
     (
         b"encounter,1\ngains,1,1,1,1\ngains,1,1,1,1\n",
         b"line 3: a second gains record; the first one is in line 2\n",
@@ -244,7 +244,7 @@ const WHOLE: [(&[u8], &[u8]); 32] = [
 
 // A text whose `end` is refused since an aircraft leaves the box, and the line that tells which one does first, when
 // and where.
-const OUTSIDE: [(&[u8], &[u8]); 12] = [
+const OUTSIDE: &[(&[u8], &[u8])] = &[
     (
         b"encounter,1\nrun,3,0\ncraft,400A01,RA,999000,0,35000\nleg,400A01,1,1000,0,0\nend\n",
         b"line 5: aircraft 400A01 leaves the box in cycle 3: x is 1001000 ft, and has to be from -1000000 to 1000000 ft\n",
@@ -296,7 +296,7 @@ const OUTSIDE: [(&[u8], &[u8]); 12] = [
 ];
 
 // The example with the number of each record.
-const EXAMPLE: [(usize, &[u8]); 7] = [
+const EXAMPLE: &[(usize, &[u8])] = &[
     (1, b"encounter,1\n"),
     (2, b"run,31,0\n"),
     (3, b"craft,400A01,TA,0,0,35000\n"),
@@ -308,7 +308,7 @@ const EXAMPLE: [(usize, &[u8]); 7] = [
 
 // The number of a record of the example, what stands in its place, and the line that tells the fault. With the texts
 // above that leave out all records or change two of them, these are all texts of "Refusals".
-const CHANGED: [(usize, &[u8], &[u8]); 25] = [
+const CHANGED: &[(usize, &[u8], &[u8])] = &[
     (
         1,
         b"encounter,3\n",
@@ -451,40 +451,64 @@ fn is_told(alloc: Global, text: &[u8], expected: &[u8]) -> Result<bool, AllocErr
     }
 }
 
+fn joined(alloc: Global, front: &[u8], rest: &[u8]) -> Result<Vec<u8>, AllocError> {
+    let mut text = Vec::from_slice(alloc, front)?;
+    text.extend_from_slice(rest)?;
+    Ok(text)
+}
+
+fn is_told_behind(
+    alloc: Global,
+    front: &[u8],
+    rest: &[u8],
+    expected: &[u8],
+) -> Result<bool, AllocError> {
+    let text = joined(alloc, front, rest)?;
+    is_told(alloc, &text, expected)
+}
+
 // The number of the first text that is told otherwise.
 fn first_other(
     alloc: Global,
     front: &[u8],
     texts: &[(&[u8], &[u8])],
 ) -> Result<Option<usize>, AllocError> {
-    for (number, (rest, expected)) in texts.iter().enumerate() {
-        let mut text = Vec::from_slice(alloc, front)?;
-        text.extend_from_slice(rest)?;
-        if !is_told(alloc, &text, expected)? {
-            return Ok(Some(number));
+    for place in 0..texts.len() {
+        let (rest, expected) = texts[place];
+        if !is_told_behind(alloc, front, rest, expected)? {
+            return Ok(Some(place));
         }
     }
     Ok(None)
 }
 
 // The example with another text in the place of one record.
+fn add_changed(text: &mut Vec<u8>, number: usize, put: &[u8]) -> Result<(), AllocError> {
+    for place in 0..EXAMPLE.len() {
+        let (at, record) = EXAMPLE[place];
+        text.extend_from_slice(if at == number { put } else { record })?;
+    }
+    Ok(())
+}
+
 fn changed(alloc: Global, number: usize, put: &[u8]) -> Result<Vec<u8>, AllocError> {
     let mut text = Vec::new(alloc);
-    for (at, record) in EXAMPLE.iter() {
-        if *at == number {
-            text.extend_from_slice(put)?;
-        } else {
-            text.extend_from_slice(record)?;
-        }
-    }
+    add_changed(&mut text, number, put)?;
     Ok(text)
 }
 
+type Change = (usize, &'static [u8], &'static [u8]);
+
+fn is_change_told(alloc: Global, change: &Change) -> Result<bool, AllocError> {
+    let (number, put, expected) = *change;
+    let text = changed(alloc, number, put)?;
+    is_told(alloc, &text, expected)
+}
+
 // The place of the first change whose text is told otherwise.
-fn first_other_change(alloc: Global) -> Result<Option<usize>, AllocError> {
-    for (place, (number, put, expected)) in CHANGED.iter().enumerate() {
-        let text = changed(alloc, *number, put)?;
-        if !is_told(alloc, &text, expected)? {
+fn first_other_change(alloc: Global, changes: &[Change]) -> Result<Option<usize>, AllocError> {
+    for place in 0..changes.len() {
+        if !is_change_told(alloc, &changes[place])? {
             return Ok(Some(place));
         }
     }
@@ -493,9 +517,9 @@ fn first_other_change(alloc: Global) -> Result<Option<usize>, AllocError> {
 
 #[test]
 fn faults_are_told(rt: HostRuntime) -> Result<(), Fail> {
-    assert_eq!(rt; first_other(rt.alloc(), FRONT, &AFTER_SIX)?, None);
-    assert_eq!(rt; first_other(rt.alloc(), b"", &WHOLE)?, None);
-    assert_eq!(rt; first_other(rt.alloc(), b"", &OUTSIDE)?, None);
-    assert_eq!(rt; first_other_change(rt.alloc())?, None);
+    assert_eq!(rt; first_other(rt.alloc(), FRONT, AFTER_SIX)?, None);
+    assert_eq!(rt; first_other(rt.alloc(), b"", WHOLE)?, None);
+    assert_eq!(rt; first_other(rt.alloc(), b"", OUTSIDE)?, None);
+    assert_eq!(rt; first_other_change(rt.alloc(), CHANGED)?, None);
     Ok(())
 }

@@ -3,7 +3,7 @@
 use crate::wrong_recordings::{ENCOUNTER, FIRST, FOURTEEN, Row, SECOND, SENDS, first_other};
 use std::test::Fail;
 
-const ROWS: [Row; 32] = [
+const ROWS: &[Row] = &[
     (
         &[ENCOUNTER, b"journal,014\n"],
         b"line 10: this line has to be \"journal,\" and a number from 0 to 999999999, and is \"journal,014\"\n",
@@ -175,6 +175,6 @@ const ROWS: [Row; 32] = [
 
 #[test]
 fn misspelled_recordings_are_told(rt: HostRuntime) -> Result<(), Fail> {
-    assert_eq!(rt; first_other(rt.alloc(), &ROWS)?, None);
+    assert_eq!(rt; first_other(rt.alloc(), ROWS)?, None);
     Ok(())
 }

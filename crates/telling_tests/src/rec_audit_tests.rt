@@ -39,7 +39,7 @@ fn bytes_of(alloc: Global, parts: [&[u8]; 4]) -> Result<Option<Vec<u8>>, AllocEr
 // The parts of a recording, and its verdict.
 type Judged = ([&'static [u8]; 4], Verdict);
 
-const JUDGED: [Judged; 15] = [
+const JUDGED: &[Judged] = &[
     ([HEAD, TWO, BOTH, CLOSE], Verdict::Legal(2)),
     (
         [HEAD, TWO, b"journal,2\nc,1,1,-,-\nc,0,1,-,-\n", CLOSE],
@@ -117,7 +117,7 @@ fn first_misjudged(alloc: Global, rows: &[Judged]) -> Result<Option<usize>, Fail
 
 #[test]
 fn judges_recordings(rt: HostRuntime) -> Result<(), Fail> {
-    assert_eq!(rt; first_misjudged(rt.alloc(), &JUDGED)?, None);
+    assert_eq!(rt; first_misjudged(rt.alloc(), JUDGED)?, None);
     Ok(())
 }
 
@@ -132,7 +132,7 @@ fn loaded(found: Loaded) -> Option<u32> {
 // The parts of a recording, and how many entries are loaded of them as a whole recording and as a beginning.
 type Loading = ([&'static [u8]; 4], Option<u32>, Option<u32>);
 
-const LOADED: [Loading; 6] = [
+const LOADED: &[Loading] = &[
     ([HEAD, TWO, BOTH, CLOSE], Some(2), None),
     ([HEAD, TWO, BOTH, b""], None, Some(2)),
     ([HEAD, TWO, b"journal,2\nc,1,1,-,-\n", b""], None, Some(1)),
@@ -163,6 +163,6 @@ fn first_misloaded(alloc: Global, rows: &[Loading]) -> Result<Option<usize>, Fai
 
 #[test]
 fn loads_recordings_and_beginnings(rt: HostRuntime) -> Result<(), Fail> {
-    assert_eq!(rt; first_misloaded(rt.alloc(), &LOADED)?, None);
+    assert_eq!(rt; first_misloaded(rt.alloc(), LOADED)?, None);
     Ok(())
 }

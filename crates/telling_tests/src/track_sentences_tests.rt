@@ -9,7 +9,7 @@ use track_text::{ReadError, explained, read};
 const FRONT: &[u8] = b"tracks,1\nrun,3,0\ncraft,400A01,RA\ncraft,400B02,TA\n";
 
 // A record, or the rest of a text, after four right ones, and the line that tells its fault.
-const AFTER_FOUR: [(&[u8], &[u8]); 40] = [
+const AFTER_FOUR: &[(&[u8], &[u8])] = &[
     (
         b"leg,400A01,1,0,0,0\n",
         b"line 5: \"leg\" is no kind of record of tracks (run, gains, craft, climb, at, miss, plan, fate, end)\n",
@@ -173,7 +173,7 @@ const AFTER_FOUR: [(&[u8], &[u8]); 40] = [
 ];
 
 // A text from its start, and the line that tells its fault.
-const WHOLE: [(&[u8], &[u8]); 6] = [
+const WHOLE: &[(&[u8], &[u8])] = &[
     (
         b"",
         b"line 1: there is no record; the first one has to be \"tracks,1\"\n",
@@ -219,17 +219,32 @@ fn is_told(alloc: Global, text: &[u8], expected: &[u8]) -> Result<bool, AllocErr
     }
 }
 
+fn joined(alloc: Global, front: &[u8], rest: &[u8]) -> Result<Vec<u8>, AllocError> {
+    let mut text = Vec::from_slice(alloc, front)?;
+    text.extend_from_slice(rest)?;
+    Ok(text)
+}
+
+fn is_told_behind(
+    alloc: Global,
+    front: &[u8],
+    rest: &[u8],
+    expected: &[u8],
+) -> Result<bool, AllocError> {
+    let text = joined(alloc, front, rest)?;
+    is_told(alloc, &text, expected)
+}
+
 // The number of the first text that is told otherwise.
 fn first_other(
     alloc: Global,
     front: &[u8],
     texts: &[(&[u8], &[u8])],
 ) -> Result<Option<usize>, AllocError> {
-    for (number, (rest, expected)) in texts.iter().enumerate() {
-        let mut text = Vec::from_slice(alloc, front)?;
-        text.extend_from_slice(rest)?;
-        if !is_told(alloc, &text, expected)? {
-            return Ok(Some(number));
+    for place in 0..texts.len() {
+        let (rest, expected) = texts[place];
+        if !is_told_behind(alloc, front, rest, expected)? {
+            return Ok(Some(place));
         }
     }
     Ok(None)
@@ -237,7 +252,7 @@ fn first_other(
 
 #[test]
 fn faults_of_tracks_are_told(rt: HostRuntime) -> Result<(), Fail> {
-    assert_eq!(rt; first_other(rt.alloc(), FRONT, &AFTER_FOUR)?, None);
-    assert_eq!(rt; first_other(rt.alloc(), b"", &WHOLE)?, None);
+    assert_eq!(rt; first_other(rt.alloc(), FRONT, AFTER_FOUR)?, None);
+    assert_eq!(rt; first_other(rt.alloc(), b"", WHOLE)?, None);
     Ok(())
 }

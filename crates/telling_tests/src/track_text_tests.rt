@@ -209,7 +209,7 @@ fn faults_of_tracks_name_the_aircraft(rt: HostRuntime) -> Result<(), Fail> {
 }
 
 // Of tracks that can't be flown, the sentence names the aircraft, and the cycle.
-const EXPLAINED: [Told; 2] = [
+const EXPLAINED: &[Told] = &[
     (
         FAST,
         b"line 10: the track of 400B02 is too fast for a leg from cycle 2 to the next one: at most 2000 ft/s in x and in y, and 10000 ft/min\n",
@@ -239,10 +239,19 @@ fn is_told(alloc: Global, text: &[u8], expected: &[u8]) -> Result<bool, AllocErr
     }
 }
 
+// The place of the first text that is explained otherwise.
+fn first_untold(alloc: Global, rows: &[Told]) -> Result<Option<usize>, AllocError> {
+    for place in 0..rows.len() {
+        let (text, expected) = rows[place];
+        if !is_told(alloc, text, expected)? {
+            return Ok(Some(place));
+        }
+    }
+    Ok(None)
+}
+
 #[test]
 fn refused_tracks_are_explained(rt: HostRuntime) -> Result<(), Fail> {
-    for (text, expected) in EXPLAINED {
-        assert!(rt; is_told(rt.alloc(), text, expected)?);
-    }
+    assert_eq!(rt; first_untold(rt.alloc(), EXPLAINED)?, None);
     Ok(())
 }

@@ -22,7 +22,7 @@ const WITHOUT_GAINS: &[u8] =
 const REFUSED: &[u8] =
     b"recording,1\nencounter,1\nrun,601,0\ncraft,400A01,RA,0,0,35000\nend\njournal,14\n";
 
-const ROWS: [Row; 37] = [
+const ROWS: &[Row] = &[
     (
         &[ONE_CYCLE, b"journal,2\n", b"c,1,1,-,-\n"],
         b"line 9: aircraft 1 is of kind XPDR, and makes no entries\n",
@@ -244,6 +244,6 @@ const ROWS: [Row; 37] = [
 
 #[test]
 fn wrong_recordings_are_told(rt: HostRuntime) -> Result<(), Fail> {
-    assert_eq!(rt; first_other(rt.alloc(), &ROWS)?, None);
+    assert_eq!(rt; first_other(rt.alloc(), ROWS)?, None);
     Ok(())
 }

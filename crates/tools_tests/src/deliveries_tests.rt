@@ -1,72 +1,44 @@
 // Expected values: by hand from "What became of the messages" in docs/FORMATS.md and from the tables of messages in the
 // tests of journal_tables; those of a run with missed replies from an independent Python model of the summary.
-ghost use Rattle.std.specs.Prelude.{◌≤◌, IfOk, length};
-ghost use Rattle.flight.specs.Inside.{IsInside};
-
-use crate::serial_runs::played;
-use acas_base::{CopyPlan, CraftSpec, Encounter, Fate, Kind, Miss};
-use acas_io::{MemSink, Sink};
+use crate::serial_runs::{DAMAGED, LEVEL, LOST, Meeting, encounter_of, met, played, sink};
+use acas_base::{CopyPlan, CraftSpec, Fate, Kind, Miss};
+use acas_io::Sink;
+use air_journal::AirState;
 use deliveries::{Deliveries, Mishap, Row, missed, write};
 use std::alloc::Global;
 use std::test::Fail;
-use test_encounters::{PLAIN, aircraft, encounter, fate, leg, miss};
+use test_encounters::{aircraft, encounter, miss};
 
-// Two aircraft that fly towards each other at one altitude.
-fn meeting(alloc: Global, cycles: u16, misses: &[Miss], fates: &[Fate]) -> Result<Encounter, Fail>
-    ensures { IfOk result IsInside }
-{
-    let crafts = [
-        aircraft(0x40_0A01, 0, 35_000)?,
-        aircraft(0x40_0B02, 91_200, 35_000)?,
-    ];
-    let legs = [leg(0, 1, 760, 0), leg(1, 1, -760, 0)];
-    encounter(alloc, cycles, None, &crafts, &legs, misses, fates)
+// Whether this is the end of the summary.
+fn is_written(alloc: Global, deliveries: &Deliveries, want: &[u8]) -> Result<bool, Fail> {
+    let mut sink = sink(alloc, &[])?;
+    write(deliveries, &mut sink)?;
+    Ok(sink.bytes() == want)
 }
 
-// Three aircraft that stay apart. The third one is of kind XPDR.
-fn apart(alloc: Global, misses: &[Miss]) -> Result<Encounter, Fail>
-    ensures { IfOk result IsInside }
-{
-    let crafts = [
-        aircraft(0x40_0A01, 0, 35_000)?,
-        aircraft(0x40_0B02, -500_000, 35_000)?,
-        CraftSpec {
-            kind: Kind::Xpdr,
-            ..aircraft(0x40_0C03, 500_000, 35_000)?
-        },
-    ];
-    encounter(alloc, 3, None, &crafts, &[], misses, &[])
-}
-
-// Whether the end of the summary of the serial run of an encounter is this text.
-fn is_told(alloc: Global, enc: &Encounter, want: &[u8]) -> Result<bool, Fail>
-    requires { IsInside enc.now }
-{
-    let state = played(alloc, enc)?;
+// Whether the end of the summary of a run is this text.
+fn is_told(alloc: Global, state: AirState, want: &[u8]) -> Result<bool, Fail> {
     let deliveries = Deliveries::new(alloc, state)?;
-    let mut sink = MemSink::new(Vec::with_capacity(alloc, 1_000)?, 1_000, Vec::new(alloc));
-    Ok(write(&deliveries, &mut sink).is_ok() && sink.bytes() == want)
-}
-
-fn plan(hold: u8, mask: u8) -> CopyPlan {
-    CopyPlan { hold, mask }
-}
-
-// A message without copies.
-fn lost(number: u16) -> Fate {
-    fate(number, 0, PLAIN, PLAIN)
+    is_written(alloc, &deliveries, want)
 }
 
 // ---- messages
 
+// The first copy is held back for two commits, and the second one is not.
+const HELD: Fate = Fate {
+    copies: 2,
+    first: CopyPlan { hold: 2, mask: 0 },
+    ..LOST
+};
+
 // Of examples/lost-messages.enc. Besides, the encounter plans the loss of a message that is never sent.
-const LOST: &[u8] =
+const THREE_LOST: &[u8] =
     b"\nMESSAGES 12 sent, 3 lost, 0 spoilt, 0 held back, 0 repeated, 0 not taken by the end
   400A01 to 400B02: 6 sent; lost 1-3
 ";
 
 // Of examples/held-copy.enc.
-const HELD: &[u8] =
+const HELD_BACK: &[u8] =
     b"\nMESSAGES 12 sent, 0 lost, 0 spoilt, 1 held back, 1 repeated, 0 not taken by the end
   400A01 to 400B02: 6 sent; held back 1; repeated 1
 ";
@@ -78,13 +50,13 @@ const HELD_TO_THE_END: &[u8] =
 ";
 
 // Of examples/damaged-message.enc.
-const DAMAGED: &[u8] =
+const SPOILT: &[u8] =
     b"\nMESSAGES 12 sent, 0 lost, 1 spoilt, 0 held back, 0 repeated, 0 not taken by the end
   400A01 to 400B02: 6 sent; spoilt 1
 ";
 
 // The same, where a second copy is good.
-const DAMAGED_ONCE: &[u8] =
+const SPOILT_ONCE: &[u8] =
     b"\nMESSAGES 12 sent, 0 lost, 0 spoilt, 0 held back, 1 repeated, 0 not taken by the end
   400A01 to 400B02: 6 sent; repeated 1
 ";
@@ -101,46 +73,112 @@ const MANY: &[u8] =
   400A01 to 400B02: 20 sent; lost 1, 3, 5, 7, 9, 11 and 3 more
 ";
 
-fn are_told(alloc: Global) -> Result<bool, Fail> {
-    let damaged = plan(0, 0x07);
-    let held = fate(1, 2, plan(2, 0), PLAIN);
-    let three = meeting(alloc, 31, &[], &[lost(1), lost(2), lost(3), lost(9)])?;
-    let one = meeting(alloc, 31, &[], &[held])?;
-    let beyond = meeting(alloc, 31, &[], &[held, fate(6, 1, plan(1, 0), PLAIN)])?;
-    let spoilt = meeting(alloc, 31, &[], &[fate(1, 1, damaged, PLAIN)])?;
-    let once = meeting(alloc, 31, &[], &[fate(1, 2, damaged, PLAIN)])?;
-    let repeated = [
-        fate(1, 3, PLAIN, PLAIN),
-        fate(2, 2, PLAIN, PLAIN),
-        fate(3, 3, PLAIN, PLAIN),
-    ];
-    let repeated = meeting(alloc, 31, &[], &repeated)?;
-    let odd = [
-        lost(1),
-        lost(3),
-        lost(5),
-        lost(7),
-        lost(9),
-        lost(11),
-        lost(13),
-        lost(15),
-        lost(17),
-    ];
-    let many = meeting(alloc, 45, &[], &odd)?;
-    Ok(
-        is_told(alloc, &three, LOST)?
-            && is_told(alloc, &one, HELD)?
-            && is_told(alloc, &beyond, HELD_TO_THE_END)?
-            && is_told(alloc, &spoilt, DAMAGED)?
-            && is_told(alloc, &once, DAMAGED_ONCE)?
-            && is_told(alloc, &repeated, REPEATED)?
-            && is_told(alloc, &many, MANY)?,
-    )
+// How many cycles two aircraft meet at one altitude, with these missed replies, what becomes of the messages, and the
+// end of the summary.
+type Told = (u16, &'static [Miss], &'static [Fate], &'static [u8]);
+
+const TELLING: &[Told] = &[
+    (
+        31,
+        &[],
+        &[
+            LOST,
+            Fate { number: 2, ..LOST },
+            Fate { number: 3, ..LOST },
+            Fate { number: 9, ..LOST },
+        ],
+        THREE_LOST,
+    ),
+    (31, &[], &[HELD], HELD_BACK),
+    (
+        31,
+        &[],
+        &[
+            HELD,
+            Fate {
+                number: 6,
+                copies: 1,
+                first: CopyPlan { hold: 1, mask: 0 },
+                ..LOST
+            },
+        ],
+        HELD_TO_THE_END,
+    ),
+    (
+        31,
+        &[],
+        &[Fate {
+            copies: 1,
+            first: DAMAGED,
+            ..LOST
+        }],
+        SPOILT,
+    ),
+    (
+        31,
+        &[],
+        &[Fate {
+            copies: 2,
+            first: DAMAGED,
+            ..LOST
+        }],
+        SPOILT_ONCE,
+    ),
+    (
+        31,
+        &[],
+        &[
+            Fate { copies: 3, ..LOST },
+            Fate {
+                number: 2,
+                copies: 2,
+                ..LOST
+            },
+            Fate {
+                number: 3,
+                copies: 3,
+                ..LOST
+            },
+        ],
+        REPEATED,
+    ),
+    (
+        45,
+        &[],
+        &[
+            LOST,
+            Fate { number: 3, ..LOST },
+            Fate { number: 5, ..LOST },
+            Fate { number: 7, ..LOST },
+            Fate { number: 9, ..LOST },
+            Fate { number: 11, ..LOST },
+            Fate { number: 13, ..LOST },
+            Fate { number: 15, ..LOST },
+            Fate { number: 17, ..LOST },
+        ],
+        MANY,
+    ),
+];
+
+fn is_told_of(alloc: Global, row: &Told) -> Result<bool, Fail> {
+    let (cycles, misses, fates, want) = *row;
+    let meeting = Meeting { cycles, ..LEVEL };
+    is_told(alloc, met(alloc, &meeting, misses, fates)?, want)
+}
+
+// The place of the first row that is told otherwise.
+fn first_other(alloc: Global, rows: &[Told]) -> Result<Option<usize>, Fail> {
+    for place in 0..rows.len() {
+        if !is_told_of(alloc, &rows[place])? {
+            return Ok(Some(place));
+        }
+    }
+    Ok(None)
 }
 
 #[test]
 fn tells_what_became_of_messages(rt: HostRuntime) -> Result<(), Fail> {
-    assert!(rt; are_told(rt.alloc())?);
+    assert_eq!(rt; first_other(rt.alloc(), TELLING)?, None);
     Ok(())
 }
 
@@ -153,6 +191,29 @@ const BLIND: &[u8] =
 REPLIES MISSED by plan
   by 400B02 from 400A01 in 28-33
 ";
+
+const BLINDED: &[Told] = &[(
+    36,
+    &[Miss {
+        own: 1,
+        target: 0,
+        from: 28,
+        to: 33,
+    }],
+    &[
+        Fate { number: 2, ..LOST },
+        Fate { number: 3, ..LOST },
+        Fate { number: 4, ..LOST },
+        Fate { number: 5, ..LOST },
+        Fate { number: 6, ..LOST },
+        Fate { number: 7, ..LOST },
+        Fate { number: 8, ..LOST },
+        Fate { number: 9, ..LOST },
+        Fate { number: 10, ..LOST },
+        Fate { number: 11, ..LOST },
+    ],
+    BLIND,
+)];
 
 // Two misses that follow each other are one row, which the run cuts. One begins after the run, and one is of an
 // aircraft that measures nothing.
@@ -168,20 +229,27 @@ const NOTHING: &[u8] =
     b"\nMESSAGES 0 sent, 0 lost, 0 spoilt, 0 held back, 0 repeated, 0 not taken by the end
 ";
 
-fn are_missed(alloc: Global) -> Result<bool, Fail> {
-    let ten = [
-        lost(2),
-        lost(3),
-        lost(4),
-        lost(5),
-        lost(6),
-        lost(7),
-        lost(8),
-        lost(9),
-        lost(10),
-        lost(11),
-    ];
-    let blind = meeting(alloc, 36, &[miss(1, 0, 28, 33)], &ten)?;
+// Three aircraft that stay apart, for three cycles. The third one is of kind XPDR.
+fn apart() -> Result<[CraftSpec; 3], Fail> {
+    Ok([
+        aircraft(0x40_0A01, 0, 35_000)?,
+        aircraft(0x40_0B02, -500_000, 35_000)?,
+        CraftSpec {
+            kind: Kind::Xpdr,
+            ..aircraft(0x40_0C03, 500_000, 35_000)?
+        },
+    ])
+}
+
+// Whether this is told of them.
+fn is_told_apart(alloc: Global, misses: &[Miss], want: &[u8]) -> Result<bool, Fail> {
+    let enc = encounter(alloc, 3, None, &apart()?, &[], misses, &[])?;
+    is_told(alloc, played(alloc, &enc)?, want)
+}
+
+#[test]
+fn tells_missed_replies(rt: HostRuntime) -> Result<(), Fail> {
+    let alloc = rt.alloc();
     let misses = [
         miss(0, 1, 1, 1),
         miss(0, 1, 2, 5),
@@ -190,27 +258,20 @@ fn are_missed(alloc: Global) -> Result<bool, Fail> {
         miss(1, 2, 3, 3),
         miss(2, 0, 1, 3),
     ];
-    let some = apart(alloc, &misses)?;
-    let none = apart(alloc, &[miss(0, 2, 4, 9), miss(2, 0, 1, 3)])?;
-    Ok(
-        is_told(alloc, &blind, BLIND)?
-            && is_told(alloc, &some, MISSED)?
-            && is_told(alloc, &none, NOTHING)?,
-    )
-}
-
-#[test]
-fn tells_missed_replies(rt: HostRuntime) -> Result<(), Fail> {
-    assert!(rt; are_missed(rt.alloc())?);
+    let none = [miss(0, 2, 4, 9), miss(2, 0, 1, 3)];
+    assert_eq!(rt; first_other(alloc, BLINDED)?, None);
+    assert!(rt; is_told_apart(alloc, &misses, MISSED)?);
+    assert!(rt; is_told_apart(alloc, &none, NOTHING)?);
     Ok(())
 }
 
 // ---- rows
 
 // What the value says of the messages of examples/lost-messages.enc.
-fn says_rows(deliveries: &Deliveries) -> bool
-    requires { 2 ≤ length deliveries.now.encounter.crafts }
-{
+fn says_rows(deliveries: &Deliveries) -> bool {
+    if deliveries.state().enc().crafts().len() < 2 {
+        return false;
+    }
     let numbers = deliveries.numbers(Mishap::Lost, 0, 1);
     let back = deliveries.numbers(Mishap::Lost, 1, 0);
     let rows = numbers.row_at(1) == Some(Row { first: 1, last: 3 })
@@ -228,19 +289,19 @@ fn says_rows(deliveries: &Deliveries) -> bool
         && deliveries.counts().sent == 12
 }
 
-// The same, and the cycles of a miss that the run cuts.
-fn are_rows(alloc: Global) -> Result<bool, Fail> {
-    let lost = [lost(1), lost(2), lost(3)];
-    let enc = meeting(alloc, 31, &[miss(1, 0, 30, 40)], &lost)?;
-    let state = played(alloc, &enc)?;
+fn says_rows_of(alloc: Global, state: AirState) -> Result<bool, Fail> {
     let deliveries = Deliveries::new(alloc, state)?;
-    if deliveries.state().enc().crafts().len() < 2 {
-        return Ok(false);
-    }
+    Ok(says_rows(&deliveries))
+}
+
+const FIRST_THREE: &[Fate] = &[LOST, Fate { number: 2, ..LOST }, Fate { number: 3, ..LOST }];
+
+// The cycles of a miss that the run cuts.
+fn misses_to_the_end(alloc: Global) -> Result<bool, Fail> {
+    let enc = encounter_of(alloc, &LEVEL, &[miss(1, 0, 30, 40)], FIRST_THREE)?;
     let cycles = missed(&enc, 1, 0);
     Ok(
-        says_rows(&deliveries)
-            && cycles.len() == 31
+        cycles.len() == 31
             && cycles.row_at(30)
                 == Some(Row {
                     first: 30,
@@ -251,6 +312,9 @@ fn are_rows(alloc: Global) -> Result<bool, Fail> {
 
 #[test]
 fn tells_rows(rt: HostRuntime) -> Result<(), Fail> {
-    assert!(rt; are_rows(rt.alloc())?);
+    let alloc = rt.alloc();
+    let state = met(alloc, &LEVEL, &[miss(1, 0, 30, 40)], FIRST_THREE)?;
+    assert!(rt; says_rows_of(alloc, state)?);
+    assert!(rt; misses_to_the_end(alloc)?);
     Ok(())
 }

@@ -6,9 +6,12 @@ ghost use Rattle.flight.specs.Inside.{IsInside};
 use acas_base::{Address, CraftSpec, Encounter, Gains, Kind, Leg};
 use flight::{inside, position};
 use followed_advice::{Leaving, fly};
-use std::alloc::Global;
+use std::alloc::{AllocError, Global};
 use std::test::Fail;
 use test_encounters::{aircraft, encounter, leg};
+
+// An encounter whose aircraft follow their advice, or where it leaves the limits.
+type Flown = Result<Encounter, Leaving>;
 
 // A leg with rates along both axes.
 fn turn(craft: u8, from: u16, vx: i32, vy: i32, vz: i32) -> Leg {
@@ -32,15 +35,8 @@ fn craft_at(address: u32, x: i32, y: i32) -> Result<CraftSpec, Fail> {
     })
 }
 
-// Two aircraft over a lake, which were flown by hand.
-fn over_the_lake(alloc: Global) -> Result<Encounter, Fail>
-    ensures { IfOk result IsInside }
-{
-    let crafts = [
-        craft_at(0x15_4F38, 74_208, 3_844)?,
-        craft_at(0x89_40D1, -5_428, -77_464)?,
-    ];
-    let legs = [
+fn legs_over_the_lake() -> [Leg; 11] {
+    [
         turn(0, 1, -806, -85, 0),
         turn(0, 57, -806, -85, -800),
         turn(0, 63, -806, -85, -1_800),
@@ -52,8 +48,16 @@ fn over_the_lake(alloc: Global) -> Result<Encounter, Fail>
         turn(1, 65, 59, 842, -1_700),
         turn(1, 71, 59, 842, -2_220),
         turn(1, 81, 59, 842, -2_550),
-    ];
-    let made = Encounter::make(
+    ]
+}
+
+// Two aircraft with these legs.
+fn made(
+    alloc: Global,
+    crafts: &[CraftSpec],
+    legs: &[Leg],
+) -> Result<Option<Encounter>, AllocError> {
+    Ok(Encounter::make(
         1,
         101,
         1_500,
@@ -70,13 +74,29 @@ fn over_the_lake(alloc: Global) -> Result<Encounter, Fail>
         Vec::new(alloc),
         Vec::new(alloc),
         Vec::new(alloc),
-    );
+    ))
+}
+
+fn in_the_box(made: Option<Encounter>) -> Result<Encounter, Fail>
+    ensures { IfOk result IsInside }
+{
     let made = made.ok_or("refused")?;
     if inside(&made) {
         Ok(made)
     } else {
         Err("outside the box".into())
     }
+}
+
+// Two aircraft over a lake, which were flown by hand.
+fn over_the_lake(alloc: Global) -> Result<Encounter, Fail>
+    ensures { IfOk result IsInside }
+{
+    let crafts = [
+        craft_at(0x15_4F38, 74_208, 3_844)?,
+        craft_at(0x89_40D1, -5_428, -77_464)?,
+    ];
+    in_the_box(made(alloc, &crafts, &legs_over_the_lake())?)
 }
 
 // How far two aircraft are apart in altitude in a cycle, in ft and rounded down.
@@ -90,13 +110,23 @@ fn apart(made: &Encounter, cycle: u16) -> Option<u64> {
     Some(difference / 60)
 }
 
-// How far they are apart in cycle 93 where these follow their advice.
-fn apart_where(alloc: Global, named: &[u8]) -> Result<Option<u64>, Fail> {
-    let read = over_the_lake(alloc)?;
-    match fly(alloc, &read, named)? {
-        Ok(made) => Ok(apart(&made, 93)),
-        Err(_) => Ok(None),
+// The encounter in which these of two aircraft follow their advice.
+fn flown(alloc: Global, encounter: Encounter, named: &[u8]) -> Result<Flown, Fail>
+    requires { IsInside encounter }
+{
+    Ok(fly(alloc, &encounter, named)?)
+}
+
+// How far they are apart in cycle 93.
+fn apart_in_93(flown: Flown) -> Option<u64> {
+    match flown {
+        Ok(made) => apart(&made, 93),
+        Err(_) => None,
     }
+}
+
+fn apart_where(alloc: Global, named: &[u8]) -> Result<Option<u64>, Fail> {
+    Ok(apart_in_93(flown(alloc, over_the_lake(alloc)?, named)?))
 }
 
 #[test]
@@ -121,13 +151,21 @@ fn sinking(alloc: Global) -> Result<Encounter, Fail>
     encounter(alloc, 25, None, &crafts, &legs, &[], &[])
 }
 
+// Whether an encounter has so many legs, and the first one as it was.
+fn has_legs(made: &Encounter, legs: usize) -> bool {
+    made.legs().len() == legs && made.legs().first() == Some(&leg(0, 1, 0, -10_000))
+}
+
+fn is_as_it_was(flown: Flown, legs: usize) -> bool {
+    match flown {
+        Ok(made) => has_legs(&made, legs),
+        Err(_) => false,
+    }
+}
+
 // Whether an aircraft without advice is left as it is. The leg of rest of the second one goes where it is named.
 fn is_left(alloc: Global, named: &[u8], legs: usize) -> Result<bool, Fail> {
-    let read = sinking(alloc)?;
-    let Ok(made) = fly(alloc, &read, named)? else {
-        return Ok(false);
-    };
-    Ok(made.legs().len() == legs && made.legs().first() == Some(&leg(0, 1, 0, -10_000)))
+    Ok(is_as_it_was(flown(alloc, sinking(alloc)?, named)?, legs))
 }
 
 #[test]
@@ -151,13 +189,16 @@ fn sinking_together(alloc: Global, cycles: u16) -> Result<Encounter, Fail>
     encounter(alloc, cycles, None, &crafts, &legs, &[], &[])
 }
 
+fn leaving_of(flown: Flown) -> Option<Leaving> {
+    match flown {
+        Ok(_) => None,
+        Err(leaving) => Some(leaving),
+    }
+}
+
 // Where the flight of the lower one leaves the limits.
 fn leaving(alloc: Global, cycles: u16) -> Result<Option<Leaving>, Fail> {
-    let read = sinking_together(alloc, cycles)?;
-    match fly(alloc, &read, &[0])? {
-        Ok(_) => Ok(None),
-        Err(leaving) => Ok(Some(leaving)),
-    }
+    Ok(leaving_of(flown(alloc, sinking_together(alloc, cycles)?, &[0])?))
 }
 
 #[test]

@@ -3,10 +3,11 @@
 ghost use Rattle.std.specs.Prelude.{◌≤◌, IfOk, length};
 ghost use Rattle.flight.specs.Inside.{IsInside};
 
-use crate::serial_runs::played;
+use crate::serial_runs::{joined, played, sink};
 use acas_base::Encounter;
-use acas_io::{MemSink, Sink};
+use acas_io::Sink;
 use acas_lines::{Text, count_lines, write_text};
+use air_journal::AirState;
 use deliveries::Deliveries;
 use enc_file::read;
 use idle_notes::Notes;
@@ -26,8 +27,9 @@ fn encounter_of(alloc: Global, text: &[u8]) -> Result<Encounter, Fail>
 
 // Whether notes are these lines.
 fn are_lines<T: Text>(alloc: Global, notes: &T, want: &[u8]) -> Result<bool, Fail> {
-    let mut sink = MemSink::new(Vec::with_capacity(alloc, 4_000)?, 4_000, Vec::new(alloc));
-    Ok(write_text(notes, &mut sink).is_ok() && sink.bytes() == want)
+    let mut sink = sink(alloc, &[])?;
+    write_text(notes, &mut sink)?;
+    Ok(sink.bytes() == want)
 }
 
 // Whether these are the notes of the text of an encounter.
@@ -37,6 +39,12 @@ fn are_noted(alloc: Global, text: &[u8], want: &[u8]) -> Result<bool, Fail> {
     }
     let encounter = encounter_of(alloc, text)?;
     are_lines(alloc, &Notes::of_encounter(text, &encounter), want)
+}
+
+// The same of the text of two parts.
+fn are_noted_joined(alloc: Global, front: &[u8], rest: &[u8], want: &[u8]) -> Result<bool, Fail> {
+    let text = joined(alloc, front, rest)?;
+    are_noted(alloc, &text, want)
 }
 
 // ---- aircraft
@@ -86,7 +94,7 @@ craft,400D04,XPDR,9000,9000,35000
 ";
 
 // Records after these six lines, and their notes.
-const AFTER_SIX: [(&[u8], &[u8]); 5] = [
+const AFTER_SIX: &[(&[u8], &[u8])] = &[
     (
         b"leg,400A01,9,0,0,60
 leg,400A01,10,0,0,60
@@ -162,12 +170,11 @@ end
 ];
 
 // The number of the first records that are noted otherwise.
-fn first_other(alloc: Global) -> Result<Option<usize>, Fail> {
-    for (number, (rest, want)) in AFTER_SIX.iter().enumerate() {
-        let mut text = Vec::from_slice(alloc, FRONT)?;
-        text.extend_from_slice(rest)?;
-        if !are_noted(alloc, &text, want)? {
-            return Ok(Some(number));
+fn first_other(alloc: Global, rows: &[(&[u8], &[u8])]) -> Result<Option<usize>, Fail> {
+    for place in 0..rows.len() {
+        let (rest, want) = rows[place];
+        if !are_noted_joined(alloc, FRONT, rest, want)? {
+            return Ok(Some(place));
         }
     }
     Ok(None)
@@ -178,7 +185,7 @@ fn notes_are_told(rt: HostRuntime) -> Result<(), Fail> {
     let alloc = rt.alloc();
     assert!(rt; are_noted(alloc, AIRCRAFT, OF_AIRCRAFT)?);
     assert!(rt; are_noted(alloc, ALL_OF_ONE, OF_ONE)?);
-    assert_eq!(rt; first_other(alloc)?, None);
+    assert_eq!(rt; first_other(alloc, AFTER_SIX)?, None);
     Ok(())
 }
 
@@ -197,7 +204,7 @@ end
 ";
 
 // The encounter of a recording with so many cycles, and the notes.
-const RECORDED: [(&[u8], &[u8]); 3] = [
+const RECORDED: &[(&[u8], &[u8])] = &[
     (
         b"encounter,1\nrun,25",
         b"line 8: this fate and 2 more of this pair have no effect: 400A01 sends 400B02 no message\n",
@@ -212,25 +219,46 @@ const RECORDED: [(&[u8], &[u8]); 3] = [
     ),
 ];
 
+// The serial run of the encounter that a text says.
+fn run_of(alloc: Global, text: &[u8]) -> Result<AirState, Fail>
+    requires { length text.now ≤ 2000 }
+{
+    let encounter = encounter_of(alloc, text)?;
+    Ok(played(alloc, &encounter)?)
+}
+
+fn are_noted_in(
+    alloc: Global,
+    text: &[u8],
+    deliveries: &Deliveries,
+    want: &[u8],
+) -> Result<bool, Fail>
+    requires { length text.now ≤ 2000 }
+{
+    let recording = joined(alloc, b"recording,1\n", text)?;
+    are_lines(alloc, &Notes::of_recording(&recording, deliveries), want)
+}
+
 // Whether these are the notes of the recording of the serial run of an encounter. Its lines after the encounter have no
 // notes, and are left out.
 fn are_noted_of_run(alloc: Global, text: &[u8], want: &[u8]) -> Result<bool, Fail> {
     if text.len() > 1_000 {
         return Err("too long".into());
     }
-    let state = played(alloc, &encounter_of(alloc, text)?)?;
-    let deliveries = Deliveries::new(alloc, state)?;
-    let mut recording = Vec::from_slice(alloc, b"recording,1\n")?;
-    recording.extend_from_slice(text)?;
-    are_lines(alloc, &Notes::of_recording(&recording, &deliveries), want)
+    let deliveries = Deliveries::new(alloc, run_of(alloc, text)?)?;
+    are_noted_in(alloc, text, &deliveries, want)
 }
 
-fn first_other_run(alloc: Global) -> Result<Option<usize>, Fail> {
-    for (number, (front, want)) in RECORDED.iter().enumerate() {
-        let mut text = Vec::from_slice(alloc, front)?;
-        text.extend_from_slice(MEETING)?;
-        if !are_noted_of_run(alloc, &text, want)? {
-            return Ok(Some(number));
+fn is_noted_of(alloc: Global, front: &[u8], want: &[u8]) -> Result<bool, Fail> {
+    let text = joined(alloc, front, MEETING)?;
+    are_noted_of_run(alloc, &text, want)
+}
+
+fn first_other_run(alloc: Global, rows: &[(&[u8], &[u8])]) -> Result<Option<usize>, Fail> {
+    for place in 0..rows.len() {
+        let (front, want) = rows[place];
+        if !is_noted_of(alloc, front, want)? {
+            return Ok(Some(place));
         }
     }
     Ok(None)
@@ -238,7 +266,7 @@ fn first_other_run(alloc: Global) -> Result<Option<usize>, Fail> {
 
 #[test]
 fn notes_of_runs_are_told(rt: HostRuntime) -> Result<(), Fail> {
-    assert_eq!(rt; first_other_run(rt.alloc())?, None);
+    assert_eq!(rt; first_other_run(rt.alloc(), RECORDED)?, None);
     Ok(())
 }
 
@@ -291,32 +319,65 @@ leg,400A01,39,0,0,0
 leg,400A01,40,0,0,0
 ";
 
-// Whether the notes of the text with these records besides are so many lines, and the last one is this one.
-fn are_many(alloc: Global, rest: &[u8], lines: u32, last: &[u8]) -> Result<bool, Fail> {
-    let mut text = Vec::from_slice(alloc, FORTY)?;
-    text.extend_from_slice(rest)?;
+// Whether notes end so.
+fn end_with<T: Text>(alloc: Global, notes: &T, last: &[u8]) -> Result<bool, Fail> {
+    let mut sink = sink(alloc, &[])?;
+    write_text(notes, &mut sink)?;
+    Ok(sink.bytes().ends_with(last))
+}
+
+// Whether notes are so many lines, and the last one is this one.
+fn are_many<T: Text>(alloc: Global, notes: &T, lines: u32, last: &[u8]) -> Result<bool, Fail> {
+    Ok(count_lines(notes) == lines && end_with(alloc, notes, last)?)
+}
+
+fn are_many_of(alloc: Global, text: &[u8], lines: u32, last: &[u8]) -> Result<bool, Fail> {
     if text.len() > 2_000 {
         return Err("too long".into());
     }
-    let encounter = encounter_of(alloc, &text)?;
-    let notes = Notes::of_encounter(&text, &encounter);
-    let mut sink = MemSink::new(Vec::with_capacity(alloc, 4_000)?, 4_000, Vec::new(alloc));
-    Ok(
-        count_lines(&notes) == lines
-            && write_text(&notes, &mut sink).is_ok()
-            && sink.bytes().ends_with(last),
-    )
+    let encounter = encounter_of(alloc, text)?;
+    are_many(alloc, &Notes::of_encounter(text, &encounter), lines, last)
 }
 
-const FORTIETH: &[u8] = b"line 44: this leg has no effect: 400A01 has these rates already\n";
+// The records besides, how many lines the notes are, and the last one.
+type Many = (&'static [u8], u32, &'static [u8]);
+
+const MANY: &[Many] = &[
+    (
+        b"end\n",
+        40,
+        b"line 44: this leg has no effect: 400A01 has these rates already\n",
+    ),
+    (
+        b"leg,400A01,41,0,0,0\nend\n",
+        41,
+        b"rates already\nand 1 more\n",
+    ),
+    (
+        b"leg,400A01,41,0,0,0\nleg,400A01,600,1,0,0\nend\n",
+        41,
+        b"rates already\nand 2 more\n",
+    ),
+];
+
+fn is_many(alloc: Global, row: &Many) -> Result<bool, Fail> {
+    let (rest, lines, last) = *row;
+    let text = joined(alloc, FORTY, rest)?;
+    are_many_of(alloc, &text, lines, last)
+}
+
+// The place of the first row with other notes.
+fn first_fewer(alloc: Global, rows: &[Many]) -> Result<Option<usize>, Fail> {
+    for place in 0..rows.len() {
+        if !is_many(alloc, &rows[place])? {
+            return Ok(Some(place));
+        }
+    }
+    Ok(None)
+}
 
 #[test]
 fn forty_notes_are_told(rt: HostRuntime) -> Result<(), Fail> {
-    let alloc = rt.alloc();
-    let one = b"leg,400A01,41,0,0,0\nend\n";
-    let two = b"leg,400A01,41,0,0,0\nleg,400A01,600,1,0,0\nend\n";
-    assert!(rt; are_many(alloc, b"end\n", 40, FORTIETH)?);
-    assert!(rt; are_many(alloc, one, 41, b"rates already\nand 1 more\n")?);
-    assert!(rt; are_many(alloc, two, 41, b"rates already\nand 2 more\n")?);
+    assert_eq!(rt; first_fewer(rt.alloc(), MANY)?, None);
     Ok(())
 }

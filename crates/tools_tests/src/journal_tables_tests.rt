@@ -3,26 +3,14 @@
 ghost use Rattle.std.specs.Prelude.{IfOk};
 ghost use Rattle.flight.specs.Inside.{IsInside};
 
-use crate::serial_runs::played;
+use crate::serial_runs::{DAMAGED, LEVEL, LOST, Meeting, met, played, sink};
 use acas_base::{CopyPlan, CraftSpec, Encounter, Fate, Kind};
 use acas_io::{MemSink, Sink};
 use air_journal::AirState;
 use journal_tables::{Messages, write_messages, write_places};
 use std::alloc::Global;
 use std::test::Fail;
-use test_encounters::{PLAIN, aircraft, encounter, fate, leg};
-
-// Two aircraft that fly towards each other, the first one at 35,000 ft and the second one at this altitude.
-fn meeting(alloc: Global, cycles: u16, alt: i32, fates: &[Fate]) -> Result<Encounter, Fail>
-    ensures { IfOk result IsInside }
-{
-    let crafts = [
-        aircraft(0x40_0A01, 0, 35_000)?,
-        aircraft(0x40_0B02, 91_200, alt)?,
-    ];
-    let legs = [leg(0, 1, 760, 0), leg(1, 1, -760, 0)];
-    encounter(alloc, cycles, None, &crafts, &legs, &[], fates)
-}
+use test_encounters::{aircraft, encounter, leg};
 
 // ---- places
 
@@ -57,7 +45,7 @@ const APART: &[u8] = b"cycle,address,x_ft,y_ft,alt_ft,modelled_alt_ft,word
 
 // Of examples/head-on.enc, with the altitudes of its modelled response: from cycle 26 on the rate stays for ten
 // half-seconds. Then it changes by 4 ft/s in each half-second, up to 25 ft/s.
-const HEAD_ON: [&[u8]; 5] = [
+const HEAD_ON: &[&[u8]] = &[
     b"word
 1,400A01,0,0,35000.0,,CLEAR
 1,400B02,91200,0,35300.0,,CLEAR
@@ -80,16 +68,11 @@ const HEAD_ON: [&[u8]; 5] = [
 ",
 ];
 
-// The table of places of the serial run of an encounter.
-fn places_of(alloc: Global, enc: &Encounter) -> Result<Vec<u8>, Fail>
-    requires { IsInside enc.now }
-{
-    let state = played(alloc, enc)?;
-    let mut sink = MemSink::new(Vec::with_capacity(alloc, 10_000)?, 10_000, Vec::new(alloc));
-    if write_places(&state, &mut sink).is_err() {
-        return Err("not written".into());
-    }
-    Ok(sink.bytes().to_vec(alloc)?)
+// The table of places of a run.
+fn places_of(alloc: Global, state: &AirState) -> Result<MemSink, Fail> {
+    let mut sink = sink(alloc, &[])?;
+    write_places(state, &mut sink)?;
+    Ok(sink)
 }
 
 // Whether a piece stands in a text.
@@ -111,26 +94,36 @@ fn holds_all(text: &[u8], pieces: &[&[u8]]) -> bool {
     true
 }
 
-fn are_placed(alloc: Global) -> Result<bool, Fail> {
-    let apart = apart(alloc)?;
-    let meeting = meeting(alloc, 70, 35_300, &[])?;
-    Ok(
-        places_of(alloc, &apart)?.as_slice() == APART
-            && holds_all(places_of(alloc, &meeting)?.as_slice(), &HEAD_ON),
-    )
+fn apart_run(alloc: Global) -> Result<AirState, Fail> {
+    let enc = apart(alloc)?;
+    Ok(played(alloc, &enc)?)
 }
+
+fn are_places(alloc: Global, state: AirState, want: &[u8]) -> Result<bool, Fail> {
+    let sink = places_of(alloc, &state)?;
+    Ok(sink.bytes() == want)
+}
+
+fn are_among_places(alloc: Global, state: AirState, pieces: &[&[u8]]) -> Result<bool, Fail> {
+    let sink = places_of(alloc, &state)?;
+    Ok(holds_all(sink.bytes(), pieces))
+}
+
+const MEETING: Meeting = Meeting {
+    cycles: 70,
+    alt: 35_300,
+    ..LEVEL
+};
 
 #[test]
 fn tells_places(rt: HostRuntime) -> Result<(), Fail> {
-    assert!(rt; are_placed(rt.alloc())?);
+    let alloc = rt.alloc();
+    assert!(rt; are_places(alloc, apart_run(alloc)?, APART)?);
+    assert!(rt; are_among_places(alloc, met(alloc, &MEETING, &[], &[])?, HEAD_ON)?);
     Ok(())
 }
 
 // ---- messages
-
-fn delayed(hold: u8) -> CopyPlan {
-    CopyPlan { hold, mask: 0 }
-}
 
 // Of examples/held-copy.enc; besides, the last message is held back beyond the end of the run.
 const HELD: &[u8] =
@@ -171,7 +164,7 @@ const HELD_LONG: &[u8] =
 ";
 
 // Of examples/damaged-message.enc.
-const DAMAGED: &[u8] =
+const SPOILT: &[u8] =
     b"sender,receiver,number,sent_cycle,sent_at,sets,cancels,copy,hold,taken_at,taken_cycle,result,changed
 400A01,400B02,1,26,52,above,,0,0,55,26,b,0
 400B02,400A01,1,26,53,above,,0,0,54,26,g,1
@@ -207,7 +200,7 @@ const REPEATED: &[u8] =
 ";
 
 // Of examples/lost-messages.enc.
-const LOST: &[u8] =
+const THREE_LOST: &[u8] =
     b"sender,receiver,number,sent_cycle,sent_at,sets,cancels,copy,hold,taken_at,taken_cycle,result,changed
 400A01,400B02,1,26,52,above,,,,,,,
 400B02,400A01,1,26,53,above,,0,0,54,26,g,1
@@ -224,8 +217,9 @@ const LOST: &[u8] =
 ";
 
 fn is_written(alloc: Global, messages: &Messages, want: &[u8]) -> Result<bool, Fail> {
-    let mut sink = MemSink::new(Vec::with_capacity(alloc, 2_000)?, 2_000, Vec::new(alloc));
-    Ok(write_messages(messages, &mut sink).is_ok() && sink.bytes() == want)
+    let mut sink = sink(alloc, &[])?;
+    write_messages(messages, &mut sink)?;
+    Ok(sink.bytes() == want)
 }
 
 fn is_table(alloc: Global, state: AirState, want: &[u8]) -> Result<bool, Fail> {
@@ -233,43 +227,69 @@ fn is_table(alloc: Global, state: AirState, want: &[u8]) -> Result<bool, Fail> {
     is_written(alloc, &messages, want)
 }
 
-// Whether the table of messages of two aircraft at one altitude, in 31 cycles, is this one.
-fn is_told(alloc: Global, fates: &[Fate], want: &[u8]) -> Result<bool, Fail> {
-    let enc = meeting(alloc, 31, 35_000, fates)?;
-    is_table(alloc, played(alloc, &enc)?, want)
-}
+// What becomes of the messages of two aircraft at one altitude, in 31 cycles, and their table.
+type Row = (&'static [Fate], &'static [u8]);
 
-fn are_told(alloc: Global) -> Result<bool, Fail> {
-    let damaged = CopyPlan {
-        hold: 0,
-        mask: 0x07,
-    };
-    let lost = [
-        fate(1, 0, PLAIN, PLAIN),
-        fate(2, 0, PLAIN, PLAIN),
-        fate(3, 0, PLAIN, PLAIN),
-    ];
-    let held_long = [
-        fate(1, 2, delayed(5), delayed(4)),
-        fate(2, 0, PLAIN, PLAIN),
-        fate(3, 0, PLAIN, PLAIN),
-        fate(4, 0, PLAIN, PLAIN),
-        fate(5, 0, PLAIN, PLAIN),
-    ];
-    Ok(
-        is_told(
-            alloc,
-            &[fate(1, 2, delayed(2), PLAIN), fate(6, 1, delayed(1), PLAIN)],
-            HELD,
-        )? && is_told(alloc, &held_long, HELD_LONG)?
-            && is_told(alloc, &[fate(1, 1, damaged, PLAIN)], DAMAGED)?
-            && is_told(alloc, &[fate(1, 3, PLAIN, PLAIN)], REPEATED)?
-            && is_told(alloc, &lost, LOST)?,
-    )
+const TELLING: &[Row] = &[
+    (
+        &[
+            Fate {
+                copies: 2,
+                first: CopyPlan { hold: 2, mask: 0 },
+                ..LOST
+            },
+            Fate {
+                number: 6,
+                copies: 1,
+                first: CopyPlan { hold: 1, mask: 0 },
+                ..LOST
+            },
+        ],
+        HELD,
+    ),
+    (
+        &[
+            Fate {
+                copies: 2,
+                first: CopyPlan { hold: 5, mask: 0 },
+                second: CopyPlan { hold: 4, mask: 0 },
+                ..LOST
+            },
+            Fate { number: 2, ..LOST },
+            Fate { number: 3, ..LOST },
+            Fate { number: 4, ..LOST },
+            Fate { number: 5, ..LOST },
+        ],
+        HELD_LONG,
+    ),
+    (
+        &[Fate {
+            copies: 1,
+            first: DAMAGED,
+            ..LOST
+        }],
+        SPOILT,
+    ),
+    (&[Fate { copies: 3, ..LOST }], REPEATED),
+    (
+        &[LOST, Fate { number: 2, ..LOST }, Fate { number: 3, ..LOST }],
+        THREE_LOST,
+    ),
+];
+
+// The place of the first row with another table.
+fn first_other(alloc: Global, rows: &[Row]) -> Result<Option<usize>, Fail> {
+    for place in 0..rows.len() {
+        let (fates, want) = rows[place];
+        if !is_table(alloc, met(alloc, &LEVEL, &[], fates)?, want)? {
+            return Ok(Some(place));
+        }
+    }
+    Ok(None)
 }
 
 #[test]
 fn tells_messages(rt: HostRuntime) -> Result<(), Fail> {
-    assert!(rt; are_told(rt.alloc())?);
+    assert_eq!(rt; first_other(rt.alloc(), TELLING)?, None);
     Ok(())
 }

@@ -85,61 +85,78 @@ const AT_1550_FT: View = View { agl: 1_550, ..NEAR };
 
 const AT_1549_FT: View = View { agl: 1_549, ..NEAR };
 
-// An advisory that didn't turn.
-fn advised(sense: Sense, strength: Strength, age: u16) -> Cell {
-    Cell::Ra(Intent {
-        sense,
-        strength,
-        age,
-        turned: false,
-        crossing: false,
-        corrective: true,
-    })
-}
+// An advisory that didn't turn: a climb in its first cycle and in its fifth one, and a descent.
+const STARTED: Intent = Intent {
+    sense: Sense::Up,
+    strength: Strength::Positive,
+    age: 1,
+    turned: false,
+    crossing: false,
+    corrective: true,
+};
+
+const CLIMB: Cell = Cell::Ra(STARTED);
+
+const OLD: Cell = Cell::Ra(Intent { age: 5, ..STARTED });
+
+const DESCENT: Cell = Cell::Ra(Intent {
+    sense: Sense::Down,
+    strength: Strength::Increase,
+    age: 2,
+    ..STARTED
+});
 
 // The cell before, the view, the complement and the rank, and the rule of the cell that follows.
 type Row = (Cell, View, Vrc, Rank, Rule);
 
-fn rows() -> [Row; 14] {
-    let clear = Cell::Clear;
-    let traffic = Cell::Traffic;
-    let climb = advised(Sense::Up, Strength::Positive, 1);
-    let old = advised(Sense::Up, Strength::Positive, 5);
-    let descent = advised(Sense::Down, Strength::Increase, 2);
-    [
-        (climb, UNTESTED, Vrc::Nil, Rank::First, Rule::Untested),
-        (clear, NEAR, Vrc::Nil, Rank::Second, Rule::Starts),
-        (
-            traffic,
-            NEAR,
-            Vrc::NotAbove,
-            Rank::First,
-            Rule::StartsAsTold,
-        ),
-        (clear, TRAFFIC, Vrc::NotAbove, Rank::First, Rule::Traffic),
-        (traffic, FAR, Vrc::Nil, Rank::First, Rule::Quiet),
-        (climb, LOW, Vrc::Nil, Rank::First, Rule::EndsBelowLevel),
-        (
-            old,
-            FAR,
-            Vrc::NotAbove,
-            Rank::Second,
-            Rule::EndsWithoutThreat,
-        ),
-        (climb, NEAR, Vrc::NotAbove, Rank::Second, Rule::Obeys),
-        (climb, DOWN, Vrc::NotAbove, Rank::First, Rule::Reverses),
-        (climb, NEAR, Vrc::NotAbove, Rank::First, Rule::Strengthens),
-        (climb, UP, Vrc::Nil, Rank::Free, Rule::Keeps),
-        (old, PARTED, Vrc::Nil, Rank::First, Rule::Weakens),
-        (descent, AT_1550_FT, Vrc::Nil, Rank::First, Rule::Keeps),
-        (descent, AT_1549_FT, Vrc::Nil, Rank::First, Rule::Capped),
-    ]
+const ROWS: &[Row] = &[
+    (CLIMB, UNTESTED, Vrc::Nil, Rank::First, Rule::Untested),
+    (Cell::Clear, NEAR, Vrc::Nil, Rank::Second, Rule::Starts),
+    (
+        Cell::Traffic,
+        NEAR,
+        Vrc::NotAbove,
+        Rank::First,
+        Rule::StartsAsTold,
+    ),
+    (
+        Cell::Clear,
+        TRAFFIC,
+        Vrc::NotAbove,
+        Rank::First,
+        Rule::Traffic,
+    ),
+    (Cell::Traffic, FAR, Vrc::Nil, Rank::First, Rule::Quiet),
+    (CLIMB, LOW, Vrc::Nil, Rank::First, Rule::EndsBelowLevel),
+    (
+        OLD,
+        FAR,
+        Vrc::NotAbove,
+        Rank::Second,
+        Rule::EndsWithoutThreat,
+    ),
+    (CLIMB, NEAR, Vrc::NotAbove, Rank::Second, Rule::Obeys),
+    (CLIMB, DOWN, Vrc::NotAbove, Rank::First, Rule::Reverses),
+    (CLIMB, NEAR, Vrc::NotAbove, Rank::First, Rule::Strengthens),
+    (CLIMB, UP, Vrc::Nil, Rank::Free, Rule::Keeps),
+    (OLD, PARTED, Vrc::Nil, Rank::First, Rule::Weakens),
+    (DESCENT, AT_1550_FT, Vrc::Nil, Rank::First, Rule::Keeps),
+    (DESCENT, AT_1549_FT, Vrc::Nil, Rank::First, Rule::Capped),
+];
+
+// The place of the first row with another rule.
+fn first_other(rows: &[Row]) -> Option<usize> {
+    for place in 0..rows.len() {
+        let (before, view, complement, rank, rule) = &rows[place];
+        if rule_of(before, view, *complement, *rank) != *rule {
+            return Some(place);
+        }
+    }
+    None
 }
 
 #[test]
 fn names_each_rule(rt: HostRuntime) -> Result<(), Fail> {
-    for (before, view, complement, rank, rule) in rows() {
-        assert_eq!(rt; rule_of(&before, &view, complement, rank), rule);
-    }
+    assert_eq!(rt; first_other(ROWS), None);
     Ok(())
 }

@@ -2,8 +2,8 @@
 ghost use Rattle.std.specs.Prelude.{IfOk};
 ghost use Rattle.flight.specs.Inside.{IsInside};
 
-use crate::serial_runs::played;
-use acas_base::Encounter;
+use crate::serial_runs::{EAST, LEVEL, Meeting, WEST, met, sink};
+use acas_base::{Encounter, Leg};
 use acas_io::{MemSink, Sink};
 use air_journal::AirState;
 use response::{flown, write};
@@ -31,16 +31,16 @@ fn altitude(state: &AirState, craft: u8, cycle: u16) -> Option<i64> {
     Some(flown(state, craft, cycle))
 }
 
-// Whether the response is written so. Where these writes of 100 bytes fail, a front of it is written.
+// Whether a sink has these bytes, and so many writes failed.
+fn has(sink: &MemSink, fails: u64, want: &[u8]) -> bool {
+    sink.bytes() == want && sink.faults() == fails
+}
+
+// Whether the response is written so. Where these writes fail, a front of it is written.
 fn is_written(alloc: Global, state: &AirState, fails: &[u64], want: &[u8]) -> Result<bool, Fail> {
-    let room = Vec::with_capacity(alloc, 100)?;
-    let mut sink = MemSink::new(room, 100, fails.to_vec(alloc)?);
-    let written = write(state, &mut sink);
-    Ok(
-        written.is_ok() == fails.is_empty()
-            && sink.bytes() == want
-            && sink.faults() == fails.len() as u64,
-    )
+    let mut sink = sink(alloc, fails)?;
+    let written = write(state, &mut sink).is_ok();
+    Ok(written == fails.is_empty() && has(&sink, fails.len() as u64, want))
 }
 
 // Whether all fly as planned, and there are no pairs. The altitude is 2048 * (60 * 35000 - 2) / 60, rounded down.
@@ -67,29 +67,36 @@ fn flies_as_planned_where_nothing_is_advised(rt: HostRuntime) -> Result<(), Fail
 
 // ---- with advice
 
-// Two aircraft that fly towards each other. The second one is at this altitude. Where it turns, it climbs in the end.
-fn meeting(alloc: Global, alt: i32, turns: bool) -> Result<Encounter, Fail>
-    ensures { IfOk result IsInside }
-{
-    let crafts = [
-        aircraft(0x40_0A01, 0, 35_000)?,
-        aircraft(0x40_0B02, 91_200, alt)?,
-    ];
-    let rate = if turns { 6_000 } else { 0 };
-    let legs = [
-        leg(0, 1, 760, 0),
-        leg(1, 1, -760, 0),
-        leg(1, 27, -760, rate),
-    ];
-    encounter(alloc, 40, Some(1024), &crafts, &legs, &[], &[])
-}
+// Two aircraft that fly towards each other at different altitudes.
+const ABOVE: Meeting = Meeting {
+    cycles: 40,
+    gain: Some(1024),
+    alt: 35_300,
+    legs: &[EAST, WEST, Leg { from: 27, ..WEST }],
+    ..LEVEL
+};
+
+// At one altitude. The second one climbs in the end.
+const CLIMBING: Meeting = Meeting {
+    alt: 35_000,
+    legs: &[
+        EAST,
+        WEST,
+        Leg {
+            from: 27,
+            vz: 6_000,
+            ..WEST
+        },
+    ],
+    ..ABOVE
+};
 
 // An aircraft, a cycle, and its altitude there.
 type Altitude = (u8, u16, i64);
 
 // At different altitudes the first one descends and the second one climbs from cycle 26 on. After five seconds the rate
 // grows by 4 ft/s in each half-second, up to 25 ft/s.
-const APART: [Altitude; 8] = [
+const APART: &[Altitude] = &[
     (0, 31, 71_680_000),
     (0, 32, 71_667_712),
     (0, 34, 71_593_984),
@@ -104,7 +111,7 @@ const APART: [Altitude; 8] = [
 // from cycle 29 on. The rate grows after two seconds and a half, by 5.5 ft/s in each half-second. In cycle 33 the
 // strength weakens, and the rate stays. From cycle 35 on it goes back at once, by 4 ft/s in each half-second, to 0 or
 // to the planned 100 ft/s.
-const TURNED: [Altitude; 10] = [
+const TURNED: &[Altitude] = &[
     (0, 30, 71_680_000),
     (0, 31, 71_674_368),
     (0, 33, 71_598_080),
@@ -131,18 +138,16 @@ fn first_elsewhere(state: &AirState, rows: &[Altitude]) -> Option<usize> {
 // The same of the serial run of a meeting.
 fn first_missed(
     alloc: Global,
-    alt: i32,
-    turns: bool,
+    meeting: &Meeting,
     rows: &[Altitude],
 ) -> Result<Option<usize>, Fail> {
-    let enc = meeting(alloc, alt, turns)?;
-    let state = played(alloc, &enc)?;
+    let state = met(alloc, meeting, &[], &[])?;
     Ok(first_elsewhere(&state, rows))
 }
 
 #[test]
 fn flies_as_advised(rt: HostRuntime) -> Result<(), Fail> {
-    assert_eq!(rt; first_missed(rt.alloc(), 35_300, false, &APART)?, None);
-    assert_eq!(rt; first_missed(rt.alloc(), 35_000, true, &TURNED)?, None);
+    assert_eq!(rt; first_missed(rt.alloc(), &ABOVE, APART)?, None);
+    assert_eq!(rt; first_missed(rt.alloc(), &CLIMBING, TURNED)?, None);
     Ok(())
 }

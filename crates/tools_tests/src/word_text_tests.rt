@@ -1,6 +1,7 @@
 // Expected values: by hand from the tables of bits of "RA report blocks" in docs/FORMATS.md and of "Messages" in
 // docs/RULES.md.
-use acas_io::{MemSink, Sink};
+use crate::serial_runs::sink;
+use acas_io::Sink;
 use std::alloc::Global;
 use std::test::Fail;
 use word_text::{parse, write};
@@ -9,7 +10,7 @@ use word_text::{parse, write};
 type Row = (&'static [u8], &'static [u8]);
 
 // Each field of a block is 1 in at least one of these words, and no two fields are alike in all of them.
-const BLOCKS: [Row; 4] = [
+const BLOCKS: &[Row] = &[
     (
         b"30D40225002804",
         b"word,block\ncorrective,1\ndown,0\nincrease,1\nreversal,0\ncrossing,1\npositive,0\nbelow,1\nabove,0\nended,1\nthreat,400A01\n",
@@ -28,7 +29,7 @@ const BLOCKS: [Row; 4] = [
     ),
 ];
 
-const MESSAGES: [Row; 3] = [
+const MESSAGES: &[Row] = &[
     (
         b"30080007400A01",
         b"word,message\nmany_threats,0\ncancels,nothing\nsets,above\nparity,7\nsender,400A01\n",
@@ -44,7 +45,7 @@ const MESSAGES: [Row; 3] = [
 ];
 
 // A wrong parity, two RACs at once, a message from nobody, and a block against nobody.
-const NONE: [Row; 6] = [
+const NONE: &[Row] = &[
     (b"30240002400B02", b"word,message\nnone\n"),
     (b"300C0009400A01", b"word,message\nnone\n"),
     (b"30080007000000", b"word,message\nnone\n"),
@@ -53,13 +54,18 @@ const NONE: [Row; 6] = [
     (b"FFFFFFFFFFFFFF", b"word,block\nnone\n"),
 ];
 
+fn is_written(alloc: Global, word: u64, want: &[u8]) -> Result<bool, Fail> {
+    let mut sink = sink(alloc, &[])?;
+    write(word, &mut sink)?;
+    Ok(sink.bytes() == want)
+}
+
 fn is_told(alloc: Global, row: Row) -> Result<bool, Fail> {
     let (digits, want) = row;
-    let Some(word) = parse(digits) else {
-        return Ok(false);
-    };
-    let mut sink = MemSink::new(Vec::with_capacity(alloc, 200)?, 200, Vec::new(alloc));
-    Ok(write(word, &mut sink).is_ok() && sink.bytes() == want)
+    match parse(digits) {
+        Some(word) => is_written(alloc, word, want),
+        None => Ok(false),
+    }
 }
 
 // The place of the first word that says something else.
@@ -74,20 +80,36 @@ fn first_other(alloc: Global, rows: &[Row]) -> Result<Option<usize>, Fail> {
 
 #[test]
 fn tells_what_words_say(rt: HostRuntime) -> Result<(), Fail> {
-    assert_eq!(rt; first_other(rt.alloc(), &BLOCKS)?, None);
-    assert_eq!(rt; first_other(rt.alloc(), &MESSAGES)?, None);
-    assert_eq!(rt; first_other(rt.alloc(), &NONE)?, None);
+    assert_eq!(rt; first_other(rt.alloc(), BLOCKS)?, None);
+    assert_eq!(rt; first_other(rt.alloc(), MESSAGES)?, None);
+    assert_eq!(rt; first_other(rt.alloc(), NONE)?, None);
     Ok(())
+}
+
+// A text, and the word that it is.
+const READ: &[(&[u8], Option<u64>)] = &[
+    (b"30EE0105002804", Some(0x30_EE01_0500_2804)),
+    (b"FFFFFFFFFFFFFF", Some(0xFF_FFFF_FFFF_FFFF)),
+    (b"30ee0105002804", None),
+    (b"30EE010500280", None),
+    (b"030EE0105002804", None),
+    (b"30EE010500280G", None),
+    (b"", None),
+];
+
+// The place of the first text that is another word.
+fn first_misread(rows: &[(&[u8], Option<u64>)]) -> Option<usize> {
+    for place in 0..rows.len() {
+        let (digits, word) = rows[place];
+        if parse(digits) != word {
+            return Some(place);
+        }
+    }
+    None
 }
 
 #[test]
 fn reads_fourteen_digits(rt: HostRuntime) -> Result<(), Fail> {
-    assert_eq!(rt; parse(b"30EE0105002804"), Some(0x30_EE01_0500_2804));
-    assert_eq!(rt; parse(b"FFFFFFFFFFFFFF"), Some(0xFF_FFFF_FFFF_FFFF));
-    assert_eq!(rt; parse(b"30ee0105002804"), None);
-    assert_eq!(rt; parse(b"30EE010500280"), None);
-    assert_eq!(rt; parse(b"030EE0105002804"), None);
-    assert_eq!(rt; parse(b"30EE010500280G"), None);
-    assert_eq!(rt; parse(b""), None);
+    assert_eq!(rt; first_misread(READ), None);
     Ok(())
 }
