@@ -1,6 +1,9 @@
 // Expected values: from another program, which was written from "The picture" in docs/FORMATS.md alone. What is shown
 // in each cycle is by hand, from the recordings that the pages in examples/ explain. A drawing is said part by part, in
 // the order of its text.
+ghost use Rattle.std.specs.Prelude.{IfOk};
+ghost use Rattle.flight.specs.Inside.{IsInside};
+
 mod altitude;
 mod bars;
 mod distances;
@@ -12,14 +15,14 @@ mod messages;
 mod mishaps;
 mod shown;
 
-use crate::serial_runs::{Meeting, ONE_CYCLE, REVERSAL, TRANSPONDER, met, sink};
-use acas_base::Fate;
+use crate::serial_runs::played;
+use acas_base::{CraftSpec, Encounter, Kind};
 use acas_io::{MemSink, Sink};
 use deliveries::Deliveries;
 use distances::{ADDRESSES, Headings, NAMES};
 use frame::{FIFTHS, Head, ONE, TIMES, Tick, add_head, add_legend, add_time};
 use labels::Labels;
-use marks::{Mark, Page, Tick};
+use marks::Page;
 use picture::write;
 use std::alloc::{AllocError, Global};
 use std::test::Fail;
@@ -49,34 +52,11 @@ fn texts(alloc: Global, words: &[&str]) -> Result<Vec<String>, AllocError> {
     Ok(texts)
 }
 
-fn drawn(alloc: Global, deliveries: &Deliveries, labels: &Labels) -> Result<MemSink, Fail> {
-    let mut sink = sink(alloc, &[])?;
-    write(deliveries, labels, &mut sink)?;
-    Ok(sink)
-}
-
-// The picture of a run with the labels that these words say.
-fn labelled_picture(
-    alloc: Global,
-    deliveries: &Deliveries,
-    words: &[&str],
-) -> Result<MemSink, Fail> {
-    let words = texts(alloc, words)?;
-    match Labels::parse(&words) {
-        Some(labels) => drawn(alloc, deliveries, &labels),
-        None => Err("no labels".into()),
-    }
-}
-
-// The picture of the serial run of a meeting with these labels.
-fn pictured(
-    alloc: Global,
-    meeting: &Meeting,
-    fates: &[Fate],
-    words: &[&str],
-) -> Result<MemSink, Fail> {
-    let deliveries = Deliveries::new(alloc, met(alloc, meeting, &[], fates)?)?;
-    labelled_picture(alloc, &deliveries, words)
+// The picture of the serial run of an encounter, without labels.
+fn pictured(alloc: Global, enc: &Encounter) -> Result<Vec<u8>, Fail>
+    requires { IsInside enc.now }
+{
+    pictured_with(alloc, enc, &[])
 }
 
 // Whether all lines of one text stand in another one, in order.
@@ -90,85 +70,46 @@ fn stands_in(text: &[u8], want: &[u8]) -> bool {
     true
 }
 
-// The drawings.
-#[derive(Clone, Copy)]
-enum Drawing {
-    // Of examples/one-cycle.enc. Nothing is shown, so there are no bars.
-    OneCycle,
-    // Of examples/reversal.enc.
-    Reversal,
-    // The same with a clock that runs past midnight, a name, and five marks in the run. They make the page higher by
-    // 2,000.
-    Labelled,
-    // Of examples/transponder-only.enc. The first aircraft has no lane, so the second one has the first lane. With one
-    // lane in place of two, what follows is higher by 960.
-    Transponder,
+// Whether the picture of the serial run of an encounter has these lines, in order. The other ones are those of the
+// seconds, the plan and the list of calls, of which `further` has rows.
+fn is_drawn(alloc: Global, enc: &Encounter, want: &[u8]) -> Result<bool, Fail>
+    requires { IsInside enc.now }
+{
+    Ok(stands_in(pictured(alloc, enc)?.as_slice(), want))
 }
 
-// The legend, the list of marks, and the last line.
-fn add_end(page: &mut Page, list: &[Mark]) -> Result<(), AllocError> {
-    page.add(LEGEND)?;
-    page.add(list)?;
-    page.add(&[Mark::Lines("</svg>\n")])
-}
-
-fn add_one_cycle(page: &mut Page) -> Result<(), AllocError> {
-    page.add(HEAD_OF_ONE_CYCLE)?;
-    add_time(page, 2020, ONE, "cycle")?;
-    page.add(labelled::NONE)?;
-    page.add(altitude::OF_ONE_CYCLE)?;
-    page.add(messages::NONE)?;
-    page.add(bars::OF_ONE_CYCLE)?;
-    distances::add_one_cycle(page)?;
-    add_end(page, labelled::NONE)
-}
-
-// What stands between the axis of time and the legend, where the first aircraft has this name.
-fn add_panels(
-    page: &mut Page,
-    marks: &[Mark],
-    name: &'static str,
-    headings: Headings,
-    ticks: &'static [Tick],
-) -> Result<(), AllocError> {
-    page.add(marks)?;
-    altitude::add_reversal(page, name)?;
-    page.add(messages::OF_REVERSAL)?;
-    bars::add_reversal(page, name)?;
-    distances::add_meeting(page, headings, ticks)
-}
-
-fn add_reversal(page: &mut Page) -> Result<(), AllocError> {
-    page.add(HEAD_OF_REVERSAL)?;
-    add_time(page, 2020, FIFTHS, "cycle")?;
-    add_panels(page, labelled::NONE, "400A01", ADDRESSES, FIFTHS)?;
-    add_end(page, labelled::NONE)
-}
-
-fn add_labelled(page: &mut Page) -> Result<(), AllocError> {
-    page.add(HEAD_OF_LABELLED)?;
-    add_time(page, 2020, TIMES, "time")?;
-    add_panels(page, labelled::LINES, "AB-12", NAMES, TIMES)?;
-    add_end(page, labelled::LIST)
-}
-
-fn add_transponder(page: &mut Page) -> Result<(), AllocError> {
-    page.add(HEAD_OF_TRANSPONDER)?;
-    add_time(page, 1060, FIFTHS, "cycle")?;
-    page.add(labelled::NONE)?;
-    altitude::add_transponder(page)?;
-    page.add(messages::NONE)?;
-    bars::add_transponder(page)?;
-    distances::add_meeting(page, ADDRESSES, FIFTHS)?;
-    add_end(page, labelled::NONE)
-}
-
-fn add(page: &mut Page, drawing: Drawing) -> Result<(), AllocError> {
-    match drawing {
-        Drawing::OneCycle => add_one_cycle(page),
-        Drawing::Reversal => add_reversal(page),
-        Drawing::Labelled => add_labelled(page),
-        Drawing::Transponder => add_transponder(page),
+// Two aircraft of these kinds that fly towards each other, the second one at this altitude. One of them may climb from
+// cycle 27 on, and then each track follows its last two measurements.
+fn meeting(
+    alloc: Global,
+    cycles: u16,
+    kinds: (Kind, Kind),
+    alt: i32,
+    climbs: Option<u8>,
+) -> Result<Encounter, Fail>
+    ensures { IfOk result IsInside }
+{
+    let crafts = [
+        CraftSpec {
+            kind: kinds.0,
+            ..aircraft(0x40_0A01, 0, 35_000)?
+        },
+        CraftSpec {
+            kind: kinds.1,
+            ..aircraft(0x40_0B02, 91_200, alt)?
+        },
+    ];
+    let legs = [leg(0, 1, 760, 0), leg(1, 1, -760, 0)];
+    match climbs {
+        Some(0) => {
+            let legs = [legs[0], leg(0, 27, 760, 6_000), legs[1]];
+            encounter(alloc, cycles, Some(1024), &crafts, &legs, &[], &[])
+        }
+        Some(_) => {
+            let legs = [legs[0], legs[1], leg(1, 27, -760, 6_000)];
+            encounter(alloc, cycles, Some(1024), &crafts, &legs, &[], &[])
+        }
+        None => encounter(alloc, cycles, None, &crafts, &legs, &[], &[]),
     }
 }
 
@@ -235,17 +176,18 @@ const REVERSAL: Head = Head {
     apart: "slant range 45601 ft, vertical distance 400 ft",
 };
 
-const DRAWN: &[Row] = &[
-    (ONE_CYCLE, &[], Drawing::OneCycle),
-    (REVERSAL, &[], Drawing::Reversal),
-    (REVERSAL, labelled::WORDS, Drawing::Labelled),
-    (TRANSPONDER, &[], Drawing::Transponder),
-];
-
-fn is_drawn(alloc: Global, row: &Row) -> Result<bool, Fail> {
-    let (meeting, words, drawing) = *row;
-    let sink = pictured(alloc, &meeting, &[], words)?;
-    Ok(has_drawing(alloc, sink.bytes(), drawing)?)
+// What stands between the axis of time and the list of marks, where the first aircraft has this name.
+fn add_reversal(
+    page: &mut Page,
+    name: &str,
+    headings: Headings,
+    ticks: &[Tick],
+) -> Result<(), AllocError> {
+    altitude::add_reversal(page, name)?;
+    messages::add_reversal(page)?;
+    bars::add_reversal(page, name)?;
+    distances::add_meeting(page, headings, ticks)?;
+    add_legend(page)
 }
 
 // Of examples/reversal.enc.
@@ -329,34 +271,33 @@ fn draws_the_active_aircraft(alloc: Global) -> Result<bool, Fail> {
 
 #[test]
 fn draws_what_is_shown(rt: HostRuntime) -> Result<(), Fail> {
-    assert_eq!(rt; first_other(rt.alloc(), DRAWN)?, None);
+    let alloc = rt.alloc();
+    assert!(rt; draws_nothing_shown(alloc)?);
+    assert!(rt; draws_a_reversal(alloc)?);
+    assert!(rt; draws_labels(alloc)?);
+    assert!(rt; draws_the_active_aircraft(alloc)?);
     Ok(())
-}
-
-// A meeting, the words of its labels, and lines of the seconds, the plan and the calls.
-type Further = (Meeting, &'static [&'static str], &'static str);
-
-const FURTHER: &[Further] = &[
-    (REVERSAL, &[], further::REVERSAL),
-    (REVERSAL, labelled::WORDS, further::LABELLED),
-    (ONE_CYCLE, &[], further::ONE_CYCLE),
-];
-
-// The place of the first row whose lines are missing.
-fn first_missing(alloc: Global, rows: &[Further]) -> Result<Option<usize>, Fail> {
-    for place in 0..rows.len() {
-        let (meeting, words, want) = rows[place];
-        let sink = pictured(alloc, &meeting, &[], words)?;
-        if !stands_in(sink.bytes(), want.as_bytes()) {
-            return Ok(Some(place));
-        }
-    }
-    Ok(None)
 }
 
 #[test]
 fn draws_seconds_plan_and_calls(rt: HostRuntime) -> Result<(), Fail> {
-    assert_eq!(rt; first_missing(rt.alloc(), FURTHER)?, None);
+    let alloc = rt.alloc();
+    let turning = meeting(alloc, 31, (Kind::Ra, Kind::Ra), 35_000, Some(1))?;
+    assert!(rt;
+        stands_in(
+            pictured(alloc, &turning)?.as_slice(),
+            further::REVERSAL.as_bytes()
+        )
+    );
+    let text = pictured_with(alloc, &turning, &labelled::WORDS)?;
+    assert!(rt; stands_in(text.as_slice(), further::LABELLED.as_bytes()));
+    let short = meeting(alloc, 1, (Kind::Ta, Kind::Ta), 35_300, None)?;
+    assert!(rt;
+        stands_in(
+            pictured(alloc, &short)?.as_slice(),
+            further::ONE_CYCLE.as_bytes()
+        )
+    );
     Ok(())
 }
 
@@ -392,6 +333,9 @@ fn gathers_equal_calls(rt: HostRuntime) -> Result<(), Fail> {
 
 #[test]
 fn marks_lost_and_spoilt_rows(rt: HostRuntime) -> Result<(), Fail> {
-    assert_eq!(rt; mishaps::first_other(rt.alloc(), mishaps::MARKED)?, None);
+    let alloc = rt.alloc();
+    assert!(rt; mishaps::marks_lost_rows(alloc)?);
+    assert!(rt; mishaps::marks_spoilt_rows(alloc)?);
+    assert!(rt; mishaps::marks_nothing_else(alloc)?);
     Ok(())
 }

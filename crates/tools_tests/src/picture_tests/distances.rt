@@ -1,63 +1,35 @@
 // Expected values: as in picture_tests.rt. The two panels of the nearest pair: its slant range, and its vertical
 // distance.
-use super::frame::ONE;
-use super::marks::{
-    BOLD, DOT, DRAWN_30, FRAME, GRID, Mark, Page, Paint, SMALL, SMALL_AROUND, SMALL_BEFORE, Tick,
-};
-use Mark::{Circle, Line, Lines, Polyline, Rect, Ticks, Words};
+use super::frame::{ONE, Tick, add_ticks};
+use super::marks::{BLACK, FRAME, GRID, Page, drawn, edged, filled};
 use std::alloc::AllocError;
 
-// The lines across the panel of the range, and what they say.
-const MILES: &[Mark] = &[
-    Line((2000, 10870), (17800, 10870), GRID, ""),
-    Words((1880, 10950), SMALL_BEFORE, "", "0 NM"),
-    Line((2000, 10295), (17800, 10295), GRID, ""),
-    Words((1880, 10375), SMALL_BEFORE, "", "5 NM"),
-    Line((2000, 9720), (17800, 9720), GRID, ""),
-    Words((1880, 9800), SMALL_BEFORE, "", "10 NM"),
-    Line((2000, 9145), (17800, 9145), GRID, ""),
-    Words((1880, 9225), SMALL_BEFORE, "", "15 NM"),
-    Line((2000, 8570), (17800, 8570), GRID, ""),
-    Words((1880, 8650), SMALL_BEFORE, "", "20 NM"),
+// A line across a panel: where it stands on a page with two lanes, and what it says.
+type Level = (u32, &'static str);
+
+const MILES: [Level; 5] = [
+    (10870, "0 NM"),
+    (10295, "5 NM"),
+    (9720, "10 NM"),
+    (9145, "15 NM"),
+    (8570, "20 NM"),
 ];
 
-const FEET: &[Mark] = &[
-    Line((2000, 14270), (17800, 14270), GRID, ""),
-    Words((1880, 14350), SMALL_BEFORE, "", "0 ft"),
-    Line((2000, 13695), (17800, 13695), GRID, ""),
-    Words((1880, 13775), SMALL_BEFORE, "", "200 ft"),
-    Line((2000, 13120), (17800, 13120), GRID, ""),
-    Words((1880, 13200), SMALL_BEFORE, "", "400 ft"),
-    Line((2000, 12545), (17800, 12545), GRID, ""),
-    Words((1880, 12625), SMALL_BEFORE, "", "600 ft"),
-    Line((2000, 11970), (17800, 11970), GRID, ""),
-    Words((1880, 12050), SMALL_BEFORE, "", "800 ft"),
+const FEET: [Level; 5] = [
+    (14270, "0 ft"),
+    (13695, "200 ft"),
+    (13120, "400 ft"),
+    (12545, "600 ft"),
+    (11970, "800 ft"),
 ];
-
-// The level of ALIM.
-const ALIM: &[Mark] = &[
-    Line(
-        (2000, 12545),
-        (17800, 12545),
-        " fill=\"none\" stroke=\"#222222\" stroke-width=\"20\" stroke-dasharray=\"260 100\"",
-        "ALIM 600 ft",
-    ),
-    Words((17900, 12625), SMALL, "", "ALIM 600 ft"),
-];
-
-// The line and the ring at the closest approach.
-const CLOSEST: Paint =
-    " fill=\"none\" stroke=\"#222222\" stroke-width=\"15\" stroke-dasharray=\"20 50\"";
-
-const RING: Paint = " fill=\"none\" stroke=\"#222222\" stroke-width=\"25\"";
 
 // A panel: its top, the levels that it names, the level of ALIM, what it says of the closest approach, and where that
 // is. All as on a page with two lanes.
 #[derive(Clone, Copy)]
 struct Panel {
     top: u32,
-    levels: &'static [Mark],
-    alim: &'static [Mark],
+    levels: [Level; 5],
+    alim: Option<u32>,
     closest: &'static str,
     x: u32,
     y: u32,
@@ -89,48 +61,99 @@ pub const NAMES: Headings = Headings {
 };
 
 // Both aircraft fly towards each other to the end.
-const RANGES: &[u32] = &[
+const RANGES: [u32; 31] = [
     9144, 9173, 9202, 9231, 9259, 9288, 9317, 9346, 9375, 9403, 9432, 9461, 9490, 9518, 9547, 9576,
     9605, 9633, 9662, 9691, 9720, 9749, 9777, 9806, 9835, 9864, 9892, 9921, 9950, 9979, 10007,
 ];
 
 // They are at one altitude until one of them climbs.
-const HEIGHTS: &[u32] = &[
+const HEIGHTS: [u32; 31] = [
     14270, 14270, 14270, 14270, 14270, 14270, 14270, 14270, 14270, 14270, 14270, 14270, 14270,
     14270, 14270, 14270, 14270, 14270, 14270, 14270, 14270, 14270, 14270, 14270, 14270, 14270,
     14270, 13983, 13695, 13408, 13120,
 ];
 
-// A panel with the line of its distances.
+fn add_levels(page: &mut Page, levels: &[Level]) -> Result<(), AllocError> {
+    let style = "font-size=\"240\" text-anchor=\"end\" fill=\"#222222\"";
+    for place in 0..levels.len() {
+        let (y, words) = levels[place];
+        let y = page.low(y);
+        page.line((2000, y), (17800, y), GRID, "")?;
+        page.words((1880, y.saturating_add(80)), style, "", words)?;
+    }
+    Ok(())
+}
+
+// The words above a panel.
+fn add_names(page: &mut Page, panel: &Panel, heading: &str) -> Result<(), AllocError> {
+    let y = page.low(panel.top).saturating_sub(150);
+    page.words(
+        (2000, y),
+        "font-size=\"260\" font-weight=\"bold\" fill=\"#222222\"",
+        "",
+        heading,
+    )?;
+    page.words(
+        (17800, y),
+        "font-size=\"240\" text-anchor=\"end\" fill=\"#222222\"",
+        "",
+        panel.closest,
+    )
+}
+
+fn add_alim(page: &mut Page, alim: Option<u32>) -> Result<(), AllocError> {
+    let Some(y) = alim else {
+        return Ok(());
+    };
+    let y = page.low(y);
+    page.line(
+        (2000, y),
+        (17800, y),
+        drawn(BLACK, 20, "260 100"),
+        "ALIM 600 ft",
+    )?;
+    page.words(
+        (17900, y.saturating_add(80)),
+        "font-size=\"240\" fill=\"#222222\"",
+        "",
+        "ALIM 600 ft",
+    )
+}
+
+// A panel without the line of its distances.
 fn add_panel(
     page: &mut Page,
     panel: &Panel,
-    heading: &'static str,
-    ticks: &'static [Tick],
-    distances: Mark,
+    heading: &str,
+    ticks: &[Tick],
 ) -> Result<(), AllocError> {
-    let Panel { top, closest, .. } = *panel;
-    let above = top.saturating_sub(150);
+    let top = page.low(panel.top);
     let foot = top.saturating_add(2300);
-    page.add(panel.levels)?;
-    page.add(&[
-        Ticks(ticks, top, foot, SMALL_AROUND),
-        Words((2000, above), BOLD, "", heading),
-        Words((17800, above), SMALL_BEFORE, "", closest),
-        Rect((2000, top), (15800, 2300), FRAME, ""),
-    ])?;
-    page.add(panel.alim)?;
-    page.add(&[
-        Line((panel.x, top), (panel.x, foot), CLOSEST, closest),
-        Circle((panel.x, panel.y), 80, RING, closest),
-        distances,
-    ])
+    let y = page.low(panel.y);
+    add_levels(page, &panel.levels)?;
+    add_ticks(
+        page,
+        ticks,
+        top,
+        foot,
+        "font-size=\"240\" text-anchor=\"middle\" fill=\"#222222\"",
+    )?;
+    add_names(page, panel, heading)?;
+    page.rect((2000, top), (15800, 2300), FRAME, "")?;
+    add_alim(page, panel.alim)?;
+    page.line(
+        (panel.x, top),
+        (panel.x, foot),
+        drawn(BLACK, 15, "20 50"),
+        panel.closest,
+    )?;
+    page.circle((panel.x, y), 80, edged("none", BLACK, 25), panel.closest)
 }
 
 const ONE_RANGE: Panel = Panel {
     top: 8570,
     levels: MILES,
-    alim: &[],
+    alim: None,
     closest: "closest approach: cycle 1, slant range 91200 ft",
     x: 2000,
     y: 9144,
@@ -139,7 +162,7 @@ const ONE_RANGE: Panel = Panel {
 const ONE_HEIGHT: Panel = Panel {
     top: 11970,
     levels: FEET,
-    alim: ALIM,
+    alim: Some(12545),
     closest: "closest approach: cycle 1, vertical distance 300 ft",
     x: 2000,
     y: 13408,

@@ -1,13 +1,11 @@
 // Expected values: as in picture_tests.rt. What stands around the panels: the head, the axis of time, and the legend.
 use super::marks::{
-    DASHED_40, DOWN_BAR, DRAWN_30, DRAWN_40, FRAME, HATCHED, Mark, PLAIN, Page, Paint, TRAFFIC_BAR,
-    Tick, UP_BAR,
+    BLACK, DOWN, FRAME, GRID, HATCHED, Page, Paint, TRAFFIC, UP, drawn, edged, filled,
 };
-use Mark::{Corners, Line, Lines, Rect, Ticks, Words};
 use std::alloc::AllocError;
 
-const PATTERN: &str = "</title>
-<desc>The traffic and resolution advisories of each aircraft against time, a row for each aircraft.</desc>
+const PATTERN: &str =
+    "<desc>The traffic and resolution advisories of each aircraft against time, a row for each aircraft.</desc>
 <defs>
 <pattern id=\"hatching\" width=\"120\" height=\"120\" patternUnits=\"userSpaceOnUse\" patternTransform=\"rotate(45)\">
 <rect width=\"30\" height=\"120\" fill=\"#FFFFFF\" fill-opacity=\"0.55\">
@@ -69,89 +67,12 @@ pub fn add_head(page: &mut Page, pixels: u32, head: &Head) -> Result<(), AllocEr
     page.lines("</g>\n")
 }
 
-const FONT: Mark = Lines(
-    " font-family=\"Helvetica,Arial,'Liberation Sans','DejaVu Sans',sans-serif\" stroke-linejoin=\"round\">\n<title>",
-);
+// A cycle that an axis of time names: where it stands, and its number.
+pub type Tick = (u32, &'static str);
 
-const DEFINED: Mark = Lines("</clipPath>\n</defs>\n");
+pub const ONE: [Tick; 1] = [(2000, "1")];
 
-const WHITE: Paint = " fill=\"#FFFFFF\"";
-
-const TITLE: Paint = " font-size=\"440\" font-weight=\"bold\" fill=\"#222222\"";
-
-const SENT: Paint = " font-size=\"280\" fill=\"#222222\"";
-
-const OF_TWO_TA: &str = "Encounter of 2 aircraft (0 RA, 2 TA, 0 XPDR), 1 cycles";
-
-pub const HEAD_OF_ONE_CYCLE: &[Mark] = &[
-    OPENING,
-    Lines("viewBox=\"0 0 20000 26170\" width=\"1000\" height=\"1308\""),
-    FONT,
-    Lines(OF_TWO_TA),
-    Lines(PATTERN),
-    Rect((2000, 5100), (15800, 2020), "", ""),
-    DEFINED,
-    Rect((0, 0), (20000, 26170), WHITE, ""),
-    Lines("<g>\n"),
-    Words((400, 700), TITLE, "", OF_TWO_TA),
-    Words((400, 1150), SENT, "", "0 messages sent"),
-    Lines("</g>\n"),
-];
-
-const OF_TWO_RA: &str = "Encounter of 2 aircraft (2 RA, 0 TA, 0 XPDR), 31 cycles";
-
-pub const HEAD_OF_REVERSAL: &[Mark] = &[
-    OPENING,
-    Lines("viewBox=\"0 0 20000 26170\" width=\"1000\" height=\"1308\""),
-    FONT,
-    Lines(OF_TWO_RA),
-    Lines(PATTERN),
-    Rect((2000, 5100), (15800, 2020), "", ""),
-    DEFINED,
-    Rect((0, 0), (20000, 26170), WHITE, ""),
-    Lines("<g>\n"),
-    Words((400, 700), TITLE, "", OF_TWO_RA),
-    Words((400, 1150), SENT, "", "12 messages sent"),
-    Lines("</g>\n"),
-];
-
-// The five marks in the run make the page higher by 2,000.
-pub const HEAD_OF_LABELLED: &[Mark] = &[
-    OPENING,
-    Lines("viewBox=\"0 0 20000 28170\" width=\"1000\" height=\"1408\""),
-    FONT,
-    Lines(OF_TWO_RA),
-    Lines(PATTERN),
-    Rect((2000, 5100), (15800, 2020), "", ""),
-    DEFINED,
-    Rect((0, 0), (20000, 28170), WHITE, ""),
-    Lines("<g>\n"),
-    Words((400, 700), TITLE, "", OF_TWO_RA),
-    Words((400, 1150), SENT, "", "12 messages sent"),
-    Lines("</g>\n"),
-];
-
-const OF_ONE_RA: &str = "Encounter of 2 aircraft (1 RA, 0 TA, 1 XPDR), 31 cycles";
-
-// One lane in place of two makes it lower by 960.
-pub const HEAD_OF_TRANSPONDER: &[Mark] = &[
-    OPENING,
-    Lines("viewBox=\"0 0 20000 25210\" width=\"1000\" height=\"1260\""),
-    FONT,
-    Lines(OF_ONE_RA),
-    Lines(PATTERN),
-    Rect((2000, 5100), (15800, 1060), "", ""),
-    DEFINED,
-    Rect((0, 0), (20000, 25210), WHITE, ""),
-    Lines("<g>\n"),
-    Words((400, 700), TITLE, "", OF_ONE_RA),
-    Words((400, 1150), SENT, "", "0 messages sent"),
-    Lines("</g>\n"),
-];
-
-pub const ONE: &[Tick] = &[(2000, "1")];
-
-pub const FIFTHS: &[Tick] = &[
+pub const FIFTHS: [Tick; 6] = [
     (4038, "5"),
     (6587, "10"),
     (9135, "15"),
@@ -161,7 +82,7 @@ pub const FIFTHS: &[Tick] = &[
 ];
 
 // Of 31 cycles that begin at 23:59:50.
-pub const TIMES: &[Tick] = &[
+pub const TIMES: [Tick; 7] = [
     (2000, "23:59:50"),
     (4548, "23:59:55"),
     (7096, "00:00:00"),
@@ -171,52 +92,91 @@ pub const TIMES: &[Tick] = &[
     (17290, "00:00:20"),
 ];
 
-// The axis of time below the lanes, which are so high: its ticks, and what it is called.
-pub fn add_time(
+// Lines for these cycles through a panel, and their numbers below it.
+pub fn add_ticks(
     page: &mut Page,
-    lanes: u32,
-    ticks: &'static [Tick],
-    name: &'static str,
+    ticks: &[Tick],
+    top: u32,
+    foot: u32,
+    style: &str,
 ) -> Result<(), AllocError> {
-    let style = " font-size=\"260\" text-anchor=\"middle\" fill=\"#222222\"";
-    page.add(&[
-        Lines("<g>\n"),
-        Ticks(ticks, 1500, 7220, style),
-        Rect((2000, 5100), (15800, lanes), FRAME, ""),
-        Words((9900, 7900), style, "", name),
-        Lines("</g>\n"),
-    ])
+    for place in 0..ticks.len() {
+        let (x, number) = ticks[place];
+        page.line((x, top), (x, foot), GRID, "")?;
+        page.words((x, foot.saturating_add(300)), style, "", number)?;
+    }
+    Ok(())
 }
 
-const BOTH: Paint = " fill=\"#F3E6F1\" stroke=\"#8E4585\" stroke-width=\"50\"";
+// The axis of time below the lanes: its ticks, and what it is called.
+pub fn add_time(page: &mut Page, ticks: &[Tick], name: &str) -> Result<(), AllocError> {
+    let style = "font-size=\"260\" text-anchor=\"middle\" fill=\"#222222\"";
+    let lanes = page.low(2020);
+    let foot = page.low(7220);
+    let below = page.low(7900);
+    page.lines("<g>\n")?;
+    add_ticks(page, ticks, 1500, foot, style)?;
+    page.rect((2000, 5100), (15800, lanes), FRAME, "")?;
+    page.words((9900, below), style, "", name)?;
+    page.lines("</g>\n")
+}
 
-// A lost message is a line that ends in a cross. A spoilt one is a line of dashes that ends in a hollow head.
-pub const LEGEND: &[Mark] = &[
-    Lines("<g>\n"),
-    Rect((2000, 24770), (700, 280), TRAFFIC_BAR, ""),
-    Words((2850, 25000), PLAIN, "", "traffic"),
-    Rect((5200, 24770), (700, 280), UP_BAR, ""),
-    Words((6050, 25000), PLAIN, "", "up"),
-    Rect((8400, 24770), (700, 280), DOWN_BAR, ""),
-    Rect((8400, 24770), (700, 280), HATCHED, ""),
-    Words((9250, 25000), PLAIN, "", "down"),
-    Rect((11600, 24770), (700, 280), BOTH, ""),
-    Words((12450, 25000), PLAIN, "", "up and down"),
-    Line((14900, 24780), (14900, 24913), DRAWN_40, ""),
-    Line((14830, 24843), (14970, 24983), DRAWN_40, ""),
-    Line((14830, 24983), (14970, 24843), DRAWN_40, ""),
-    Words((15100, 25000), PLAIN, "", "lost"),
-    Line((16800, 24710), (16800, 24930), DASHED_40, ""),
-    Corners(
-        [(16710, 24930), (16890, 24930), (16800, 25110)],
-        DRAWN_30,
+// A bar of the legend.
+fn add_sample(page: &mut Page, x: u32, paint: Paint) -> Result<(), AllocError> {
+    let y = page.low(24770);
+    page.rect((x, y), (700, 280), paint, "")
+}
+
+// A line that ends in a cross.
+fn add_lost_sample(page: &mut Page) -> Result<(), AllocError> {
+    let stroke = drawn(BLACK, 40, "");
+    let top = page.low(24780);
+    let middle = page.low(24913);
+    let high = page.low(24843);
+    let low = page.low(24983);
+    page.line((14900, top), (14900, middle), stroke, "")?;
+    page.line((14830, high), (14970, low), stroke, "")?;
+    page.line((14830, low), (14970, high), stroke, "")
+}
+
+// A line of dashes that ends in a hollow head.
+fn add_spoilt_sample(page: &mut Page) -> Result<(), AllocError> {
+    let top = page.low(24710);
+    let neck = page.low(24930);
+    let tip = page.low(25110);
+    page.line((16800, top), (16800, neck), drawn(BLACK, 40, "100 70"), "")?;
+    page.corners(
+        [(16710, neck), (16890, neck), (16800, tip)],
+        drawn(BLACK, 30, ""),
         "",
-    ),
-    Words((17000, 25000), PLAIN, "", "spoilt"),
-    Words(
-        (2000, 25470),
-        PLAIN,
-        "",
+    )
+}
+
+// Words of the legend.
+fn add_remark(page: &mut Page, x: u32, y: u32, words: &str) -> Result<(), AllocError> {
+    let y = page.low(y);
+    page.words((x, y), "font-size=\"260\" fill=\"#222222\"", "", words)
+}
+
+pub fn add_legend(page: &mut Page) -> Result<(), AllocError> {
+    page.lines("<g>\n")?;
+    add_sample(page, 2000, edged(TRAFFIC, BLACK, 12))?;
+    add_remark(page, 2850, 25000, "traffic")?;
+    add_sample(page, 5200, edged(UP, BLACK, 12))?;
+    add_remark(page, 6050, 25000, "up")?;
+    add_sample(page, 8400, edged(DOWN, BLACK, 12))?;
+    add_sample(page, 8400, HATCHED)?;
+    add_remark(page, 9250, 25000, "down")?;
+    add_sample(page, 11600, edged("#F3E6F1", "#8E4585", 50))?;
+    add_remark(page, 12450, 25000, "up and down")?;
+    add_lost_sample(page)?;
+    add_remark(page, 15100, 25000, "lost")?;
+    add_spoilt_sample(page)?;
+    add_remark(page, 17000, 25000, "spoilt")?;
+    add_remark(
+        page,
+        2000,
+        25470,
         "A tall bar: corrective advice. A low bar: preventive advice, or traffic alone.",
     )?;
     add_remark(
