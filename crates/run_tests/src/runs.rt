@@ -79,59 +79,6 @@ struct Outcome {
     sink: MemSink,
 }
 
-impl Outcome {
-    fn bytes(&self) -> &[u8] {
-        self.sink.bytes()
-    }
-
-    // Whether the run ended with this status, and wrote this text.
-    fn is(&self, status: Status, text: &[u8]) -> bool {
-        self.status == status && self.sink.bytes() == text
-    }
-}
-
-fn words_of(alloc: Global, line: &str) -> Result<Vec<String>, AllocError> {
-    let mut words = Vec::new(alloc);
-    for word in line.split_whitespace() {
-        words.push(String::from_str(alloc, word)?)?;
-    }
-    Ok(words)
-}
-
-fn source_of(alloc: Global, input: &[u8], failing: &[u64]) -> Result<MemSource, AllocError> {
-    let failing = failing.to_vec(alloc)?;
-    Ok(MemSource::new(input.to_vec(alloc)?, 64, failing))
-}
-
-fn sink_of(alloc: Global, failing: &[u64]) -> Result<MemSink, AllocError> {
-    let failing = failing.to_vec(alloc)?;
-    Ok(MemSink::new(Vec::with_capacity(alloc, 2_000_000)?, 16, failing))
-}
-
-fn run_from<R: Threads + Wait + Sync + Alloc<A = Global>, P: Pause + Sync>(
-    rt: &R,
-    words: &[String],
-    source: &mut MemSource,
-    failing_writes: &[u64],
-    pause: &P,
-) -> Result<Outcome, AllocError> {
-    let mut sink = sink_of(rt.alloc(), failing_writes)?;
-    let status = acas(rt, rt.alloc(), words, source, &mut sink, pause);
-    Ok(Outcome { status, sink })
-}
-
-fn run_words<R: Threads + Wait + Sync + Alloc<A = Global>, P: Pause + Sync>(
-    rt: &R,
-    words: &[String],
-    input: &[u8],
-    failing_reads: &[u64],
-    failing_writes: &[u64],
-    pause: &P,
-) -> Result<Outcome, AllocError> {
-    let mut source = source_of(rt.alloc(), input, failing_reads)?;
-    run_from(rt, words, &mut source, failing_writes, pause)
-}
-
 // Runs the words of a line on a source and a sink in memory. These reads and writes fail.
 fn run_with<R: Threads + Wait + Sync + Alloc<A = Global>, P: Pause + Sync>(
     rt: &R,
@@ -141,15 +88,16 @@ fn run_with<R: Threads + Wait + Sync + Alloc<A = Global>, P: Pause + Sync>(
     failing_writes: &[u64],
     pause: &P,
 ) -> Result<Outcome, AllocError> {
-    let words = words_of(rt.alloc(), line)?;
-    run_words(
-        rt,
-        words.as_slice(),
-        input,
-        failing_reads,
-        failing_writes,
-        pause,
-    )
+    let alloc = rt.alloc();
+    let mut words = Vec::new(alloc);
+    for word in line.split_whitespace() {
+        words.push(String::from_str(alloc, word)?)?;
+    }
+    let mut source = MemSource::new(input.to_vec(alloc)?, 64, failing_reads.to_vec(alloc)?);
+    let room = Vec::with_capacity(alloc, 2_000_000)?;
+    let mut sink = MemSink::new(room, 16, failing_writes.to_vec(alloc)?);
+    let status = acas(rt, alloc, words.as_slice(), &mut source, &mut sink, pause);
+    Ok(Outcome { status, sink })
 }
 
 // Runs the words of a line, where nothing fails.
@@ -170,7 +118,7 @@ fn answers<R: Threads + Wait + Sync + Alloc<A = Global>>(
     text: &[u8],
 ) -> Result<bool, AllocError> {
     let done = run(rt, line, input)?;
-    Ok(done.is(status, text))
+    Ok(done.status == status && done.sink.bytes() == text)
 }
 
 // A text of two parts.
@@ -180,69 +128,15 @@ fn joined(alloc: Global, open: &[u8], rest: &[u8]) -> Result<Vec<u8>, AllocError
     Ok(text)
 }
 
-// The words of a line, the two parts of what is read, the status, and what is written.
-type Row = (
-    &'static str,
-    &'static [u8],
-    &'static [u8],
-    Status,
-    &'static [u8],
-);
-
-fn is_row<R: Threads + Wait + Sync + Alloc<A = Global>>(
-    rt: &R,
-    row: &Row,
-) -> Result<bool, AllocError> {
-    let (line, open, rest, status, text) = *row;
-    let input = joined(rt.alloc(), open, rest)?;
-    answers(rt, line, input.as_slice(), status, text)
-}
-
-// The place of the first row that is answered otherwise.
-fn first_other<R: Threads + Wait + Sync + Alloc<A = Global>>(
-    rt: &R,
-    rows: &[Row],
-) -> Result<Option<usize>, AllocError> {
-    for place in 0..rows.len() {
-        if !is_row(rt, &rows[place])? {
-            return Ok(Some(place));
-        }
-    }
-    Ok(None)
-}
-
-// Whether a line of words is no command, where the first read and the first write would fail.
-fn is_no_command<R: Threads + Wait + Sync + Alloc<A = Global>>(
-    rt: &R,
-    line: &str,
-    input: &[u8],
-) -> Result<bool, AllocError> {
-    let none = run_with(rt, line, input, &[1], &[1], &NoPause)?;
-    Ok(none.is(Status::Usage, b""))
-}
-
-// The place of the first line that is a command.
-fn first_command<R: Threads + Wait + Sync + Alloc<A = Global>>(
-    rt: &R,
-    lines: &[&str],
-    input: &[u8],
-) -> Result<Option<usize>, AllocError> {
-    for place in 0..lines.len() {
-        if !is_no_command(rt, lines[place], input)? {
-            return Ok(Some(place));
-        }
-    }
-    Ok(None)
-}
-
-// The run of an encounter whose text has two parts, in one thread. It writes the recording.
+// The recording of an encounter whose text has two parts.
 fn recording<R: Threads + Wait + Sync + Alloc<A = Global>>(
     rt: &R,
     open: &[u8],
     rest: &[u8],
-) -> Result<Outcome, AllocError> {
+) -> Result<Vec<u8>, AllocError> {
     let text = joined(rt.alloc(), open, rest)?;
-    run(rt, "serial", text.as_slice())
+    let played = run(rt, "serial", text.as_slice())?;
+    played.sink.bytes().to_vec(rt.alloc())
 }
 
 // How many lines of a text begin so.
@@ -271,51 +165,18 @@ fn entry_in(text: &[u8], position: usize) -> &[u8] {
     &[]
 }
 
-fn add_line(text: &mut Vec<u8>, line: &[u8]) -> Result<(), AllocError> {
-    text.extend_from_slice(line)?;
-    text.push(b'\n')?;
-    Ok(())
-}
-
-fn add_lines_between(
-    lines: &mut Vec<u8>,
-    text: &[u8],
-    first: u64,
-    last: u64,
-) -> Result<(), AllocError> {
+// The lines of a text from one number, from 1, to another one.
+fn lines_between(alloc: Global, text: &[u8], first: u64, last: u64) -> Result<Vec<u8>, AllocError> {
+    let mut lines = Vec::new(alloc);
     let mut number = 0u64;
     for line in text.split(|byte| *byte == b'\n') {
         number = number.saturating_add(1);
         if number >= first && number <= last && !line.is_empty() {
-            add_line(lines, line)?;
+            lines.extend_from_slice(line)?;
+            lines.push(b'\n')?;
         }
     }
-    Ok(())
-}
-
-// The lines of a text from one number, from 1, to another one.
-fn lines_between(alloc: Global, text: &[u8], first: u64, last: u64) -> Result<Vec<u8>, AllocError> {
-    let mut lines = Vec::new(alloc);
-    add_lines_between(&mut lines, text, first, last)?;
     Ok(lines)
-}
-
-fn add_with_line(
-    changed: &mut Vec<u8>,
-    text: &[u8],
-    replaced: u64,
-    other: &[u8],
-) -> Result<(), AllocError> {
-    let mut number = 0u64;
-    for line in text.split(|byte| *byte == b'\n') {
-        number = number.saturating_add(1);
-        if number == replaced {
-            changed.extend_from_slice(other)?;
-        } else if !line.is_empty() {
-            add_line(changed, line)?;
-        }
-    }
-    Ok(())
 }
 
 // A text with one of its lines, counted from 1, replaced by another text. It has no empty line.
@@ -326,6 +187,15 @@ fn with_line(
     other: &[u8],
 ) -> Result<Vec<u8>, AllocError> {
     let mut changed = Vec::new(alloc);
-    add_with_line(&mut changed, text, replaced, other)?;
+    let mut number = 0u64;
+    for line in text.split(|byte| *byte == b'\n') {
+        number = number.saturating_add(1);
+        if number == replaced {
+            changed.extend_from_slice(other)?;
+        } else if !line.is_empty() {
+            changed.extend_from_slice(line)?;
+            changed.push(b'\n')?;
+        }
+    }
     Ok(changed)
 }

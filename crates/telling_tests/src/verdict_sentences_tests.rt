@@ -1,7 +1,6 @@
 // Expected values: by hand from "What is told of a wrong recording" in docs/FORMATS.md, before the program ran. Where
 // no other encounter is named, the recording is that of examples/three-cycles.enc.
 use crate::wrong_recordings::{ENCOUNTER, FIRST, FOURTEEN, Row, SECOND, SENDS, first_other};
-use std::alloc::Global;
 use std::test::Fail;
 
 // Lines 17 to 20, and lines 21 and 22.
@@ -243,12 +242,8 @@ const ROWS: &[Row] = &[
     ),
 ];
 
-fn first_row_told_otherwise(alloc: Global) -> Result<Option<usize>, Fail> {
-    first_other(alloc, ROWS)
-}
-
 #[test]
 fn wrong_recordings_are_told(rt: HostRuntime) -> Result<(), Fail> {
-    assert_eq!(rt; first_row_told_otherwise(rt.alloc())?, None);
+    assert_eq!(rt; first_other(rt.alloc(), ROWS)?, None);
     Ok(())
 }

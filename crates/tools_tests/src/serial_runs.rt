@@ -154,7 +154,7 @@ pub fn met(
 /// A sink with room for each text here, which takes 10,000 bytes at once. These writes fail.
 pub fn sink(alloc: Global, fails: &[u64]) -> Result<MemSink, AllocError> {
     let fails = fails.to_vec(alloc)?;
-    Ok(MemSink::new(Vec::with_capacity(alloc, 40_000)?, 10_000, fails))
+    Ok(MemSink::new(Vec::with_capacity(alloc, 80_000)?, 10_000, fails))
 }
 
 /// A text of two parts.

@@ -1,8 +1,6 @@
 // What words write, to the byte. Expected values: by hand from "Refusals", "Recorded tracks", "Explained", "What has no
 // effect" and "Encounters made from a number" in docs/FORMATS.md.
-use super::{
-    APART, LEVEL, ONE_CYCLE, ONE_CYCLE_RECORDING, Row, TRAFFIC, answers, first_other, joined, run,
-};
+use super::{APART, LEVEL, ONE_CYCLE, ONE_CYCLE_RECORDING, TRAFFIC, answers, joined, run};
 use acas_top::Status;
 use std::alloc::{AllocError, Global};
 use std::sync::Wait;
@@ -19,7 +17,7 @@ const SEVENTEEN: &[u8] =
 // The beginning of a text, its rest, and the line of its refusal.
 type Refusal = (&'static [u8], &'static [u8], &'static [u8]);
 
-const REFUSED: &[Refusal] = &[
+const REFUSED: [Refusal; 12] = [
     (b"", b"", b"refused,1,1\n"),
     (APART, b"", b"refused,7,11\n"),
     (APART, b"end\nend\n", b"refused,8,12\n"),
@@ -42,24 +40,16 @@ const REFUSED: &[Refusal] = &[
     (TRAFFIC, b"", b"refused,7,11\n"),
 ];
 
-fn is_refused<R: Threads + Wait + Sync + Alloc<A = Global>>(
-    rt: &R,
-    word: &str,
-    refusal: &Refusal,
-) -> Result<bool, AllocError> {
-    let (open, rest, line) = *refusal;
-    let text = joined(rt.alloc(), open, rest)?;
-    answers(rt, word, text.as_slice(), Status::Refused, line)
-}
-
 // The place of the first text that a word refuses with another line.
-fn first_unrefused<R: Threads + Wait + Sync + Alloc<A = Global>>(
+fn first_other<R: Threads + Wait + Sync + Alloc<A = Global>>(
     rt: &R,
     word: &str,
     refusals: &[Refusal],
 ) -> Result<Option<usize>, AllocError> {
     for place in 0..refusals.len() {
-        if !is_refused(rt, word, &refusals[place])? {
+        let (open, rest, line) = refusals[place];
+        let text = joined(rt.alloc(), open, rest)?;
+        if !answers(rt, word, text.as_slice(), Status::Refused, line)? {
             return Ok(Some(place));
         }
     }
@@ -68,8 +58,8 @@ fn first_unrefused<R: Threads + Wait + Sync + Alloc<A = Global>>(
 
 #[test]
 fn refuses_by_record_and_code(rt: HostRuntime) -> Result<(), Fail> {
-    assert_eq!(rt; first_unrefused(&rt, "serial", REFUSED)?, None);
-    assert_eq!(rt; first_unrefused(&rt, "play", REFUSED)?, None);
+    assert_eq!(rt; first_other(&rt, "serial", &REFUSED)?, None);
+    assert_eq!(rt; first_other(&rt, "play", &REFUSED)?, None);
     Ok(())
 }
 
@@ -80,7 +70,7 @@ const RECORDED: &[u8] =
 const FLOWN: &[u8] =
     b"encounter,2\nrun,3,0\ngains,683,256,512,128\ncraft,400A01,RA,380,0,10000\ncraft,400B02,XPDR,60760,0,10300\nleg,400A01,1,760,0,0\nleg,400B02,1,-760,0,-30\nleg,400B02,2,-760,0,0\nend\n";
 
-const UNFLOWN: &[Refusal] = &[
+const UNFLOWN: [Refusal; 3] = [
     (b"encounter,2\n", b"", b"refused,1,1\n"),
     (
         b"tracks,1\nrun,3,0\ncraft,400A01,RA\n",
@@ -97,80 +87,59 @@ const UNFLOWN: &[Refusal] = &[
 #[test]
 fn flies_along_recorded_tracks(rt: HostRuntime) -> Result<(), Fail> {
     assert!(rt; answers(&rt, "tracks", RECORDED, Status::Done, FLOWN)?);
-    assert_eq!(rt; first_unrefused(&rt, "tracks", UNFLOWN)?, None);
+    assert_eq!(rt; first_other(&rt, "tracks", &UNFLOWN)?, None);
     Ok(())
-}
-
-fn ends<R: Threads + Wait + Sync + Alloc<A = Global>>(
-    rt: &R,
-    line: &str,
-) -> Result<bool, AllocError> {
-    let done = run(rt, line, b"")?;
-    Ok(done.status == Status::Done)
 }
 
 #[test]
 fn makes_and_plays_encounters(rt: HostRuntime) -> Result<(), Fail> {
     assert!(rt; answers(&rt, "gen 7 1 1", b"", Status::Done, ONE_CYCLE)?);
     assert!(rt; answers(&rt, "serial", ONE_CYCLE, Status::Done, ONE_CYCLE_RECORDING)?);
-    assert!(rt; ends(&rt, "gen 4294967295 16 600")?);
+    assert!(rt; run(&rt, "gen 4294967295 16 600", b"")?.status == Status::Done);
     Ok(())
 }
 
-const EXPLAINED: &[Row] = &[
+// What is read, the status, and what `explain` writes.
+type Explained = (&'static [u8], Status, &'static [u8]);
+
+const EXPLAINED: [Explained; 8] = [
     (
-        "explain",
-        b"",
         b"",
         Status::Refused,
         b"refused,1,1\nline 1: there is no record; the first one has to be \"encounter,1\" or \"encounter,2\"\n",
     ),
     (
-        "explain",
         b"encounter,1\n\nrun,1,+0\n",
-        b"",
         Status::Refused,
         b"refused,2,4\nline 3: GROUND is \"+0\", and has to be a whole number from -1000 to 15000 ft, without a space, a sign or a zero too many\n",
     ),
     (
-        "explain",
         b"encounter,1\nrun,1,0\ncraft,400A01,RA,0,0,0\nend\n",
-        b"",
         Status::Done,
         b"encounter: 1 aircraft (1 RA, 0 TA, 0 XPDR), 1 cycle, 4 records\nline 3: 400A01 gives no resolution advisories: it is too near the ground in each cycle (sensitivity level 2)\nline 3: 400A01 measures nobody: it is never within 182280 ft of another aircraft\n",
     ),
     (
-        "explain",
         ONE_CYCLE_RECORDING,
-        b"",
         Status::Done,
         b"recording: legal, 1 entry\nline 5: 400100 measures nobody: it is never within 182280 ft of another aircraft\nline 6: this leg has no effect: it would move 400100 after cycle 1, the last one\n",
     ),
     (
-        "explain",
         OTHER_CYCLE,
-        b"",
         Status::Wrong,
         b"wrong,9,3\nline 9: aircraft 0 may not commit cycle 2 here: its next cycle is 1\n",
     ),
     (
-        "explain",
         b"tracks,1\nrun,2,0\ncraft,400A01,RA\nat,400A01,0,0,0,600000\nat,400A01,1000,2000,0,600000\nend\n",
-        b"",
         Status::Done,
         b"tracks: 1 aircraft (1 RA, 0 TA, 0 XPDR), 2 cycles, 6 records\n",
     ),
     (
-        "explain",
         b"tracks,1\nrun,2,0\ncraft,400A01,RA\n\nat,400A01,0,0,0,600000\nat,400A01,1000,2001,0,600000\nend\n",
-        b"",
         Status::Refused,
         b"refused,6,14\nline 7: the track of 400A01 is too fast for a leg from cycle 1 to the next one: at most 2000 ft/s in x and in y, and 10000 ft/min\n",
     ),
     (
-        "explain",
         b"tracks,1\nrun,2,0\ncraft,400A01,RA,0\n",
-        b"",
         Status::Refused,
         b"refused,3,3\nline 3: craft has 4 fields here, and has to be craft,ADDRESS,KIND\n",
     ),
@@ -182,6 +151,8 @@ const OTHER_CYCLE: &[u8] =
 
 #[test]
 fn explains_what_it_reads(rt: HostRuntime) -> Result<(), Fail> {
-    assert_eq!(rt; first_other(&rt, EXPLAINED)?, None);
+    for (input, status, text) in EXPLAINED {
+        assert!(rt; answers(&rt, "explain", input, status, text)?);
+    }
     Ok(())
 }

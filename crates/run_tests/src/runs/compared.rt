@@ -1,55 +1,69 @@
 // Two recordings compared, tables, and words decoded. Expected values: by hand from docs/FORMATS.md.
-use super::{ONE_CYCLE, ONE_CYCLE_RECORDING, Row, answers, first_other, joined, recording};
+use super::{ONE_CYCLE, ONE_CYCLE_RECORDING, answers, joined, recording};
 use acas_top::Status;
 use std::alloc::{AllocError, Global};
 use std::sync::Wait;
 use std::test::Fail;
 use std::thread::Threads;
 
+// The words of a line, what they read, the status, and what they write.
+type Row = (&'static str, &'static [u8], Status, &'static [u8]);
+
 // A recording of 11 lines has no second one behind it: line 12 isn't the first line of a recording.
-const ROWS: &[Row] = &[
+const ROWS: [Row; 4] = [
     (
         "compare",
         ONE_CYCLE_RECORDING,
-        b"",
         Status::Wrong,
         b"wrong,12,2\n",
     ),
     (
         "places",
         ONE_CYCLE_RECORDING,
-        b"",
         Status::Done,
         b"cycle,address,x_ft,y_ft,alt_ft,modelled_alt_ft,word\n1,400100,-55000,39000,22400.0,,CLEAR\n",
     ),
     (
         "messages",
         ONE_CYCLE_RECORDING,
-        b"",
         Status::Done,
         b"sender,receiver,number,sent_cycle,sent_at,sets,cancels,copy,hold,taken_at,taken_cycle,result,changed\n",
     ),
     (
         "decode 30240003400B02",
         b"",
-        b"",
         Status::Done,
         b"word,message\nmany_threats,0\ncancels,above\nsets,below\nparity,3\nsender,400B02\n",
     ),
 ];
 
+// The place of the first row that is answered otherwise.
+fn first_other<R: Threads + Wait + Sync + Alloc<A = Global>>(
+    rt: &R,
+    rows: &[Row],
+) -> Result<Option<usize>, AllocError> {
+    for place in 0..rows.len() {
+        let (line, input, status, text) = rows[place];
+        if !answers(rt, line, input, status, text)? {
+            return Ok(Some(place));
+        }
+    }
+    Ok(None)
+}
+
 #[test]
 fn answers_of_one_cycle(rt: HostRuntime) -> Result<(), Fail> {
-    assert_eq!(rt; first_other(&rt, ROWS)?, None);
+    assert_eq!(rt; first_other(&rt, &ROWS)?, None);
     Ok(())
 }
 
-// Whether a recording is equal to itself.
-fn is_equal<R: Threads + Wait + Sync + Alloc<A = Global>>(
+// Whether a recording and another one of the same encounter are equal.
+fn is_equal_to_itself<R: Threads + Wait + Sync + Alloc<A = Global>>(
     rt: &R,
-    one: &[u8],
+    encounter: &[u8],
 ) -> Result<bool, AllocError> {
-    let two = joined(rt.alloc(), one, one)?;
+    let one = recording(rt, encounter, b"")?;
+    let two = joined(rt.alloc(), one.as_slice(), one.as_slice())?;
     answers(
         rt,
         "compare",
@@ -57,14 +71,6 @@ fn is_equal<R: Threads + Wait + Sync + Alloc<A = Global>>(
         Status::Done,
         b"compare,equal\n",
     )
-}
-
-fn is_equal_to_itself<R: Threads + Wait + Sync + Alloc<A = Global>>(
-    rt: &R,
-    encounter: &[u8],
-) -> Result<bool, AllocError> {
-    let one = recording(rt, encounter, b"")?;
-    is_equal(rt, one.bytes())
 }
 
 #[test]

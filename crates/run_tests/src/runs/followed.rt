@@ -1,5 +1,5 @@
 // What `fly` writes, to the byte. Expected values: by hand from "Advice that is followed" in docs/FORMATS.md.
-use super::{ONE_CYCLE, Row, first_other};
+use super::{ONE_CYCLE, answers};
 use acas_top::Status;
 use std::test::Fail;
 
@@ -12,44 +12,45 @@ const TRAFFIC: &[u8] =
 const SINKING: &[u8] =
     b"encounter,1\nrun,60,0\ncraft,400A01,RA,0,0,35000\ncraft,400B02,RA,1000,0,35650\nleg,400A01,1,0,0,-10000\nleg,400B02,1,0,0,-10000\nend\n";
 
-const FLOWN: &[Row] = &[
+// The words, what is read, the status, and what is written.
+type Row = (&'static str, &'static [u8], Status, &'static [u8]);
+
+const FLOWN: [Row; 8] = [
     // A leg that begins in the last cycle isn't needed.
     (
         "fly 400100",
         ONE_CYCLE,
-        b"",
         Status::Done,
         b"encounter,1\nrun,1,0\ngains,683,256,512,128\ncraft,400100,RA,-55000,39000,22400\nend\n",
     ),
     (
         "fly 400A01",
         SINKING,
-        b"",
         Status::Refused,
         b"leaves,400A01,27\n",
     ),
     (
         "fly 400A01 400C03",
         SINKING,
-        b"",
         Status::Refused,
         b"unknown,400C03\n",
     ),
     (
         "fly 400B02 400A01",
         TRAFFIC,
-        b"",
         Status::Refused,
         b"unknown,400B02\n",
     ),
-    ("fly 400A01", b"", b"", Status::Refused, b"refused,1,1\n"),
-    ("fly 400A01 400A01", SINKING, b"", Status::Usage, b""),
-    ("fly 400a01", SINKING, b"", Status::Usage, b""),
-    ("fly", SINKING, b"", Status::Usage, b""),
+    ("fly 400A01", b"", Status::Refused, b"refused,1,1\n"),
+    ("fly 400A01 400A01", SINKING, Status::Usage, b""),
+    ("fly 400a01", SINKING, Status::Usage, b""),
+    ("fly", SINKING, Status::Usage, b""),
 ];
 
 #[test]
 fn flies_as_advised(rt: HostRuntime) -> Result<(), Fail> {
-    assert_eq!(rt; first_other(&rt, FLOWN)?, None);
+    for (words, input, status, text) in FLOWN {
+        assert!(rt; answers(&rt, words, input, status, text)?);
+    }
     Ok(())
 }

@@ -1,6 +1,6 @@
 // Recordings with one fault each: every reason at its first and its last possible place, and each two neighbouring
 // steps of the judge. Expected values: by hand from "Verdicts" in docs/FORMATS.md.
-use super::{APART, add_lines_between, answers, recording, with_line};
+use super::{APART, answers, joined, lines_between, recording, with_line};
 use acas_top::Status;
 use std::alloc::{AllocError, Global};
 use std::sync::Wait;
@@ -20,59 +20,25 @@ fn is_wrong<R: Threads + Wait + Sync + Alloc<A = Global>>(
 // The number of a line, what stands there instead, and the line of the verdict.
 type Fault = (u64, &'static [u8], &'static [u8]);
 
-// Whether a word finds the fault that a right text gets.
-fn is_found<R: Threads + Wait + Sync + Alloc<A = Global>>(
-    rt: &R,
-    word: &str,
-    right: &[u8],
-    fault: &Fault,
-) -> Result<bool, AllocError> {
-    let (number, other, verdict) = *fault;
-    let text = with_line(rt.alloc(), right, number, other)?;
-    is_wrong(rt, word, text.as_slice(), verdict)
-}
-
 // The place of the first fault that a word finds otherwise.
 fn first_other<R: Threads + Wait + Sync + Alloc<A = Global>>(
     rt: &R,
     word: &str,
-    right: &[u8],
     faults: &[Fault],
 ) -> Result<Option<usize>, AllocError> {
+    let right = recording(rt, APART, b"end\n")?;
     for place in 0..faults.len() {
-        if !is_found(rt, word, right, &faults[place])? {
+        let (number, other, verdict) = faults[place];
+        let text = with_line(rt.alloc(), right.as_slice(), number, other)?;
+        if !is_wrong(rt, word, text.as_slice(), verdict)? {
             return Ok(Some(place));
         }
     }
     Ok(None)
 }
 
-// The same of several lists of faults: the number of the list, and the place.
-fn first_other_of<R: Threads + Wait + Sync + Alloc<A = Global>>(
-    rt: &R,
-    word: &str,
-    right: &[u8],
-    lists: &[&[Fault]],
-) -> Result<Option<(usize, usize)>, AllocError> {
-    for number in 0..lists.len() {
-        if let Some(place) = first_other(rt, word, right, lists[number])? {
-            return Ok(Some((number, place)));
-        }
-    }
-    Ok(None)
-}
-
-fn first_misjudged<R: Threads + Wait + Sync + Alloc<A = Global>>(
-    rt: &R,
-    word: &str,
-    lists: &[&[Fault]],
-) -> Result<Option<(usize, usize)>, AllocError> {
-    let right = recording(rt, APART, b"end\n")?;
-    first_other_of(rt, word, right.bytes(), lists)
-}
-
 // The first line and the end of the encounter.
-const HEADS: &[Fault] = &[
+const HEADS: [Fault; 12] = [
     (1, b"recording,2\n", b"wrong,1,2\n"),
     (1, b"Recording,1\n", b"wrong,1,2\n"),
     (1, b"recording,1,\n", b"wrong,1,2\n"),
@@ -88,7 +54,7 @@ const HEADS: &[Fault] = &[
 ];
 
 // The encounter, which is refused or isn't in its canonical text.
-const ENCOUNTERS: &[Fault] = &[
+const ENCOUNTERS: [Fault; 17] = [
     (2, b"encounter,3\n", b"wrong,2,1,1\n"),
     (7, b"Leg,400A01,1,760,0,0\n", b"wrong,2,1,2\n"),
     (3, b"run,31\n", b"wrong,2,1,3\n"),
@@ -117,7 +83,7 @@ const ENCOUNTERS: &[Fault] = &[
 ];
 
 // The number of entries.
-const COUNTS: &[Fault] = &[
+const COUNTS: [Fault; 14] = [
     (10, b"journal,086\n", b"wrong,10,2\n"),
     (10, b"journal,-1\n", b"wrong,10,2\n"),
     (10, b"journal,1000000000\n", b"wrong,10,2\n"),
@@ -135,7 +101,7 @@ const COUNTS: &[Fault] = &[
 ];
 
 // Lines that no entry has.
-const MISSPELLED: &[Fault] = &[
+const MISSPELLED: [Fault; 20] = [
     (11, b"\n", b"wrong,11,2\n"),
     (11, b"x,0,1,-,-\n", b"wrong,11,2\n"),
     (11, b"c,2,1,-,-\n", b"wrong,11,2\n"),
@@ -159,7 +125,7 @@ const MISSPELLED: &[Fault] = &[
 ];
 
 // Entries that aren't allowed, and allowed ones with another content.
-const FORBIDDEN: &[Fault] = &[
+const FORBIDDEN: [Fault; 20] = [
     (11, b"c,0,2,-,-\n", b"wrong,11,3\n"),
     (11, b"c,0,600,-,-\n", b"wrong,11,3\n"),
     (11, b"s,0,0,1,00000000000000\n", b"wrong,11,3\n"),
@@ -183,7 +149,7 @@ const FORBIDDEN: &[Fault] = &[
 ];
 
 // The report and the close.
-const ENDS: &[Fault] = &[
+const ENDS: [Fault; 14] = [
     (97, b"report,5\n", b"wrong,97,6\n"),
     (97, b"report,04\n", b"wrong,97,6\n"),
     (97, b"", b"wrong,97,6\n"),
@@ -207,34 +173,44 @@ const ENDS: &[Fault] = &[
 // The recording in which the faults are put is right.
 fn is_legal<R: Threads + Wait + Sync + Alloc<A = Global>>(rt: &R) -> Result<bool, AllocError> {
     let right = recording(rt, APART, b"end\n")?;
-    answers(rt, "audit", right.bytes(), Status::Done, b"legal,86\n")
+    answers(rt, "audit", right.as_slice(), Status::Done, b"legal,86\n")
 }
-
-const JUDGED: &[&[Fault]] = &[HEADS, ENCOUNTERS, COUNTS, MISSPELLED, FORBIDDEN, ENDS];
 
 #[test]
 fn judges_recordings(rt: HostRuntime) -> Result<(), Fail> {
     assert!(rt; is_legal(&rt)?);
-    assert_eq!(rt; first_misjudged(&rt, "audit", JUDGED)?, None);
+    for faults in [
+        HEADS.as_slice(),
+        ENCOUNTERS.as_slice(),
+        COUNTS.as_slice(),
+        MISSPELLED.as_slice(),
+        FORBIDDEN.as_slice(),
+        ENDS.as_slice(),
+    ] {
+        assert_eq!(rt; first_other(&rt, "audit", faults)?, None);
+    }
     Ok(())
 }
-
-const UNTOLD: &[&[Fault]] = &[ENCOUNTERS, COUNTS, FORBIDDEN];
 
 // Each tool finds wrong what the judge does.
 #[test]
 fn tells_nothing_of_wrong_recordings(rt: HostRuntime) -> Result<(), Fail> {
-    assert_eq!(rt; first_misjudged(&rt, "reports", UNTOLD)?, None);
-    assert_eq!(rt; first_misjudged(&rt, "response", UNTOLD)?, None);
-    assert_eq!(rt; first_misjudged(&rt, "watch", UNTOLD)?, None);
-    assert_eq!(rt; first_misjudged(&rt, "why", UNTOLD)?, None);
+    for tool in ["reports", "response", "watch", "why"] {
+        for faults in [
+            ENCOUNTERS.as_slice(),
+            COUNTS.as_slice(),
+            FORBIDDEN.as_slice(),
+        ] {
+            assert_eq!(rt; first_other(&rt, tool, faults)?, None);
+        }
+    }
     Ok(())
 }
 
 // Two faults. The one of the earlier step is reported, whichever line it is in.
 type Pair = (Fault, u64, &'static [u8]);
 
-const PAIRS: &[Pair] = &[
+const PAIRS: [Pair; 11] = [
     ((1, b"recording,2\n", b"wrong,1,2\n"), 9, b""),
     ((2, b"encounter,3\n", b"wrong,102,2\n"), 9, b""),
     ((3, b"run,031,0\n", b"wrong,2,1,4\n"), 4, b""),
@@ -256,70 +232,41 @@ const PAIRS: &[Pair] = &[
     ((98, b"r,13,400A01,TRAFFIC,-\n", b"wrong,98,6\n"), 102, b""),
 ];
 
-fn is_found_first<R: Threads + Wait + Sync + Alloc<A = Global>>(
-    rt: &R,
-    right: &[u8],
-    pair: &Pair,
-) -> Result<bool, AllocError> {
-    let (fault, later, last) = pair;
-    let once = with_line(rt.alloc(), right, *later, last)?;
-    is_found(rt, "audit", once.as_slice(), fault)
-}
-
 // The place of the first pair with another verdict.
-fn first_other_in<R: Threads + Wait + Sync + Alloc<A = Global>>(
+fn first_other_pair<R: Threads + Wait + Sync + Alloc<A = Global>>(
     rt: &R,
-    right: &[u8],
     pairs: &[Pair],
 ) -> Result<Option<usize>, AllocError> {
+    let alloc = rt.alloc();
+    let right = recording(rt, APART, b"end\n")?;
     for place in 0..pairs.len() {
-        if !is_found_first(rt, right, &pairs[place])? {
+        let ((number, other, verdict), later, last) = pairs[place];
+        let once = with_line(alloc, right.as_slice(), later, last)?;
+        let twice = with_line(alloc, once.as_slice(), number, other)?;
+        if !is_wrong(rt, "audit", twice.as_slice(), verdict)? {
             return Ok(Some(place));
         }
     }
     Ok(None)
 }
 
-fn first_other_pair<R: Threads + Wait + Sync + Alloc<A = Global>>(
-    rt: &R,
-    pairs: &[Pair],
-) -> Result<Option<usize>, AllocError> {
-    let right = recording(rt, APART, b"end\n")?;
-    first_other_in(rt, right.bytes(), pairs)
-}
-
 // The recording without its entries.
-fn add_without_entries(text: &mut Vec<u8>, right: &[u8]) -> Result<(), AllocError> {
-    add_lines_between(text, right, 1, 9)?;
-    text.extend_from_slice(b"journal,0\n")?;
-    add_lines_between(text, right, 97, 102)
-}
-
-fn without_entries(alloc: Global, right: &[u8]) -> Result<Vec<u8>, AllocError> {
-    let mut text = Vec::new(alloc);
-    add_without_entries(&mut text, right)?;
-    Ok(text)
-}
-
-fn is_judged_without<R: Threads + Wait + Sync + Alloc<A = Global>>(
+fn without_entries<R: Threads + Wait + Sync + Alloc<A = Global>>(
     rt: &R,
-    right: &[u8],
-) -> Result<bool, AllocError> {
-    let text = without_entries(rt.alloc(), right)?;
-    is_wrong(rt, "audit", text.as_slice(), b"wrong,11,5\n")
-}
-
-fn is_wrong_without_entries<R: Threads + Wait + Sync + Alloc<A = Global>>(
-    rt: &R,
-) -> Result<bool, AllocError> {
+) -> Result<Vec<u8>, AllocError> {
+    let alloc = rt.alloc();
     let right = recording(rt, APART, b"end\n")?;
-    is_judged_without(rt, right.bytes())
+    let none = with_line(alloc, right.as_slice(), 10, b"journal,0\n")?;
+    let open = lines_between(alloc, none.as_slice(), 1, 10)?;
+    let rest = lines_between(alloc, none.as_slice(), 97, 102)?;
+    joined(alloc, open.as_slice(), rest.as_slice())
 }
 
 #[test]
 fn tells_the_step_that_fails_first(rt: HostRuntime) -> Result<(), Fail> {
-    assert_eq!(rt; first_other_pair(&rt, PAIRS)?, None);
-    assert!(rt; is_wrong_without_entries(&rt)?);
+    assert_eq!(rt; first_other_pair(&rt, &PAIRS)?, None);
+    let none = without_entries(&rt)?;
+    assert!(rt; is_wrong(&rt, "audit", none.as_slice(), b"wrong,11,5\n")?);
     Ok(())
 }
 
@@ -335,46 +282,24 @@ fn fault_of_cut(lines: u64, is_within: bool) -> (u64, u64) {
     }
 }
 
-// Whether a cut recording is found wrong so.
-fn is_cut<R: Threads + Wait + Sync + Alloc<A = Global>>(
-    rt: &R,
-    front: &[u8],
-    fault: (u64, u64),
-) -> Result<bool, AllocError> {
-    let (line, reason) = fault;
-    let verdict = format!(in rt.alloc(); "wrong,{line},{reason}\n")?;
-    is_wrong(rt, "audit", front, verdict.as_bytes())
-}
-
-// The length of the first front of a recording that is found otherwise.
-fn first_other_front<R: Threads + Wait + Sync + Alloc<A = Global>>(
-    rt: &R,
-    right: &[u8],
-) -> Result<Option<usize>, AllocError> {
+// Each front of a recording is wrong.
+#[test]
+fn judges_recordings_that_are_cut(rt: HostRuntime) -> Result<(), Fail> {
+    let alloc = rt.alloc();
+    let right = recording(&rt, APART, b"end\n")?;
     let mut lines = 0u64;
     let mut is_within = false;
     for end in 0..right.len() {
-        if !is_cut(rt, &right[..end], fault_of_cut(lines, is_within))? {
-            return Ok(Some(end));
-        }
+        let (line, reason) = fault_of_cut(lines, is_within);
+        let verdict = format!(in alloc; "wrong,{line},{reason}\n")?;
+        assert!(rt;
+            is_wrong(&rt, "audit", &right[..end], verdict.as_bytes())?,
+            "at {end}"
+        );
         is_within = right[end] != b'\n';
         if !is_within {
             lines = lines.saturating_add(1);
         }
     }
-    Ok(None)
-}
-
-fn first_right_front<R: Threads + Wait + Sync + Alloc<A = Global>>(
-    rt: &R,
-) -> Result<Option<usize>, AllocError> {
-    let right = recording(rt, APART, b"end\n")?;
-    first_other_front(rt, right.bytes())
-}
-
-// Each front of a recording is wrong.
-#[test]
-fn judges_recordings_that_are_cut(rt: HostRuntime) -> Result<(), Fail> {
-    assert_eq!(rt; first_right_front(&rt)?, None);
     Ok(())
 }

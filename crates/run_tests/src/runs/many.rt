@@ -1,43 +1,27 @@
 // What `many` writes, to the byte. Expected values: by hand from "Many encounters", "Outcomes" and "Refusals" in
 // docs/FORMATS.md, and from the rules of docs/RULES.md, as each row says.
-use super::{Outcome, Row, first_other, run};
+use super::{answers, joined, run};
 use acas_top::Status;
-use std::alloc::{AllocError, Global};
-use std::sync::Wait;
 use std::test::Fail;
-use std::thread::Threads;
 
-const MANY: &[Row] = &[
+// What is read, the status, and what is written.
+type Row = (&'static [u8], Status, &'static [u8]);
+
+const MANY: [Row; 6] = [
     // No record, so no piece.
-    (
-        "many",
-        b"",
-        b"",
-        Status::Done,
-        b"many,0\ntotal,0,0,0,0,0,0\n",
-    ),
-    (
-        "many",
-        b"\n\r\n",
-        b"",
-        Status::Done,
-        b"many,0\ntotal,0,0,0,0,0,0\n",
-    ),
+    (b"", Status::Done, b"many,0\ntotal,0,0,0,0,0,0\n"),
+    (b"\n\r\n", Status::Done, b"many,0\ntotal,0,0,0,0,0,0\n"),
     // An aircraft by itself, with each end of a line, and behind a mark. The last piece has no `end`, so the record
     // behind its last one is missing: code 11.
     (
-        "many",
         b"encounter,1\r\nrun,1,0\r\ncraft,400100,RA,0,0,22400\r\nend\r\n\xEF\xBB\xBFencounter,1\rrun,1,0\rcraft,400100,RA,0,0,22400\rend\rencounter,1\nrun,1,0\n",
-        b"",
         Status::Done,
         b"many,3\nv,1,-,-,-,0,0,0,-,-,-,-,-,-\nv,2,-,-,-,0,0,0,-,-,-,-,-,-\nr,3,3,11\ntotal,3,1,0,0,0,0\n",
     ),
     // An `end` by itself is a record, and no header: record 1 of each piece, code 1. One piece is cut off before its
     // `end` by a field too many, so this `end` is refused, and ends its piece.
     (
-        "many",
         b"end\nend\nencounter,1\nend,5\nend",
-        b"",
         Status::Done,
         b"many,4\nr,1,1,1\nr,2,1,1\nr,3,2,3\nr,4,1,1\ntotal,4,4,0,0,0,0\n",
     ),
@@ -45,17 +29,13 @@ const MANY: &[Row] = &[
     // Then a leg of an aircraft that isn't there. And then, behind the last piece that is cut by its `end`, two with
     // traffic advisories alone.
     (
-        "many",
         b"encounter,1\nrun,31,0\ncraft,400A01,RA,0,0,35000\ncraft,400B02,RA,91200,0,35000\nleg,400A01,1,760,0,0\nleg,400B02,1,-760,0,0\nend\nencounter,1\nrun,31,0\ncraft,400A01,RA,0,0,35000\nleg,400B02,1,-760,0,0\nend\nencounter,1\nrun,31,0\ncraft,400A01,TA,0,0,35000\ncraft,400B02,TA,91200,0,35300\nleg,400A01,1,760,0,0\nleg,400B02,1,-760,0,0\nend",
-        b"",
         Status::Done,
         b"many,3\nv,1,26,UU,UD,1,0,1,400A01,400B02,31,45600,0,16\nr,2,4,7\nv,3,-,--,--,0,0,0,400A01,400B02,31,45600,300,300\ntotal,3,1,1,1,0,1\n",
     ),
     // Two pairs far from each other, each of them as before. So there are two turns in one piece, and it counts once.
     (
-        "many",
         b"encounter,1\nrun,31,0\ncraft,400A01,RA,0,0,35000\ncraft,400B02,RA,91200,0,35000\ncraft,400C03,RA,0,500000,35000\ncraft,400D04,RA,91200,500000,35000\nleg,400A01,1,760,0,0\nleg,400B02,1,-760,0,0\nleg,400C03,1,760,0,0\nleg,400D04,1,-760,0,0\nend\nencounter,1\nrun,31,0\ncraft,400A01,RA,0,0,35000\ncraft,400B02,RA,91200,0,35000\nleg,400A01,1,760,0,0\nleg,400B02,1,-760,0,0\nend\n",
-        b"",
         Status::Done,
         b"many,2\nv,1,26,UUUU,UDUD,2,0,2,400A01,400B02,31,45600,0,16\nv,2,26,UU,UD,1,0,1,400A01,400B02,31,45600,0,16\ntotal,2,0,2,2,0,2\n",
     ),
@@ -63,62 +43,47 @@ const MANY: &[Row] = &[
 
 #[test]
 fn plays_many(rt: HostRuntime) -> Result<(), Fail> {
-    assert_eq!(rt; first_other(&rt, MANY)?, None);
-    Ok(())
-}
-
-// 4,096 pieces, and a rest.
-fn add_pieces(text: &mut Vec<u8>, rest: &[u8]) -> Result<(), AllocError> {
-    for _piece in 0..4_096u32 {
-        text.extend_from_slice(b"end\n")?;
+    for (number, (input, status, text)) in MANY.iter().enumerate() {
+        assert!(rt; answers(&rt, "many", input, *status, text)?, "row {number}");
     }
-    text.extend_from_slice(rest)
-}
-
-fn pieces(alloc: Global, rest: &[u8]) -> Result<Vec<u8>, AllocError> {
-    let mut text = Vec::new(alloc);
-    add_pieces(&mut text, rest)?;
-    Ok(text)
-}
-
-fn played<R: Threads + Wait + Sync + Alloc<A = Global>>(
-    rt: &R,
-    rest: &[u8],
-) -> Result<Outcome, AllocError> {
-    let text = pieces(rt.alloc(), rest)?;
-    run(rt, "many", text.as_slice())
-}
-
-// Whether the pieces and this rest are answered so.
-fn is_answered<R: Threads + Wait + Sync + Alloc<A = Global>>(
-    rt: &R,
-    rest: &[u8],
-    status: Status,
-    text: &[u8],
-) -> Result<bool, AllocError> {
-    let done = played(rt, rest)?;
-    Ok(done.is(status, text))
-}
-
-fn are_all_told(text: &[u8]) -> bool {
-    text.starts_with(b"many,4096\nr,1,1,1\nr,2,1,1\n")
-        && text.ends_with(b"r,4096,1,1\ntotal,4096,4096,0,0,0,0\n")
-}
-
-// A rest without a record is no piece.
-fn are_played<R: Threads + Wait + Sync + Alloc<A = Global>>(rt: &R) -> Result<bool, AllocError> {
-    let done = played(rt, b"")?;
-    Ok(
-        done.status == Status::Done
-            && are_all_told(done.bytes())
-            && is_answered(rt, b"\r\n", Status::Done, done.bytes())?,
-    )
+    Ok(())
 }
 
 // 4,096 pieces are played, and one more isn't.
 #[test]
 fn plays_no_more_than_it_says(rt: HostRuntime) -> Result<(), Fail> {
-    assert!(rt; are_played(&rt)?);
-    assert!(rt; is_answered(&rt, b"end", Status::Refused, b"pieces,4097\n")?);
+    let alloc = rt.alloc();
+    let mut text = Vec::new(alloc);
+    for _piece in 0..4_096u32 {
+        text.extend_from_slice(b"end\n")?;
+    }
+    let played = run(&rt, "many", text.as_slice())?;
+    assert!(rt; played.status == Status::Done);
+    assert!(rt;
+        played
+            .sink
+            .bytes()
+            .starts_with(b"many,4096\nr,1,1,1\nr,2,1,1\n")
+    );
+    assert!(rt;
+        played
+            .sink
+            .bytes()
+            .ends_with(b"r,4096,1,1\ntotal,4096,4096,0,0,0,0\n")
+    );
+    // A rest without a record is no piece.
+    let blank = joined(alloc, text.as_slice(), b"\r\n")?;
+    let still = run(&rt, "many", blank.as_slice())?;
+    assert!(rt; still.sink.bytes() == played.sink.bytes());
+    let more = joined(alloc, text.as_slice(), b"end")?;
+    assert!(rt;
+        answers(
+            &rt,
+            "many",
+            more.as_slice(),
+            Status::Refused,
+            b"pieces,4097\n"
+        )?
+    );
     Ok(())
 }

@@ -16,19 +16,16 @@ fn unread<R: Threads + Wait + Sync + Alloc<A = Global>>(
 
 const VERSIONS: &[u8] = b"acas 1.3.0\nencounter 1,2\nrecording 1\n";
 
-fn is_version<R: Threads + Wait + Sync + Alloc<A = Global>>(rt: &R) -> Result<bool, AllocError> {
-    let told = unread(rt, "--version")?;
-    Ok(told.is(Status::Done, VERSIONS))
-}
-
 #[test]
 fn tells_its_version(rt: HostRuntime) -> Result<(), Fail> {
-    assert!(rt; is_version(&rt)?);
+    let told = unread(&rt, "--version")?;
+    assert_eq!(rt; told.status, Status::Done);
+    assert!(rt; told.sink.bytes() == VERSIONS);
     Ok(())
 }
 
 // The words that play, read or make something.
-const WORDS: &[&str] = &[
+const WORDS: [&str; 21] = [
     "serial", "play", "sum", "tracks", "fly", "vary", "audit", "reports", "response", "watch",
     "why", "places", "messages", "summary", "picture", "compare", "resume", "explain", "gen",
     "sweep", "decode",
@@ -69,37 +66,17 @@ fn is_short(text: &[u8], most: u64, width: usize) -> bool {
     text.ends_with(b"\n") && count <= most.saturating_add(1)
 }
 
-// Whether a word writes this page.
-fn is_same<R: Threads + Wait + Sync + Alloc<A = Global>>(
-    rt: &R,
-    word: &str,
-    text: &[u8],
-) -> Result<bool, AllocError> {
-    let told = unread(rt, word)?;
-    Ok(told.is(Status::Done, text))
-}
-
-// Whether a page is short and names all words, and two more words write it.
-fn is_page<R: Threads + Wait + Sync + Alloc<A = Global>>(
-    rt: &R,
-    text: &[u8],
-) -> Result<bool, AllocError> {
-    Ok(
-        first_unnamed(text, WORDS).is_none()
-            && is_short(text, 60, 80)
-            && is_same(rt, "-h", text)?
-            && is_same(rt, "help", text)?,
-    )
-}
-
-fn is_help<R: Threads + Wait + Sync + Alloc<A = Global>>(rt: &R) -> Result<bool, AllocError> {
-    let page = unread(rt, "--help")?;
-    Ok(page.status == Status::Done && is_page(rt, page.bytes())?)
-}
-
 // Three words write the same page.
 #[test]
 fn tells_how_it_is_used(rt: HostRuntime) -> Result<(), Fail> {
-    assert!(rt; is_help(&rt)?);
+    let page = unread(&rt, "--help")?;
+    let text = page.sink.bytes();
+    assert_eq!(rt; page.status, Status::Done);
+    assert_eq!(rt; first_unnamed(text, &WORDS), None);
+    assert!(rt; is_short(text, 60, 80));
+    for word in ["-h", "help"] {
+        let same = unread(&rt, word)?;
+        assert!(rt; same.status == Status::Done && same.sink.bytes() == text);
+    }
     Ok(())
 }

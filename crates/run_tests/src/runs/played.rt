@@ -1,8 +1,8 @@
 // Encounters played in one thread. Expected values: the worked encounters that were given with the rules before there
 // was a program, and by hand from docs/RULES.md.
 use super::{
-    APART, BETWEEN, HELD_LONG, LAPSING, LEVEL, LEVEL_2, LOW, Outcome, TRAFFIC, TRANSPONDER,
-    answers, entry_in, lines_between, lines_with, recording,
+    APART, BETWEEN, HELD_LONG, LAPSING, LEVEL, LEVEL_2, LOW, TRAFFIC, TRANSPONDER, answers,
+    entry_in, lines_between, lines_with, recording,
 };
 use acas_top::Status;
 use std::alloc::{AllocError, Global};
@@ -17,7 +17,7 @@ pub type Row = (&'static [u8], &'static [u8], [u64; 3], &'static [u8]);
 const TURNED: &[u8] =
     b"report,5\nr,13,400A01,TRAFFIC,Traffic traffic\nr,13,400B02,TRAFFIC,Traffic traffic\nr,26,400A01,UP-CLIMB,Climb climb\nr,26,400B02,UP-CLIMB,Climb climb\nr,27,400B02,DOWN-DESCEND,Descend descend NOW\nclose\n";
 
-pub const PLAYED: &[Row] = &[
+pub const PLAYED: [Row; 17] = [
     (
         APART,
         b"end\n",
@@ -123,22 +123,19 @@ pub const PLAYED: &[Row] = &[
     ),
 ];
 
-// Whether a recording has these counts and this end.
-fn has_counts(text: &[u8], counts: [u64; 3], end: &[u8]) -> bool {
-    let [commits, sends, takes] = counts;
-    lines_with(text, b"c,") == commits
-        && lines_with(text, b"s,") == sends
-        && lines_with(text, b"t,") == takes
-        && text.ends_with(end)
-}
-
+// Whether the recording of an encounter has these counts and this end.
 fn is_played<R: Threads + Wait + Sync + Alloc<A = Global>>(
     rt: &R,
     row: &Row,
 ) -> Result<bool, AllocError> {
-    let (open, rest, counts, end) = *row;
-    let played = recording(rt, open, rest)?;
-    Ok(has_counts(played.bytes(), counts, end))
+    let (open, rest, [commits, sends, takes], end) = *row;
+    let text = recording(rt, open, rest)?;
+    Ok(
+        lines_with(text.as_slice(), b"c,") == commits
+            && lines_with(text.as_slice(), b"s,") == sends
+            && lines_with(text.as_slice(), b"t,") == takes
+            && text.ends_with(end),
+    )
 }
 
 // The place of the first row with another recording.
@@ -156,7 +153,7 @@ fn first_other<R: Threads + Wait + Sync + Alloc<A = Global>>(
 
 #[test]
 fn plays_encounters(rt: HostRuntime) -> Result<(), Fail> {
-    assert_eq!(rt; first_other(&rt, PLAYED)?, None);
+    assert_eq!(rt; first_other(&rt, &PLAYED)?, None);
     Ok(())
 }
 
@@ -165,7 +162,7 @@ type Entry = (&'static [u8], &'static [u8], usize, &'static [u8]);
 
 const HELD: &[u8] = b"fate,400A01,400B02,1,2,00,0,00\nend\n";
 
-const TOLD: &[Entry] = &[
+const TOLD: [Entry; 18] = [
     (LEVEL, b"end\n", 50, b"c,0,26,-,U5.1c"),
     (LEVEL, b"end\n", 51, b"c,1,26,U5.1c,-"),
     (LEVEL, b"end\n", 52, b"s,0,1,1,30080007400A01"),
@@ -196,22 +193,15 @@ const TOLD: &[Entry] = &[
     ),
 ];
 
-fn is_told<R: Threads + Wait + Sync + Alloc<A = Global>>(
-    rt: &R,
-    entry: &Entry,
-) -> Result<bool, AllocError> {
-    let (open, rest, position, line) = *entry;
-    let played = recording(rt, open, rest)?;
-    Ok(entry_in(played.bytes(), position) == line)
-}
-
 // The place of the first entry that isn't in the recording at its position.
 fn first_missing<R: Threads + Wait + Sync + Alloc<A = Global>>(
     rt: &R,
     entries: &[Entry],
 ) -> Result<Option<usize>, AllocError> {
     for place in 0..entries.len() {
-        if !is_told(rt, &entries[place])? {
+        let (open, rest, position, line) = entries[place];
+        let text = recording(rt, open, rest)?;
+        if entry_in(text.as_slice(), position) != line {
             return Ok(Some(place));
         }
     }
@@ -220,78 +210,50 @@ fn first_missing<R: Threads + Wait + Sync + Alloc<A = Global>>(
 
 #[test]
 fn tells_each_entry(rt: HostRuntime) -> Result<(), Fail> {
-    assert_eq!(rt; first_missing(&rt, TOLD)?, None);
+    assert_eq!(rt; first_missing(&rt, &TOLD)?, None);
     Ok(())
 }
 
-// The two with traffic advisories, and how their recording ends. Their tests hold from cycle 13 on.
-const TRAFFIC_HEAD: &str =
-    "recording,1\nencounter,1\nrun,31,0\ngains,683,256,512,128\ncraft,400A01,TA,0,0,35000\ncraft,400B02,TA,91200,0,35300\nleg,400A01,1,760,0,0\nleg,400B02,1,-760,0,0\nend\njournal,62\n";
-
-const TRAFFIC_END: &str =
-    "report,2\nr,13,400A01,TRAFFIC,Traffic traffic\nr,13,400B02,TRAFFIC,Traffic traffic\nclose\n";
-
-fn add_traffic(text: &mut String) -> Result<(), AllocError> {
-    text.push_str(TRAFFIC_HEAD)?;
+// The recording of the two with traffic advisories. Their tests hold from cycle 13 on.
+fn traffic_recording(alloc: Global) -> Result<Vec<u8>, AllocError> {
+    let mut text =
+        b"recording,1\nencounter,1\nrun,31,0\ngains,683,256,512,128\ncraft,400A01,TA,0,0,35000\ncraft,400B02,TA,91200,0,35300\nleg,400A01,1,760,0,0\nleg,400B02,1,-760,0,0\nend\njournal,62\n".to_vec(
+            alloc,
+        )?;
     for cycle in 1..32u16 {
-        let cell = if cycle < 13 { "-" } else { "t" };
-        write!(text, "c,0,{cycle},-,{cell}\nc,1,{cycle},{cell},-\n")?;
+        for (own, clear, traffic) in [(0u8, "-,-", "-,t"), (1, "-,-", "t,-")] {
+            let cells = if cycle < 13 { clear } else { traffic };
+            let line = format!(in alloc; "c,{own},{cycle},{cells}\n")?;
+            text.extend_from_slice(line.as_bytes())?;
+        }
     }
-    text.push_str(TRAFFIC_END)
-}
-
-fn is_traffic_recording(alloc: Global, text: &[u8]) -> Result<bool, AllocError> {
-    let mut want = String::new(alloc);
-    add_traffic(&mut want)?;
-    Ok(text == want.as_bytes())
-}
-
-fn is_whole<R: Threads + Wait + Sync + Alloc<A = Global>>(rt: &R) -> Result<bool, AllocError> {
-    let written = recording(rt, TRAFFIC, b"end\n")?;
-    is_traffic_recording(rt.alloc(), written.bytes())
+    text.extend_from_slice(
+        b"report,2\nr,13,400A01,TRAFFIC,Traffic traffic\nr,13,400B02,TRAFFIC,Traffic traffic\nclose\n",
+    )?;
+    Ok(text)
 }
 
 #[test]
 fn writes_a_whole_recording(rt: HostRuntime) -> Result<(), Fail> {
-    assert!(rt; is_whole(&rt)?);
+    let written = recording(&rt, TRAFFIC, b"end\n")?;
+    assert!(rt; written == traffic_recording(rt.alloc())?);
     Ok(())
 }
 
 // Sixteen aircraft of format 2, with a leg of each in each of 600 cycles, without the end of the text.
-fn add_sixteen_aircraft(text: &mut String) -> Result<(), AllocError> {
-    text.push_str("encounter,2\nrun,600,0\n")?;
+fn sixteen_aircraft(alloc: Global) -> Result<Vec<u8>, AllocError> {
+    let mut text = b"encounter,2\nrun,600,0\n".to_vec(alloc)?;
     for craft in 10..26u32 {
-        write!(text, "craft,0000{craft},TA,{craft}00,0,{craft}000\n")?;
+        let line = format!(in alloc; "craft,0000{craft},TA,{craft}00,0,{craft}000\n")?;
+        text.extend_from_slice(line.as_bytes())?;
     }
     for craft in 10..26u32 {
         for cycle in 1..601u32 {
-            write!(text, "leg,0000{craft},{cycle},100,0,0\n")?;
+            let line = format!(in alloc; "leg,0000{craft},{cycle},100,0,0\n")?;
+            text.extend_from_slice(line.as_bytes())?;
         }
     }
-    Ok(())
-}
-
-fn sixteen_aircraft(alloc: Global) -> Result<String, AllocError> {
-    let mut text = String::new(alloc);
-    add_sixteen_aircraft(&mut text)?;
     Ok(text)
-}
-
-fn sixteen_recorded<R: Threads + Wait + Sync + Alloc<A = Global>>(
-    rt: &R,
-) -> Result<Outcome, AllocError> {
-    let text = sixteen_aircraft(rt.alloc())?;
-    recording(rt, text.as_bytes(), b"end\n")
-}
-
-// Whether a recording is resumed from this line on.
-fn is_resumed<R: Threads + Wait + Sync + Alloc<A = Global>>(
-    rt: &R,
-    text: &[u8],
-    entries_end: u64,
-) -> Result<bool, AllocError> {
-    let begun = lines_between(rt.alloc(), text, 1, entries_end)?;
-    answers(rt, "resume", begun.as_slice(), Status::Done, text)
 }
 
 // Whether their recording has this many commits, is legal, and is resumed from the line before its report. Nothing is
@@ -302,24 +264,20 @@ fn is_read<R: Threads + Wait + Sync + Alloc<A = Global>>(
     commits: u64,
     entries_end: u64,
 ) -> Result<bool, AllocError> {
+    let begun = lines_between(rt.alloc(), text, 1, entries_end)?;
     Ok(
         lines_with(text, b"c,") == commits
             && answers(rt, "audit", text, Status::Done, b"legal,9600\n")?
             && answers(rt, "watch", text, Status::Done, b"watch,0\n")?
-            && is_resumed(rt, text, entries_end)?,
+            && answers(rt, "resume", begun.as_slice(), Status::Done, text)?,
     )
 }
 
 // The most aircraft and cycles, and the most legs of each: `end` is line 9,621.
-fn are_sixteen_read<R: Threads + Wait + Sync + Alloc<A = Global>>(
-    rt: &R,
-) -> Result<bool, AllocError> {
-    let whole = sixteen_recorded(rt)?;
-    is_read(rt, whole.bytes(), 9_600, 19_222)
-}
-
 #[test]
 fn plays_sixteen_aircraft(rt: HostRuntime) -> Result<(), Fail> {
-    assert!(rt; are_sixteen_read(&rt)?);
+    let text = sixteen_aircraft(rt.alloc())?;
+    let whole = recording(&rt, text.as_slice(), b"end\n")?;
+    assert!(rt; is_read(&rt, whole.as_slice(), 9_600, 19_222)?);
     Ok(())
 }

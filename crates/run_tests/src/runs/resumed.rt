@@ -1,7 +1,6 @@
 // Recordings that were cut. Expected values: by hand from "Cut recordings" in docs/FORMATS.md.
 use super::{
-    HELD_LONG, LEVEL, add_line, add_lines_between, answers, lines_between, lines_with, recording,
-    run,
+    HELD_LONG, LEVEL, answers, joined, lines_between, lines_with, recording, run, with_line,
 };
 use acas_top::Status;
 use std::alloc::{AllocError, Global};
@@ -9,22 +8,16 @@ use std::sync::Wait;
 use std::test::Fail;
 use std::thread::Threads;
 
-fn add_cut(text: &mut Vec<u8>, whole: &[u8], lines: u64, bytes: usize) -> Result<(), AllocError> {
-    let mut number = 0u64;
-    for line in whole.split(|byte| *byte == b'\n') {
-        if number == lines {
-            return text.extend_from_slice(&line[..bytes.min(line.len())]);
-        }
-        add_line(text, line)?;
-        number = number.saturating_add(1);
-    }
-    Ok(())
-}
-
 // Where a recording was cut: how many lines are whole, and how many bytes of the next one stand behind them.
-fn cut(alloc: Global, whole: &[u8], lines: u64, bytes: usize) -> Result<Vec<u8>, AllocError> {
-    let mut text = Vec::new(alloc);
-    add_cut(&mut text, whole, lines, bytes)?;
+fn cut(alloc: Global, recording: &[u8], lines: u64, bytes: usize) -> Result<Vec<u8>, AllocError> {
+    let mut text = lines_between(alloc, recording, 1, lines)?;
+    let next = lines_between(
+        alloc,
+        recording,
+        lines.saturating_add(1),
+        lines.saturating_add(1),
+    )?;
+    text.extend_from_slice(&next[..bytes.min(next.len())])?;
     Ok(text)
 }
 
@@ -45,36 +38,18 @@ fn wrong_at(journal: u64, entries: u64, lines: u64, within: bool) -> Option<(u64
     Some((lines.saturating_add(1), 2))
 }
 
-// Whether a cut recording is answered with the whole one.
-fn is_whole<R: Threads + Wait + Sync + Alloc<A = Global>>(
-    rt: &R,
-    text: &[u8],
-    whole: &[u8],
-) -> Result<bool, AllocError> {
-    let resumed = run(rt, "resume", text)?;
-    Ok(resumed.bytes() == whole)
-}
-
-// Whether it is answered with this line and this reason.
-fn is_wrong<R: Threads + Wait + Sync + Alloc<A = Global>>(
-    rt: &R,
-    text: &[u8],
-    line: u64,
-    reason: u8,
-) -> Result<bool, AllocError> {
-    let verdict = format!(in rt.alloc(); "wrong,{line},{reason}\n")?;
-    is_whole(rt, text, verdict.as_bytes())
-}
-
-fn is_answer<R: Threads + Wait + Sync + Alloc<A = Global>>(
-    rt: &R,
-    text: &[u8],
-    whole: &[u8],
+// What a recording with this cut is answered with.
+fn answer(
+    alloc: Global,
+    recording: &[u8],
     wrong: Option<(u64, u8)>,
-) -> Result<bool, AllocError> {
+) -> Result<Vec<u8>, AllocError> {
     match wrong {
-        Some((line, reason)) => is_wrong(rt, text, line, reason),
-        None => is_whole(rt, text, whole),
+        Some((line, reason)) => {
+            let verdict = format!(in alloc; "wrong,{line},{reason}\n")?;
+            verdict.as_bytes().to_vec(alloc)
+        }
+        None => recording.to_vec(alloc),
     }
 }
 
@@ -86,8 +61,11 @@ fn is_answered<R: Threads + Wait + Sync + Alloc<A = Global>>(
     is_within: bool,
     wrong: Option<(u64, u8)>,
 ) -> Result<bool, AllocError> {
-    let text = cut(rt.alloc(), whole, lines, if is_within { 3 } else { 0 })?;
-    is_answer(rt, text.as_slice(), whole, wrong)
+    let alloc = rt.alloc();
+    let text = cut(alloc, whole, lines, if is_within { 3 } else { 0 })?;
+    let resumed = run(rt, "resume", text.as_slice())?;
+    let want = answer(alloc, whole, wrong)?;
+    Ok(resumed.sink.bytes() == want.as_slice())
 }
 
 // The first cut with another answer: behind some lines, or within the next one.
@@ -108,66 +86,49 @@ fn first_other<R: Threads + Wait + Sync + Alloc<A = Global>>(
     Ok(None)
 }
 
-// The same of the two at one altitude.
-fn first_other_of<R: Threads + Wait + Sync + Alloc<A = Global>>(
-    rt: &R,
-    rest: &[u8],
-    journal: u64,
-    entries: u64,
-) -> Result<Option<(u64, bool)>, AllocError> {
-    let whole = recording(rt, LEVEL, rest)?;
-    first_other(rt, whole.bytes(), journal, entries)
-}
-
 // Each cut of a recording. In the second one a copy is held back and taken last; its `journal` is three lines later.
 #[test]
 fn answers_each_cut(rt: HostRuntime) -> Result<(), Fail> {
-    assert_eq!(rt; first_other_of(&rt, b"end\n", 10, 86)?, None);
-    assert_eq!(rt; first_other_of(&rt, HELD_LONG, 13, 86)?, None);
+    let level = recording(&rt, LEVEL, b"end\n")?;
+    assert_eq!(rt; first_other(&rt, level.as_slice(), 10, 86)?, None);
+    let held = recording(&rt, LEVEL, HELD_LONG)?;
+    assert_eq!(rt; first_other(&rt, held.as_slice(), 13, 86)?, None);
     Ok(())
 }
 
-// The recording's first nine lines, and these lines.
-fn begun(alloc: Global, whole: &[u8], rest: &[u8]) -> Result<Vec<u8>, AllocError> {
-    let mut text = lines_between(alloc, whole, 1, 9)?;
-    text.extend_from_slice(rest)?;
-    Ok(text)
-}
-
-// The whole recording, where the first two entries have changed places.
-fn exchanged(alloc: Global, whole: &[u8]) -> Result<Vec<u8>, AllocError> {
-    let mut text = begun(alloc, whole, b"journal,86\nc,1,1,-,-\nc,0,1,-,-\n")?;
-    add_lines_between(&mut text, whole, 13, 200)?;
-    Ok(text)
-}
-
-// Whether a text is resumed as the whole recording with these entries exchanged.
-fn is_resumed<R: Threads + Wait + Sync + Alloc<A = Global>>(
-    rt: &R,
+// The recording's first lines, with another line of its entries, and these entries.
+fn begun(
+    alloc: Global,
     whole: &[u8],
-    text: &[u8],
-) -> Result<bool, AllocError> {
-    let want = exchanged(rt.alloc(), whole)?;
-    answers(rt, "resume", text, Status::Done, want.as_slice())
-}
-
-fn goes_on<R: Threads + Wait + Sync + Alloc<A = Global>>(
-    rt: &R,
-    whole: &[u8],
-) -> Result<bool, AllocError> {
-    let text = begun(rt.alloc(), whole, b"journal,1\nc,1,1,-,-\n")?;
-    is_resumed(rt, whole, text.as_slice())
-}
-
-fn goes_on_from_second<R: Threads + Wait + Sync + Alloc<A = Global>>(
-    rt: &R,
-) -> Result<bool, AllocError> {
-    let whole = recording(rt, LEVEL, b"end\n")?;
-    goes_on(rt, whole.bytes())
+    journal: &[u8],
+    entries: &[u8],
+) -> Result<Vec<u8>, AllocError> {
+    let other = with_line(alloc, whole, 10, journal)?;
+    let open = lines_between(alloc, other.as_slice(), 1, 10)?;
+    joined(alloc, open.as_slice(), entries)
 }
 
 #[test]
 fn goes_on_from_another_order(rt: HostRuntime) -> Result<(), Fail> {
-    assert!(rt; goes_on_from_second(&rt)?);
+    let alloc = rt.alloc();
+    let whole = recording(&rt, LEVEL, b"end\n")?;
+    let text = begun(alloc, whole.as_slice(), b"journal,1\n", b"c,1,1,-,-\n")?;
+    let open = begun(
+        alloc,
+        whole.as_slice(),
+        b"journal,86\n",
+        b"c,1,1,-,-\nc,0,1,-,-\n",
+    )?;
+    let rest = lines_between(alloc, whole.as_slice(), 13, 200)?;
+    let want = joined(alloc, open.as_slice(), rest.as_slice())?;
+    assert!(rt;
+        answers(
+            &rt,
+            "resume",
+            text.as_slice(),
+            Status::Done,
+            want.as_slice()
+        )?
+    );
     Ok(())
 }

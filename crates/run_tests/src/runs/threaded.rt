@@ -1,9 +1,7 @@
 // Runs in threads: `play` and `sum`. Expected values: the counts of the worked encounters, and by hand from
 // docs/RULES.md.
 use super::played::{PLAYED, Row};
-use super::{
-    BETWEEN, LEVEL, Outcome, answers, entry_in, joined, lines_with, recording, run, run_with,
-};
+use super::{BETWEEN, LEVEL, answers, entry_in, joined, lines_with, recording, run, run_with};
 use acas_top::Status;
 use craft_worker::Pause;
 use std::alloc::{AllocError, Global};
@@ -12,23 +10,15 @@ use std::sync::atomic::{AtomicU64, Ordering};
 use std::test::Fail;
 use std::thread::{Threads, yield_now};
 
-// Whether a recording is legal.
-fn is_legal<R: Threads + Wait + Sync + Alloc<A = Global>>(
-    rt: &R,
-    text: &[u8],
-) -> Result<bool, AllocError> {
-    let judged = run(rt, "audit", text)?;
-    Ok(judged.status == Status::Done)
-}
-
 // Whether `play` writes a legal recording with this many commits, whatever the order is.
-fn is_legally_played<R: Threads + Wait + Sync + Alloc<A = Global>>(
+fn is_legal<R: Threads + Wait + Sync + Alloc<A = Global>>(
     rt: &R,
     text: &[u8],
     commits: u64,
 ) -> Result<bool, AllocError> {
     let played = run(rt, "play", text)?;
-    Ok(lines_with(played.bytes(), b"c,") == commits && is_legal(rt, played.bytes())?)
+    let judged = run(rt, "audit", played.sink.bytes())?;
+    Ok(judged.status == Status::Done && lines_with(played.sink.bytes(), b"c,") == commits)
 }
 
 // What `sum` always writes of an encounter with these counts.
@@ -38,33 +28,8 @@ fn sums_of<R: Threads + Wait + Sync + Alloc<A = Global>>(
 ) -> Result<String, AllocError> {
     let (open, rest, [commits, sends, takes], _) = *row;
     let serial = recording(rt, open, rest)?;
-    let lines = lines_with(serial.bytes(), b"r,");
+    let lines = lines_with(serial.as_slice(), b"r,");
     format!(in rt.alloc(); "play,{commits}\nserial,{commits},{sends},{takes},{lines}\n")
-}
-
-fn is_row_summed<R: Threads + Wait + Sync + Alloc<A = Global>>(
-    rt: &R,
-    row: &Row,
-    text: &[u8],
-) -> Result<bool, AllocError> {
-    let sums = sums_of(rt, row)?;
-    answers(rt, "sum", text, Status::Done, sums.as_bytes())
-}
-
-fn is_right<R: Threads + Wait + Sync + Alloc<A = Global>>(
-    rt: &R,
-    row: &Row,
-    text: &[u8],
-) -> Result<bool, AllocError> {
-    Ok(is_legally_played(rt, text, row.2[0])? && is_row_summed(rt, row, text)?)
-}
-
-fn is_right_row<R: Threads + Wait + Sync + Alloc<A = Global>>(
-    rt: &R,
-    row: &Row,
-) -> Result<bool, AllocError> {
-    let text = joined(rt.alloc(), row.0, row.1)?;
-    is_right(rt, row, text.as_slice())
 }
 
 // The place of the first row that isn't right.
@@ -73,7 +38,12 @@ fn first_other<R: Threads + Wait + Sync + Alloc<A = Global>>(
     rows: &[Row],
 ) -> Result<Option<usize>, AllocError> {
     for place in 0..rows.len() {
-        if !is_right_row(rt, &rows[place])? {
+        let (open, rest, counts, _) = rows[place];
+        let text = joined(rt.alloc(), open, rest)?;
+        let sums = sums_of(rt, &rows[place])?;
+        if !is_legal(rt, text.as_slice(), counts[0])?
+            || !answers(rt, "sum", text.as_slice(), Status::Done, sums.as_bytes())?
+        {
             return Ok(Some(place));
         }
     }
@@ -82,7 +52,7 @@ fn first_other<R: Threads + Wait + Sync + Alloc<A = Global>>(
 
 #[test]
 fn plays_and_sums(rt: HostRuntime) -> Result<(), Fail> {
-    assert_eq!(rt; first_other(&rt, PLAYED)?, None);
+    assert_eq!(rt; first_other(&rt, &PLAYED)?, None);
     Ok(())
 }
 
@@ -203,7 +173,7 @@ const CROWD: &[u8] =
 
 // In the first cycle the aircraft of index 1 commits last. In the second cycle it is the one of index 0, or of index 2
 // where there is one. In the serial run it is always the one of the highest index.
-const TOGETHER: &[Together] = &[
+const TOGETHER: [Together; 3] = [
     Together {
         open: LEVEL,
         rest: b"end\n",
@@ -236,64 +206,29 @@ const TOGETHER: &[Together] = &[
     },
 ];
 
-// Whether a run has this entry, or is these sums.
-fn has_entry(met: &Outcome, row: &Together) -> bool {
-    met.status == Status::Done && entry_in(met.bytes(), row.position) == row.entry
-}
-
+// Whether `play` and `sum` give this, where the aircraft wait for each other.
 fn is_played<R: Threads + Wait + Sync + Alloc<A = Global>>(
     rt: &R,
     row: &Together,
     text: &[u8],
-    meeting: &Meeting,
 ) -> Result<bool, AllocError> {
-    let met = run_with(rt, "play", text, &[], &[], meeting)?;
-    Ok(meeting.has_ended(row.cycles) && has_entry(&met, row))
+    let meeting = Meeting::of(rt.alloc(), row.crafts, row.waiting)?;
+    let met = run_with(rt, "play", text, &[], &[], &meeting)?;
+    Ok(
+        met.status == Status::Done
+            && meeting.has_ended(row.cycles)
+            && entry_in(met.sink.bytes(), row.position) == row.entry,
+    )
 }
 
 fn is_summed<R: Threads + Wait + Sync + Alloc<A = Global>>(
     rt: &R,
     row: &Together,
     text: &[u8],
-    meeting: &Meeting,
-) -> Result<bool, AllocError> {
-    let met = run_with(rt, "sum", text, &[], &[], meeting)?;
-    Ok(meeting.has_ended(row.cycles) && met.is(Status::Done, row.sums))
-}
-
-// Whether `play` and `sum` give this, where the aircraft wait for each other.
-fn are_met_in_play<R: Threads + Wait + Sync + Alloc<A = Global>>(
-    rt: &R,
-    row: &Together,
-    text: &[u8],
 ) -> Result<bool, AllocError> {
     let meeting = Meeting::of(rt.alloc(), row.crafts, row.waiting)?;
-    is_played(rt, row, text, &meeting)
-}
-
-fn are_met_in_sum<R: Threads + Wait + Sync + Alloc<A = Global>>(
-    rt: &R,
-    row: &Together,
-    text: &[u8],
-) -> Result<bool, AllocError> {
-    let meeting = Meeting::of(rt.alloc(), row.crafts, row.waiting)?;
-    is_summed(rt, row, text, &meeting)
-}
-
-fn are_met<R: Threads + Wait + Sync + Alloc<A = Global>>(
-    rt: &R,
-    row: &Together,
-    text: &[u8],
-) -> Result<bool, AllocError> {
-    Ok(are_met_in_play(rt, row, text)? && are_met_in_sum(rt, row, text)?)
-}
-
-fn is_met<R: Threads + Wait + Sync + Alloc<A = Global>>(
-    rt: &R,
-    row: &Together,
-) -> Result<bool, AllocError> {
-    let text = joined(rt.alloc(), row.open, row.rest)?;
-    are_met(rt, row, text.as_slice())
+    let met = run_with(rt, "sum", text, &[], &[], &meeting)?;
+    Ok(met.status == Status::Done && meeting.has_ended(row.cycles) && met.sink.bytes() == row.sums)
 }
 
 // The place of the first row that ends otherwise.
@@ -302,7 +237,10 @@ fn first_unmet<R: Threads + Wait + Sync + Alloc<A = Global>>(
     rows: &[Together],
 ) -> Result<Option<usize>, AllocError> {
     for place in 0..rows.len() {
-        if !is_met(rt, &rows[place])? {
+        let text = joined(rt.alloc(), rows[place].open, rows[place].rest)?;
+        if !is_played(rt, &rows[place], text.as_slice())?
+            || !is_summed(rt, &rows[place], text.as_slice())?
+        {
             return Ok(Some(place));
         }
     }
@@ -315,6 +253,6 @@ fn first_unmet<R: Threads + Wait + Sync + Alloc<A = Global>>(
 // first of several tries, or where another cycle is named.
 #[test]
 fn meet(rt: HostRuntime) -> Result<(), Fail> {
-    assert_eq!(rt; first_unmet(&rt, TOGETHER)?, None);
+    assert_eq!(rt; first_unmet(&rt, &TOGETHER)?, None);
     Ok(())
 }

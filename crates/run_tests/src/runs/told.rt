@@ -37,13 +37,13 @@ pub fn told<R: Threads + Wait + Sync + Alloc<A = Global>>(
     rest: &[u8],
 ) -> Result<Outcome, AllocError> {
     let played = recording(rt, encounter, rest)?;
-    run(rt, tool, played.bytes())
+    run(rt, tool, played.as_slice())
 }
 
 // The tool, the beginning of an encounter's text, its rest, and what the tool writes.
-pub type Told = (&'static str, &'static [u8], &'static [u8], &'static [u8]);
+type Told = (&'static str, &'static [u8], &'static [u8], &'static [u8]);
 
-const TELLING: &[Told] = &[
+const TELLING: [Told; 12] = [
     (
         "response",
         APART_LONGER,
@@ -115,22 +115,15 @@ const TELLING: &[Told] = &[
     ),
 ];
 
-fn is_told<R: Threads + Wait + Sync + Alloc<A = Global>>(
-    rt: &R,
-    row: &Told,
-) -> Result<bool, AllocError> {
-    let (tool, encounter, rest, text) = *row;
-    let done = told(rt, tool, encounter, rest)?;
-    Ok(done.is(Status::Done, text))
-}
-
 // The place of the first row with another text.
-pub fn first_untold<R: Threads + Wait + Sync + Alloc<A = Global>>(
+fn first_other<R: Threads + Wait + Sync + Alloc<A = Global>>(
     rt: &R,
-    rows: &[Told],
+    texts: &[Told],
 ) -> Result<Option<usize>, AllocError> {
-    for place in 0..rows.len() {
-        if !is_told(rt, &rows[place])? {
+    for place in 0..texts.len() {
+        let (tool, encounter, rest, text) = texts[place];
+        let done = told(rt, tool, encounter, rest)?;
+        if done.status != Status::Done || done.sink.bytes() != text {
             return Ok(Some(place));
         }
     }
@@ -139,7 +132,7 @@ pub fn first_untold<R: Threads + Wait + Sync + Alloc<A = Global>>(
 
 #[test]
 fn tells_whole_texts(rt: HostRuntime) -> Result<(), Fail> {
-    assert_eq!(rt; first_untold(&rt, TELLING)?, None);
+    assert_eq!(rt; first_other(&rt, &TELLING)?, None);
     // The senses are equal to the end of the run, and no message comes any more.
     let text = b"watch,1\nw,400A01,400B02,U,4,4,n,-\n";
     assert!(rt; answers(&rt, "watch", LATE_COMMIT_RECORDING, Status::Done, text)?);
@@ -147,21 +140,17 @@ fn tells_whole_texts(rt: HostRuntime) -> Result<(), Fail> {
 }
 
 // The advisory is there in cycle 26 alone, and its block is gone in cycle 45.
-fn are_nineteen_blocks(text: &[u8]) -> bool {
-    text.starts_with(b"blocks,19\nb,26,400A01,30C20005002C08\nb,27,400A01,30C20025002C08\n")
-        && text.ends_with(b"\nb,44,400A01,30C20025002C08\n")
-        && lines_with(text, b"b,") == 19
-}
-
-fn is_told_unseen<R: Threads + Wait + Sync + Alloc<A = Global>>(
-    rt: &R,
-) -> Result<bool, AllocError> {
-    let done = told(rt, "reports", UNSEEN, b"end\n")?;
-    Ok(done.status == Status::Done && are_nineteen_blocks(done.bytes()))
-}
-
 #[test]
 fn tells_a_block_for_18_commits_more(rt: HostRuntime) -> Result<(), Fail> {
-    assert!(rt; is_told_unseen(&rt)?);
+    let done = told(&rt, "reports", UNSEEN, b"end\n")?;
+    let text = done.sink.bytes();
+    assert!(rt;
+        done.status == Status::Done
+            && text.starts_with(
+                b"blocks,19\nb,26,400A01,30C20005002C08\nb,27,400A01,30C20025002C08\n"
+            )
+            && text.ends_with(b"\nb,44,400A01,30C20025002C08\n")
+            && lines_with(text, b"b,") == 19
+    );
     Ok(())
 }

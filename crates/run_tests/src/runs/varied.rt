@@ -1,13 +1,9 @@
 // What `vary` writes, to the byte. Expected values: by hand from "Variants" and "Outcomes" in docs/FORMATS.md and from
 // the rules of docs/RULES.md, as each row says.
-use super::{
-    LEVEL, LEVEL_2, ONE_CYCLE, Outcome, Row, first_command, first_other, joined, lines_with, run,
-};
+use super::{LEVEL, LEVEL_2, ONE_CYCLE, answers, joined, lines_with, run};
 use acas_top::Status;
 use std::alloc::{AllocError, Global};
-use std::sync::Wait;
 use std::test::Fail;
-use std::thread::Threads;
 
 // Two aircraft at different altitudes, with traffic advisories alone. They come nearer by 1,520 ft a cycle, and in
 // cycle 31 they are 91,200 - 30*1,520 = 45,600 ft apart. By the range test, with tau 48 and DMOD 7,898, they are
@@ -20,19 +16,20 @@ const TRAFFIC: &[u8] =
 const STANDING: &[u8] =
     b"encounter,1\nrun,343,0\ncraft,400A01,RA,0,0,35000\ncraft,400B02,RA,1000,0,35000\ncraft,400C03,RA,2000,0,35000\nend\n";
 
-const VARIED: &[Row] = &[
+// The words, what is read, the status, and what is written.
+type Row = (&'static str, &'static [u8], Status, &'static [u8]);
+
+const VARIED: [Row; 13] = [
     // One aircraft has no pair, no advice and nobody to exchange addresses with, and it sends nothing.
     (
         "vary swap",
         ONE_CYCLE,
-        b"",
         Status::Done,
         b"vary,1\nv,-,-,-,-,0,0,0,-,-,-,-,-,-,1\n",
     ),
     (
         "vary lose",
         ONE_CYCLE,
-        b"",
         Status::Done,
         b"vary,1\nv,-,-,-,-,0,0,0,-,-,-,-,-,-,1\n",
     ),
@@ -41,28 +38,24 @@ const VARIED: &[Row] = &[
     (
         "vary alt 400100 2000000 1 0",
         ONE_CYCLE,
-        b"",
         Status::Done,
         b"vary,2\nv,-,-,-,-,0,0,0,-,-,-,-,-,-,1\nv,2000000,none\n",
     ),
     (
         "vary alt 400100 37600 2 1",
         ONE_CYCLE,
-        b"",
         Status::Done,
         b"vary,3\nv,-,-,-,-,0,0,0,-,-,-,-,-,-,1\nv,37600,-,-,-,0,0,0,-,-,-,-,-,-,1\nv,37601,none\n",
     ),
     (
         "vary x 400100 -945000 2 -1",
         ONE_CYCLE,
-        b"",
         Status::Done,
         b"vary,3\nv,-,-,-,-,0,0,0,-,-,-,-,-,-,1\nv,-945000,-,-,-,0,0,0,-,-,-,-,-,-,1\nv,-945001,none\n",
     ),
     (
         "vary y 400100 961000 2 1",
         ONE_CYCLE,
-        b"",
         Status::Done,
         b"vary,3\nv,-,-,-,-,0,0,0,-,-,-,-,-,-,1\nv,961000,-,-,-,0,0,0,-,-,-,-,-,-,1\nv,961001,none\n",
     ),
@@ -71,14 +64,12 @@ const VARIED: &[Row] = &[
     (
         "vary lose",
         TRAFFIC,
-        b"",
         Status::Done,
         b"vary,1\nv,-,-,--,--,0,0,0,400A01,400B02,31,45600,300,300,1\n",
     ),
     (
         "vary swap",
         TRAFFIC,
-        b"",
         Status::Done,
         b"vary,1\nv,-,-,--,--,0,0,0,400A01,400B02,31,45600,300,300,1\n",
     ),
@@ -86,7 +77,6 @@ const VARIED: &[Row] = &[
     (
         "vary alt 400B02 -300 4 300",
         TRAFFIC,
-        b"",
         Status::Done,
         b"vary,5\nv,-,-,--,--,0,0,0,400A01,400B02,31,45600,300,300,1\nv,-300,-,--,--,0,0,0,400A01,400B02,31,45600,0,0,1\nv,0,-,--,--,0,0,0,400A01,400B02,31,45600,300,300,1\nv,300,-,--,--,0,0,0,400A01,400B02,31,45603,600,600,1\nv,600,-,--,--,0,0,0,400A01,400B02,31,45608,900,900,0\n",
     ),
@@ -95,47 +85,36 @@ const VARIED: &[Row] = &[
     (
         "vary late 400A01 -2 3 2",
         TRAFFIC,
-        b"",
         Status::Done,
         b"vary,4\nv,-,-,--,--,0,0,0,400A01,400B02,31,45600,300,300,1\nv,-2,-,--,--,0,0,0,400A01,400B02,31,44081,300,300,0\nv,0,-,--,--,0,0,0,400A01,400B02,31,45600,300,300,1\nv,2,-,--,--,0,0,0,400A01,400B02,31,47120,300,300,0\n",
     ),
     (
         "vary alt 400C03 0 1 0",
         TRAFFIC,
-        b"",
         Status::Refused,
         b"unknown,400C03\n",
     ),
     (
         "vary late 000000 0 1 0",
         TRAFFIC,
-        b"",
         Status::Refused,
         b"unknown,000000\n",
     ),
     // Six links with 342 messages each: 2,052 that are lost alone, and 2,046 rows of first ones.
-    (
-        "vary lose",
-        STANDING,
-        b"",
-        Status::Refused,
-        b"variants,4098\n",
-    ),
-    // No encounter.
-    (
-        "vary alt 400A01 0 1 0",
-        b"",
-        b"",
-        Status::Refused,
-        b"refused,1,1\n",
-    ),
-    ("vary lose", b"", b"", Status::Refused, b"refused,1,1\n"),
-    ("vary swap", b"", b"", Status::Refused, b"refused,1,1\n"),
+    ("vary lose", STANDING, Status::Refused, b"variants,4098\n"),
 ];
 
 #[test]
 fn varies_one_thing(rt: HostRuntime) -> Result<(), Fail> {
-    assert_eq!(rt; first_other(&rt, VARIED)?, None);
+    for (words, input, status, text) in VARIED {
+        assert!(rt; answers(&rt, words, input, status, text)?, "{words}");
+    }
+    for words in ["vary alt 400A01 0 1 0", "vary lose", "vary swap"] {
+        assert!(rt;
+            answers(&rt, words, b"", Status::Refused, b"refused,1,1\n")?,
+            "{words}"
+        );
+    }
     Ok(())
 }
 
@@ -149,7 +128,7 @@ fn varies_one_thing(rt: HostRuntime) -> Result<(), Fail> {
 // By the modelled response both keep their level for 10 half-seconds, so up to cycle 31. 400B02 goes down 5
 // half-seconds after its turn: after a turn in cycle 27 by 3 half-seconds, with 5,632, 11,264 and 16,896 in 1/1024
 // ft/s, which are 16.5 ft; after one in cycle 28 by one, which is 2.75 ft; and after a later one not at all.
-const LOST: &[&[u8]] = &[
+const LOST: [&[u8]; 24] = [
     b"vary,23",
     b"v,-,26,UU,UD,1,0,1,400A01,400B02,31,45600,0,16,1",
     b"v,400A01/400B02/1,26,UU,UD,1,0,2,400A01,400B02,31,45600,0,2,0",
@@ -177,90 +156,74 @@ const LOST: &[&[u8]] = &[
 ];
 
 // The first line of a text that isn't the one of its place, from 0; none where the text has these lines and no others.
-fn first_unlike(text: &[u8], lines: &[&[u8]]) -> Option<usize> {
-    let mut rest = text.split(|byte| *byte == b'\n');
+fn first_other(alloc: Global, text: &[u8], lines: &[&[u8]]) -> Result<Option<usize>, AllocError> {
+    let mut whole = Vec::new(alloc);
     for place in 0..lines.len() {
-        if rest.next() != Some(lines[place]) {
-            return Some(place);
+        whole.extend_from_slice(lines[place])?;
+        whole.push(b'\n')?;
+        if !text.starts_with(whole.as_slice()) {
+            return Ok(Some(place));
         }
     }
-    if rest.next() == Some(b"") && rest.next().is_none() {
-        None
+    if text == whole.as_slice() {
+        Ok(None)
     } else {
-        Some(lines.len())
+        Ok(Some(lines.len()))
     }
-}
-
-// What is written where each message of an encounter is lost.
-fn losses<R: Threads + Wait + Sync + Alloc<A = Global>>(
-    rt: &R,
-    open: &[u8],
-    rest: &[u8],
-) -> Result<Outcome, AllocError> {
-    let text = joined(rt.alloc(), open, rest)?;
-    run(rt, "vary lose", text.as_slice())
-}
-
-fn are_lost<R: Threads + Wait + Sync + Alloc<A = Global>>(rt: &R) -> Result<bool, AllocError> {
-    let lost = losses(rt, LEVEL, b"end\n")?;
-    Ok(lost.status == Status::Done && first_unlike(lost.bytes(), LOST).is_none())
 }
 
 #[test]
 fn loses_each_message(rt: HostRuntime) -> Result<(), Fail> {
-    assert!(rt; are_lost(&rt)?);
+    let level = joined(rt.alloc(), LEVEL, b"end\n")?;
+    let lost = run(&rt, "vary lose", level.as_slice())?;
+    assert_eq!(rt; lost.status, Status::Done);
+    assert_eq!(rt; first_other(rt.alloc(), lost.sink.bytes(), &LOST)?, None);
     Ok(())
 }
 
 // Where no message of 400B02 has a copy, none of them can be lost alone: 6 and twice 5 losses are left, and the line of
 // the encounter as it is.
-fn are_seventeen(text: &[u8]) -> bool {
-    text.starts_with(b"vary,17\n")
-        && lines_with(text, b"v,400A01/400B02/") == 11
-        && lines_with(text, b"v,400B02/400A01/1-") == 5
-        && lines_with(text, b"v,400B02/400A01/") == 5
-}
-
-fn are_lost_once<R: Threads + Wait + Sync + Alloc<A = Global>>(rt: &R) -> Result<bool, AllocError> {
-    let lost = losses(rt, LEVEL_2, b"plan,400B02,400A01\nend\n")?;
-    Ok(lost.status == Status::Done && are_seventeen(lost.bytes()))
-}
-
 #[test]
 fn loses_no_message_twice(rt: HostRuntime) -> Result<(), Fail> {
-    assert!(rt; are_lost_once(&rt)?);
+    let mute = joined(rt.alloc(), LEVEL_2, b"plan,400B02,400A01\nend\n")?;
+    let lost = run(&rt, "vary lose", mute.as_slice())?;
+    let text = lost.sink.bytes();
+    assert!(rt; lost.status == Status::Done && text.starts_with(b"vary,17\n"));
+    assert_eq!(rt; lines_with(text, b"v,400A01/400B02/"), 11);
+    assert_eq!(rt; lines_with(text, b"v,400B02/400A01/1-"), 5);
+    assert_eq!(rt; lines_with(text, b"v,400B02/400A01/"), 5);
     Ok(())
 }
 
 // Words that change nothing in the encounter of the two at one altitude but what they say. With exchanged addresses the
 // first one has the higher address, and turns in place of the second one. A flight that is later by nothing is the
 // same.
-const OF_LEVEL: &[Row] = &[
+const OF_LEVEL: [(&str, &[u8]); 2] = [
     (
         "vary swap",
-        LEVEL,
-        b"end\n",
-        Status::Done,
         b"vary,2\nv,-,26,UU,UD,1,0,1,400A01,400B02,31,45600,0,16,1\nv,400A01/400B02,26,UU,DU,1,0,1,400B02,400A01,31,45600,0,16,0\n",
     ),
     (
         "vary late 400B02 0 1 0",
-        LEVEL,
-        b"end\n",
-        Status::Done,
         b"vary,2\nv,-,26,UU,UD,1,0,1,400A01,400B02,31,45600,0,16,1\nv,0,26,UU,UD,1,0,1,400A01,400B02,31,45600,0,16,1\n",
     ),
 ];
 
 #[test]
 fn exchanges_addresses_and_delays(rt: HostRuntime) -> Result<(), Fail> {
-    assert_eq!(rt; first_other(&rt, OF_LEVEL)?, None);
+    let level = joined(rt.alloc(), LEVEL, b"end\n")?;
+    for (words, text) in OF_LEVEL {
+        assert!(rt;
+            answers(&rt, words, level.as_slice(), Status::Done, text)?,
+            "{words}"
+        );
+    }
     Ok(())
 }
 
 // Words that say no change: by their number, by a word, by an address, or by a number that is no plain decimal or out
 // of its range.
-const NO_CHANGES: &[&str] = &[
+const NO_CHANGES: [&str; 20] = [
     "vary",
     "vary 400A01",
     "vary z 400A01 0 1 0",
@@ -285,6 +248,11 @@ const NO_CHANGES: &[&str] = &[
 
 #[test]
 fn varies_by_its_words_alone(rt: HostRuntime) -> Result<(), Fail> {
-    assert_eq!(rt; first_command(&rt, NO_CHANGES, TRAFFIC)?, None);
+    for words in NO_CHANGES {
+        assert!(rt;
+            answers(&rt, words, TRAFFIC, Status::Usage, b"")?,
+            "{words}"
+        );
+    }
     Ok(())
 }

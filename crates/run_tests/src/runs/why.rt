@@ -56,11 +56,6 @@ fn has_line(text: &[u8], want: &[u8]) -> bool {
     false
 }
 
-// Whether a text begins so, and has a line.
-fn has(text: &[u8], head: &[u8], line: &[u8]) -> bool {
-    text.starts_with(head) && has_line(text, line)
-}
-
 // The beginning of an encounter's text, its rest, the first line of its reasons, and the fields of one of them.
 type Reason = (&'static [u8], &'static [u8], &'static [u8], &'static [u8]);
 
@@ -71,7 +66,8 @@ fn is_told<R: Threads + Wait + Sync + Alloc<A = Global>>(
 ) -> Result<bool, AllocError> {
     let (open, rest, head, line) = *reason;
     let reasons = told(rt, "why", open, rest)?;
-    Ok(reasons.status == Status::Done && has(reasons.bytes(), head, line))
+    let text = reasons.sink.bytes();
+    Ok(reasons.status == Status::Done && text.starts_with(head) && has_line(text, line))
 }
 
 // A foot more than 30 nautical miles apart.
@@ -85,7 +81,7 @@ const ABOVE: &[u8] =
 const BESIDE: &[u8] =
     b"encounter,1\nrun,2,0\ngains,1024,1024,1024,1024\ncraft,400A01,RA,0,0,35000\ncraft,400B02,RA,12000,0,35000\n";
 
-const REASONS: &[Reason] = &[
+const REASONS: [Reason; 28] = [
     // Each measures, tracks and tests the other one alike. The separations of both senses are there, once for each of
     // the two.
     (
@@ -287,6 +283,6 @@ fn first_missing<R: Threads + Wait + Sync + Alloc<A = Global>>(
 
 #[test]
 fn tells_reasons(rt: HostRuntime) -> Result<(), Fail> {
-    assert_eq!(rt; first_missing(&rt, REASONS)?, None);
+    assert_eq!(rt; first_missing(&rt, &REASONS)?, None);
     Ok(())
 }

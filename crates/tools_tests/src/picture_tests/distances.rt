@@ -1,35 +1,63 @@
 // Expected values: as in picture_tests.rt. The two panels of the nearest pair: its slant range, and its vertical
 // distance.
-use super::frame::{ONE, Tick, add_ticks};
-use super::marks::{BLACK, FRAME, GRID, Page, drawn, edged, filled};
+use super::frame::ONE;
+use super::marks::{
+    BOLD, DOT, DRAWN_30, FRAME, GRID, Mark, Page, Paint, SMALL, SMALL_AROUND, SMALL_BEFORE, Tick,
+};
+use Mark::{Circle, Line, Lines, Polyline, Rect, Ticks, Words};
 use std::alloc::AllocError;
 
-// A line across a panel: where it stands on a page with two lanes, and what it says.
-type Level = (u32, &'static str);
-
-const MILES: [Level; 5] = [
-    (10870, "0 NM"),
-    (10295, "5 NM"),
-    (9720, "10 NM"),
-    (9145, "15 NM"),
-    (8570, "20 NM"),
+// The lines across the panel of the range, and what they say.
+const MILES: &[Mark] = &[
+    Line((2000, 10870), (17800, 10870), GRID, ""),
+    Words((1880, 10950), SMALL_BEFORE, "", "0 NM"),
+    Line((2000, 10295), (17800, 10295), GRID, ""),
+    Words((1880, 10375), SMALL_BEFORE, "", "5 NM"),
+    Line((2000, 9720), (17800, 9720), GRID, ""),
+    Words((1880, 9800), SMALL_BEFORE, "", "10 NM"),
+    Line((2000, 9145), (17800, 9145), GRID, ""),
+    Words((1880, 9225), SMALL_BEFORE, "", "15 NM"),
+    Line((2000, 8570), (17800, 8570), GRID, ""),
+    Words((1880, 8650), SMALL_BEFORE, "", "20 NM"),
 ];
 
-const FEET: [Level; 5] = [
-    (14270, "0 ft"),
-    (13695, "200 ft"),
-    (13120, "400 ft"),
-    (12545, "600 ft"),
-    (11970, "800 ft"),
+const FEET: &[Mark] = &[
+    Line((2000, 14270), (17800, 14270), GRID, ""),
+    Words((1880, 14350), SMALL_BEFORE, "", "0 ft"),
+    Line((2000, 13695), (17800, 13695), GRID, ""),
+    Words((1880, 13775), SMALL_BEFORE, "", "200 ft"),
+    Line((2000, 13120), (17800, 13120), GRID, ""),
+    Words((1880, 13200), SMALL_BEFORE, "", "400 ft"),
+    Line((2000, 12545), (17800, 12545), GRID, ""),
+    Words((1880, 12625), SMALL_BEFORE, "", "600 ft"),
+    Line((2000, 11970), (17800, 11970), GRID, ""),
+    Words((1880, 12050), SMALL_BEFORE, "", "800 ft"),
 ];
+
+// The level of ALIM.
+const ALIM: &[Mark] = &[
+    Line(
+        (2000, 12545),
+        (17800, 12545),
+        " fill=\"none\" stroke=\"#222222\" stroke-width=\"20\" stroke-dasharray=\"260 100\"",
+        "ALIM 600 ft",
+    ),
+    Words((17900, 12625), SMALL, "", "ALIM 600 ft"),
+];
+
+// The line and the ring at the closest approach.
+const CLOSEST: Paint =
+    " fill=\"none\" stroke=\"#222222\" stroke-width=\"15\" stroke-dasharray=\"20 50\"";
+
+const RING: Paint = " fill=\"none\" stroke=\"#222222\" stroke-width=\"25\"";
 
 // A panel: its top, the levels that it names, the level of ALIM, what it says of the closest approach, and where that
-// is. All as on a page with two lanes.
+// is.
 #[derive(Clone, Copy)]
 struct Panel {
     top: u32,
-    levels: [Level; 5],
-    alim: Option<u32>,
+    levels: &'static [Mark],
+    alim: &'static [Mark],
     closest: &'static str,
     x: u32,
     y: u32,
@@ -61,99 +89,48 @@ pub const NAMES: Headings = Headings {
 };
 
 // Both aircraft fly towards each other to the end.
-const RANGES: [u32; 31] = [
+const RANGES: &[u32] = &[
     9144, 9173, 9202, 9231, 9259, 9288, 9317, 9346, 9375, 9403, 9432, 9461, 9490, 9518, 9547, 9576,
     9605, 9633, 9662, 9691, 9720, 9749, 9777, 9806, 9835, 9864, 9892, 9921, 9950, 9979, 10007,
 ];
 
 // They are at one altitude until one of them climbs.
-const HEIGHTS: [u32; 31] = [
+const HEIGHTS: &[u32] = &[
     14270, 14270, 14270, 14270, 14270, 14270, 14270, 14270, 14270, 14270, 14270, 14270, 14270,
     14270, 14270, 14270, 14270, 14270, 14270, 14270, 14270, 14270, 14270, 14270, 14270, 14270,
     14270, 13983, 13695, 13408, 13120,
 ];
 
-fn add_levels(page: &mut Page, levels: &[Level]) -> Result<(), AllocError> {
-    let style = "font-size=\"240\" text-anchor=\"end\" fill=\"#222222\"";
-    for place in 0..levels.len() {
-        let (y, words) = levels[place];
-        let y = page.low(y);
-        page.line((2000, y), (17800, y), GRID, "")?;
-        page.words((1880, y.saturating_add(80)), style, "", words)?;
-    }
-    Ok(())
-}
-
-// The words above a panel.
-fn add_names(page: &mut Page, panel: &Panel, heading: &str) -> Result<(), AllocError> {
-    let y = page.low(panel.top).saturating_sub(150);
-    page.words(
-        (2000, y),
-        "font-size=\"260\" font-weight=\"bold\" fill=\"#222222\"",
-        "",
-        heading,
-    )?;
-    page.words(
-        (17800, y),
-        "font-size=\"240\" text-anchor=\"end\" fill=\"#222222\"",
-        "",
-        panel.closest,
-    )
-}
-
-fn add_alim(page: &mut Page, alim: Option<u32>) -> Result<(), AllocError> {
-    let Some(y) = alim else {
-        return Ok(());
-    };
-    let y = page.low(y);
-    page.line(
-        (2000, y),
-        (17800, y),
-        drawn(BLACK, 20, "260 100"),
-        "ALIM 600 ft",
-    )?;
-    page.words(
-        (17900, y.saturating_add(80)),
-        "font-size=\"240\" fill=\"#222222\"",
-        "",
-        "ALIM 600 ft",
-    )
-}
-
-// A panel without the line of its distances.
+// A panel with the line of its distances.
 fn add_panel(
     page: &mut Page,
     panel: &Panel,
-    heading: &str,
-    ticks: &[Tick],
+    heading: &'static str,
+    ticks: &'static [Tick],
+    distances: Mark,
 ) -> Result<(), AllocError> {
-    let top = page.low(panel.top);
+    let Panel { top, closest, .. } = *panel;
+    let above = top.saturating_sub(150);
     let foot = top.saturating_add(2300);
-    let y = page.low(panel.y);
-    add_levels(page, &panel.levels)?;
-    add_ticks(
-        page,
-        ticks,
-        top,
-        foot,
-        "font-size=\"240\" text-anchor=\"middle\" fill=\"#222222\"",
-    )?;
-    add_names(page, panel, heading)?;
-    page.rect((2000, top), (15800, 2300), FRAME, "")?;
-    add_alim(page, panel.alim)?;
-    page.line(
-        (panel.x, top),
-        (panel.x, foot),
-        drawn(BLACK, 15, "20 50"),
-        panel.closest,
-    )?;
-    page.circle((panel.x, y), 80, edged("none", BLACK, 25), panel.closest)
+    page.add(panel.levels)?;
+    page.add(&[
+        Ticks(ticks, top, foot, SMALL_AROUND),
+        Words((2000, above), BOLD, "", heading),
+        Words((17800, above), SMALL_BEFORE, "", closest),
+        Rect((2000, top), (15800, 2300), FRAME, ""),
+    ])?;
+    page.add(panel.alim)?;
+    page.add(&[
+        Line((panel.x, top), (panel.x, foot), CLOSEST, closest),
+        Circle((panel.x, panel.y), 80, RING, closest),
+        distances,
+    ])
 }
 
 const ONE_RANGE: Panel = Panel {
     top: 8570,
     levels: MILES,
-    alim: None,
+    alim: &[],
     closest: "closest approach: cycle 1, slant range 91200 ft",
     x: 2000,
     y: 9144,
@@ -162,7 +139,7 @@ const ONE_RANGE: Panel = Panel {
 const ONE_HEIGHT: Panel = Panel {
     top: 11970,
     levels: FEET,
-    alim: Some(12545),
+    alim: ALIM,
     closest: "closest approach: cycle 1, vertical distance 300 ft",
     x: 2000,
     y: 13408,
@@ -173,7 +150,7 @@ fn last_range(closest: &'static str) -> Panel {
     Panel {
         top: 8570,
         levels: MILES,
-        alim: None,
+        alim: &[],
         closest,
         x: 17290,
         y: 10007,
@@ -185,7 +162,7 @@ fn last_height(closest: &'static str) -> Panel {
     Panel {
         top: 11970,
         levels: FEET,
-        alim: Some(12545),
+        alim: ALIM,
         closest,
         x: 17290,
         y: 13120,
@@ -194,22 +171,27 @@ fn last_height(closest: &'static str) -> Panel {
 
 // One cycle, 91,200 ft and 300 ft apart. The lines are dots.
 pub fn add_one_cycle(page: &mut Page) -> Result<(), AllocError> {
-    let it = ADDRESSES;
-    page.lines("<g>\n")?;
-    add_panel(page, &ONE_RANGE, it.range, &ONE)?;
-    page.circle((2000, 9144), 40, filled(BLACK), it.range)?;
-    add_panel(page, &ONE_HEIGHT, it.height, &ONE)?;
-    page.circle((2000, 13408), 40, filled(BLACK), it.height)?;
-    page.lines("</g>\n")
+    let Headings { range, height, .. } = ADDRESSES;
+    let far = Circle((2000, 9144), 40, DOT, range);
+    let high = Circle((2000, 13408), 40, DOT, height);
+    page.add(&[Lines("<g>\n")])?;
+    add_panel(page, &ONE_RANGE, range, ONE, far)?;
+    add_panel(page, &ONE_HEIGHT, height, ONE, high)?;
+    page.add(&[Lines("</g>\n")])
 }
 
 // All pictures of 31 cycles have the same distances.
-pub fn add_meeting(page: &mut Page, it: Headings, ticks: &[Tick]) -> Result<(), AllocError> {
-    let paint = drawn(BLACK, 30, "");
-    page.lines("<g>\n")?;
-    add_panel(page, &last_range(it.closest_range), it.range, ticks)?;
-    page.low_polyline(&RANGES, paint, it.range)?;
-    add_panel(page, &last_height(it.closest_height), it.height, ticks)?;
-    page.low_polyline(&HEIGHTS, paint, it.height)?;
-    page.lines("</g>\n")
+pub fn add_meeting(
+    page: &mut Page,
+    it: Headings,
+    ticks: &'static [Tick],
+) -> Result<(), AllocError> {
+    let ranges = Polyline(1, RANGES, DRAWN_30, it.range);
+    let heights = Polyline(1, HEIGHTS, DRAWN_30, it.height);
+    let range = last_range(it.closest_range);
+    let height = last_height(it.closest_height);
+    page.add(&[Lines("<g>\n")])?;
+    add_panel(page, &range, it.range, ticks, ranges)?;
+    add_panel(page, &height, it.height, ticks, heights)?;
+    page.add(&[Lines("</g>\n")])
 }

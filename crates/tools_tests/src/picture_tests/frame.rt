@@ -1,11 +1,13 @@
 // Expected values: as in picture_tests.rt. What stands around the panels: the head, the axis of time, and the legend.
 use super::marks::{
-    BLACK, DOWN, FRAME, GRID, HATCHED, Page, Paint, TRAFFIC, UP, drawn, edged, filled,
+    DASHED_40, DOWN_BAR, DRAWN_30, DRAWN_40, FRAME, HATCHED, Mark, PLAIN, Page, Paint, SMALL,
+    SMALL_BEFORE, TRAFFIC_BAR, Tick, UP_BAR,
 };
+use Mark::{Corners, Line, Lines, Rect, Ticks, Words};
 use std::alloc::AllocError;
 
-const PATTERN: &str =
-    "<desc>The traffic and resolution advisories of each aircraft against time, a row for each aircraft.</desc>
+const PATTERN: &str = "</title>
+<desc>The traffic and resolution advisories of each aircraft against time, a row for each aircraft.</desc>
 <defs>
 <pattern id=\"hatching\" width=\"120\" height=\"120\" patternUnits=\"userSpaceOnUse\" patternTransform=\"rotate(45)\">
 <rect width=\"30\" height=\"120\" fill=\"#FFFFFF\" fill-opacity=\"0.55\">
@@ -14,65 +16,117 @@ const PATTERN: &str =
 <clipPath id=\"window\">
 ";
 
-// What the head says: what is drawn, how many messages were sent, when the nearest pair is nearest, and how far apart
-// it is then.
-#[derive(Clone, Copy)]
-pub struct Head {
-    pub title: &'static str,
-    pub messages: &'static str,
-    pub closest: &'static str,
-    pub apart: &'static str,
-}
+// The heads of the drawings: the first line with the size of the page, what is drawn, the pattern and the window, how
+// many messages were sent, when the nearest pair is nearest, and how far apart it is then.
+const OPENING: Mark = Lines("<svg xmlns=\"http://www.w3.org/2000/svg\" version=\"1.1\" ");
 
-// The words of the head.
-fn add_head_words(page: &mut Page, head: &Head) -> Result<(), AllocError> {
-    page.words(
-        (400, 700),
-        "font-size=\"440\" font-weight=\"bold\" fill=\"#222222\"",
-        "",
-        head.title,
-    )?;
-    page.words(
-        (400, 1150),
-        "font-size=\"280\" fill=\"#222222\"",
-        "",
-        head.messages,
-    )?;
-    page.words(
-        (4000, 1150),
-        "font-size=\"240\" fill=\"#222222\"",
-        "",
-        head.closest,
-    )?;
-    page.words(
+const FONT: Mark = Lines(
+    " font-family=\"Helvetica,Arial,'Liberation Sans','DejaVu Sans',sans-serif\" stroke-linejoin=\"round\">\n<title>",
+);
+
+const DEFINED: Mark = Lines("</clipPath>\n</defs>\n");
+
+const WHITE: Paint = " fill=\"#FFFFFF\"";
+
+const TITLE: Paint = " font-size=\"440\" font-weight=\"bold\" fill=\"#222222\"";
+
+const SENT: Paint = " font-size=\"280\" fill=\"#222222\"";
+
+const OF_TWO_TA: &str = "Encounter of 2 aircraft (0 RA, 2 TA, 0 XPDR), 1 cycles";
+
+const CLOSEST_OF_ONE: &str = "closest as planned: 400A01 and 400B02, cycle 1; the run ends there";
+
+pub const HEAD_OF_ONE_CYCLE: &[Mark] = &[
+    OPENING,
+    Lines("viewBox=\"0 0 20000 26870\" width=\"1000\" height=\"1343\""),
+    FONT,
+    Lines(OF_TWO_TA),
+    Lines(PATTERN),
+    Rect((2000, 5100), (15800, 2020), "", ""),
+    DEFINED,
+    Rect((0, 0), (20000, 26870), WHITE, ""),
+    Lines("<g>\n"),
+    Words((400, 700), TITLE, "", OF_TWO_TA),
+    Words((400, 1150), SENT, "", "0 messages sent"),
+    Words((4000, 1150), SMALL, "", CLOSEST_OF_ONE),
+    Words(
         (19600, 1150),
-        "font-size=\"240\" text-anchor=\"end\" fill=\"#222222\"",
+        SMALL_BEFORE,
         "",
-        head.apart,
-    )
-}
+        "slant range 91200 ft, vertical distance 300 ft",
+    ),
+    Lines("</g>\n"),
+];
 
-// The head: how high the page is in pixels, and what it says.
-pub fn add_head(page: &mut Page, pixels: u32, head: &Head) -> Result<(), AllocError> {
-    let height = page.height();
-    let lanes = page.low(2020);
-    page.opening(pixels)?;
-    page.title(head.title)?;
-    page.lines(PATTERN)?;
-    page.window((2000, 5100), (15800, lanes))?;
-    page.lines("</clipPath>\n</defs>\n")?;
-    page.rect((0, 0), (20000, height), filled("#FFFFFF"), "")?;
-    page.lines("<g>\n")?;
-    add_head_words(page, head)?;
-    page.lines("</g>\n")
-}
+const OF_TWO_RA: &str = "Encounter of 2 aircraft (2 RA, 0 TA, 0 XPDR), 31 cycles";
 
-// A cycle that an axis of time names: where it stands, and its number.
-pub type Tick = (u32, &'static str);
+// All pictures of 31 cycles have the same distances.
+const CLOSEST: &str = "closest as planned: 400A01 and 400B02, cycle 31; the run ends there";
 
-pub const ONE: [Tick; 1] = [(2000, "1")];
+const APART: &str = "slant range 45601 ft, vertical distance 400 ft";
 
-pub const FIFTHS: [Tick; 6] = [
+pub const HEAD_OF_REVERSAL: &[Mark] = &[
+    OPENING,
+    Lines("viewBox=\"0 0 20000 26870\" width=\"1000\" height=\"1343\""),
+    FONT,
+    Lines(OF_TWO_RA),
+    Lines(PATTERN),
+    Rect((2000, 5100), (15800, 2020), "", ""),
+    DEFINED,
+    Rect((0, 0), (20000, 26870), WHITE, ""),
+    Lines("<g>\n"),
+    Words((400, 700), TITLE, "", OF_TWO_RA),
+    Words((400, 1150), SENT, "", "12 messages sent"),
+    Words((4000, 1150), SMALL, "", CLOSEST),
+    Words((19600, 1150), SMALL_BEFORE, "", APART),
+    Lines("</g>\n"),
+];
+
+// With a clock and a name.
+const CLOSEST_OF_LABELLED: &str =
+    "closest as planned: AB-12 and 400B02, 00:00:20; the run ends there";
+
+// The seven marks in the run make the page higher by 2,800.
+pub const HEAD_OF_LABELLED: &[Mark] = &[
+    OPENING,
+    Lines("viewBox=\"0 0 20000 29670\" width=\"1000\" height=\"1483\""),
+    FONT,
+    Lines(OF_TWO_RA),
+    Lines(PATTERN),
+    Rect((2000, 5100), (15800, 2020), "", ""),
+    DEFINED,
+    Rect((0, 0), (20000, 29670), WHITE, ""),
+    Lines("<g>\n"),
+    Words((400, 700), TITLE, "", OF_TWO_RA),
+    Words((400, 1150), SENT, "", "12 messages sent"),
+    Words((4000, 1150), SMALL, "", CLOSEST_OF_LABELLED),
+    Words((19600, 1150), SMALL_BEFORE, "", APART),
+    Lines("</g>\n"),
+];
+
+const OF_ONE_RA: &str = "Encounter of 2 aircraft (1 RA, 0 TA, 1 XPDR), 31 cycles";
+
+// One lane in place of two makes it lower by 960.
+pub const HEAD_OF_TRANSPONDER: &[Mark] = &[
+    OPENING,
+    Lines("viewBox=\"0 0 20000 25910\" width=\"1000\" height=\"1295\""),
+    FONT,
+    Lines(OF_ONE_RA),
+    Lines(PATTERN),
+    Rect((2000, 5100), (15800, 1060), "", ""),
+    DEFINED,
+    Rect((0, 0), (20000, 25910), WHITE, ""),
+    Lines("<g>\n"),
+    Words((400, 700), TITLE, "", OF_ONE_RA),
+    Words((400, 1150), SENT, "", "0 messages sent"),
+    Words((4000, 1150), SMALL, "", CLOSEST),
+    Words((19600, 1150), SMALL_BEFORE, "", APART),
+    Lines("</g>\n"),
+];
+
+pub const ONE: &[Tick] = &[(2000, "1")];
+
+pub const FIFTHS: &[Tick] = &[
     (4038, "5"),
     (6587, "10"),
     (9135, "15"),
@@ -82,7 +136,7 @@ pub const FIFTHS: [Tick; 6] = [
 ];
 
 // Of 31 cycles that begin at 23:59:50.
-pub const TIMES: [Tick; 7] = [
+pub const TIMES: &[Tick] = &[
     (2000, "23:59:50"),
     (4548, "23:59:55"),
     (7096, "00:00:00"),
@@ -92,110 +146,65 @@ pub const TIMES: [Tick; 7] = [
     (17290, "00:00:20"),
 ];
 
-// Lines for these cycles through a panel, and their numbers below it.
-pub fn add_ticks(
+// The axis of time below the lanes, which are so high: its ticks, and what it is called.
+pub fn add_time(
     page: &mut Page,
-    ticks: &[Tick],
-    top: u32,
-    foot: u32,
-    style: &str,
+    lanes: u32,
+    ticks: &'static [Tick],
+    name: &'static str,
 ) -> Result<(), AllocError> {
-    for place in 0..ticks.len() {
-        let (x, number) = ticks[place];
-        page.line((x, top), (x, foot), GRID, "")?;
-        page.words((x, foot.saturating_add(300)), style, "", number)?;
-    }
-    Ok(())
+    let style = " font-size=\"260\" text-anchor=\"middle\" fill=\"#222222\"";
+    page.add(&[
+        Lines("<g>\n"),
+        Ticks(ticks, 1500, 7220, style),
+        Rect((2000, 5100), (15800, lanes), FRAME, ""),
+        Words((9900, 7900), style, "", name),
+        Lines("</g>\n"),
+    ])
 }
 
-// The axis of time below the lanes: its ticks, and what it is called.
-pub fn add_time(page: &mut Page, ticks: &[Tick], name: &str) -> Result<(), AllocError> {
-    let style = "font-size=\"260\" text-anchor=\"middle\" fill=\"#222222\"";
-    let lanes = page.low(2020);
-    let foot = page.low(7220);
-    let below = page.low(7900);
-    page.lines("<g>\n")?;
-    add_ticks(page, ticks, 1500, foot, style)?;
-    page.rect((2000, 5100), (15800, lanes), FRAME, "")?;
-    page.words((9900, below), style, "", name)?;
-    page.lines("</g>\n")
-}
+const BOTH: Paint = " fill=\"#F3E6F1\" stroke=\"#8E4585\" stroke-width=\"50\"";
 
-// A bar of the legend.
-fn add_sample(page: &mut Page, x: u32, paint: Paint) -> Result<(), AllocError> {
-    let y = page.low(24770);
-    page.rect((x, y), (700, 280), paint, "")
-}
-
-// A line that ends in a cross.
-fn add_lost_sample(page: &mut Page) -> Result<(), AllocError> {
-    let stroke = drawn(BLACK, 40, "");
-    let top = page.low(24780);
-    let middle = page.low(24913);
-    let high = page.low(24843);
-    let low = page.low(24983);
-    page.line((14900, top), (14900, middle), stroke, "")?;
-    page.line((14830, high), (14970, low), stroke, "")?;
-    page.line((14830, low), (14970, high), stroke, "")
-}
-
-// A line of dashes that ends in a hollow head.
-fn add_spoilt_sample(page: &mut Page) -> Result<(), AllocError> {
-    let top = page.low(24710);
-    let neck = page.low(24930);
-    let tip = page.low(25110);
-    page.line((16800, top), (16800, neck), drawn(BLACK, 40, "100 70"), "")?;
-    page.corners(
-        [(16710, neck), (16890, neck), (16800, tip)],
-        drawn(BLACK, 30, ""),
+// A lost message is a line that ends in a cross. A spoilt one is a line of dashes that ends in a hollow head.
+pub const LEGEND: &[Mark] = &[
+    Lines("<g>\n"),
+    Rect((2000, 24770), (700, 280), TRAFFIC_BAR, ""),
+    Words((2850, 25000), PLAIN, "", "traffic"),
+    Rect((5200, 24770), (700, 280), UP_BAR, ""),
+    Words((6050, 25000), PLAIN, "", "up"),
+    Rect((8400, 24770), (700, 280), DOWN_BAR, ""),
+    Rect((8400, 24770), (700, 280), HATCHED, ""),
+    Words((9250, 25000), PLAIN, "", "down"),
+    Rect((11600, 24770), (700, 280), BOTH, ""),
+    Words((12450, 25000), PLAIN, "", "up and down"),
+    Line((14900, 24780), (14900, 24913), DRAWN_40, ""),
+    Line((14830, 24843), (14970, 24983), DRAWN_40, ""),
+    Line((14830, 24983), (14970, 24843), DRAWN_40, ""),
+    Words((15100, 25000), PLAIN, "", "lost"),
+    Line((16800, 24710), (16800, 24930), DASHED_40, ""),
+    Corners(
+        [(16710, 24930), (16890, 24930), (16800, 25110)],
+        DRAWN_30,
         "",
-    )
-}
-
-// Words of the legend.
-fn add_remark(page: &mut Page, x: u32, y: u32, words: &str) -> Result<(), AllocError> {
-    let y = page.low(y);
-    page.words((x, y), "font-size=\"260\" fill=\"#222222\"", "", words)
-}
-
-pub fn add_legend(page: &mut Page) -> Result<(), AllocError> {
-    page.lines("<g>\n")?;
-    add_sample(page, 2000, edged(TRAFFIC, BLACK, 12))?;
-    add_remark(page, 2850, 25000, "traffic")?;
-    add_sample(page, 5200, edged(UP, BLACK, 12))?;
-    add_remark(page, 6050, 25000, "up")?;
-    add_sample(page, 8400, edged(DOWN, BLACK, 12))?;
-    add_sample(page, 8400, HATCHED)?;
-    add_remark(page, 9250, 25000, "down")?;
-    add_sample(page, 11600, edged("#F3E6F1", "#8E4585", 50))?;
-    add_remark(page, 12450, 25000, "up and down")?;
-    add_lost_sample(page)?;
-    add_remark(page, 15100, 25000, "lost")?;
-    add_spoilt_sample(page)?;
-    add_remark(page, 17000, 25000, "spoilt")?;
-    add_remark(
-        page,
-        2000,
-        25470,
+    ),
+    Words((17000, 25000), PLAIN, "", "spoilt"),
+    Words(
+        (2000, 25470),
+        PLAIN,
+        "",
         "A tall bar: corrective advice. A low bar: preventive advice, or traffic alone.",
-    )?;
-    add_remark(
-        page,
-        2000,
-        25820,
-        "An arrow: a message that changes what is in force, in the colour of the sense that it leaves.",
-    )?;
-    add_remark(
-        page,
-        2000,
-        26170,
-        "A band above a line: up. Below it: down. Half as high: preventive advice. A stripe: traffic.",
-    )?;
-    add_remark(
-        page,
-        2000,
-        26520,
-        "A dotted green line: the flight with the modelled response, where it isn't the planned one.",
-    )?;
-    page.lines("</g>\n")
-}
+    ),
+    Words((2000, 25820), PLAIN, "", ARROW),
+    Words((2000, 26170), PLAIN, "", BAND),
+    Words((2000, 26520), PLAIN, "", DOTTED),
+    Lines("</g>\n"),
+];
+
+const ARROW: &str =
+    "An arrow: a message that changes what is in force, in the colour of the sense that it leaves.";
+
+const BAND: &str =
+    "A band above a line: up. Below it: down. Half as high: preventive advice. A stripe: traffic.";
+
+const DOTTED: &str =
+    "A dotted green line: the flight with the modelled response, where it isn't the planned one.";

@@ -1,82 +1,60 @@
 // Expected values: as in picture_tests.rt. The arrows between the two lanes, for the messages that change what is in
-// force.
-use super::marks::{DOWN, Page, UP, drawn, edged};
-use std::alloc::AllocError;
+// force, in the colour of the sense that the message leaves: the line to where the head begins, and the head.
+use super::marks::{Mark, Paint};
+use Mark::{Corners, Line, Lines};
 
-// An arrow at a place, in the colour of the sense that the message leaves: from where it is sent to where its head
-// begins, and its tip.
-fn add_arrow(
-    page: &mut Page,
-    x: u32,
-    ys: [u32; 3],
-    colour: &'static str,
-    title: &str,
-) -> Result<(), AllocError> {
-    let [from, head, tip] = ys;
-    let corners = [
-        (x.saturating_sub(90), head),
-        (x.saturating_add(90), head),
-        (x, tip),
-    ];
-    page.line((x, from), (x, head), drawn(colour, 40, ""), title)?;
-    page.corners(corners, edged(colour, colour, 30), title)
-}
+const UP: Paint = " fill=\"none\" stroke=\"#0072B2\" stroke-width=\"40\"";
 
-// From the first lane to the second one, and from the second one to the first one.
-fn add_down_to_second(
-    page: &mut Page,
-    x: u32,
-    colour: &'static str,
-    title: &str,
-) -> Result<(), AllocError> {
-    add_arrow(page, x, [5700, 6080, 6260], colour, title)
-}
+const UP_HEAD: Paint = " fill=\"#0072B2\" stroke=\"#0072B2\" stroke-width=\"30\"";
 
-fn add_up_to_first(
-    page: &mut Page,
-    x: u32,
-    colour: &'static str,
-    title: &str,
-) -> Result<(), AllocError> {
-    add_arrow(page, x, [6260, 5880, 5700], colour, title)
-}
+const DOWN: Paint = " fill=\"none\" stroke=\"#D55E00\" stroke-width=\"40\"";
 
-pub fn add_none(page: &mut Page) -> Result<(), AllocError> {
-    page.lines("<g>\n</g>\n")
-}
+const DOWN_HEAD: Paint = " fill=\"#D55E00\" stroke=\"#D55E00\" stroke-width=\"30\"";
+
+pub const NONE: &[Mark] = &[Lines("<g>\n</g>\n")];
 
 // Each forbids the other one to go up, and they tell each other of each turn and reversal that follows.
-pub fn add_reversal(page: &mut Page) -> Result<(), AllocError> {
-    page.lines("<g>\n")?;
-    add_up_to_first(
-        page,
-        15066,
-        DOWN,
-        "message 1 of 400B02 to 400A01, cycles 26 and 26, positions 53 and 54",
-    )?;
-    add_down_to_second(
-        page,
-        14926,
-        DOWN,
-        "message 1 of 400A01 to 400B02, cycles 26 and 26, positions 52 and 55",
-    )?;
-    add_up_to_first(
-        page,
-        15576,
-        UP,
-        "message 2 of 400B02 to 400A01, cycles 27 and 27, positions 59 and 60",
-    )?;
-    add_down_to_second(
-        page,
-        15945,
-        UP,
-        "message 3 of 400A01 to 400B02, cycles 28 and 28, positions 64 and 67",
-    )?;
-    add_up_to_first(
-        page,
-        16595,
-        DOWN,
-        "message 4 of 400B02 to 400A01, cycles 29 and 29, positions 71 and 72",
-    )?;
-    page.lines("</g>\n")
-}
+const FIRST_BACK: &str = "message 1 of 400B02 to 400A01, cycles 26 and 26, positions 53 and 54";
+
+const FIRST: &str = "message 1 of 400A01 to 400B02, cycles 26 and 26, positions 52 and 55";
+
+const SECOND_BACK: &str = "message 2 of 400B02 to 400A01, cycles 27 and 27, positions 59 and 60";
+
+const THIRD: &str = "message 3 of 400A01 to 400B02, cycles 28 and 28, positions 64 and 67";
+
+const FOURTH_BACK: &str = "message 4 of 400B02 to 400A01, cycles 29 and 29, positions 71 and 72";
+
+pub const OF_REVERSAL: &[Mark] = &[
+    Lines("<g>\n"),
+    Line((15066, 6260), (15066, 5880), DOWN, FIRST_BACK),
+    Corners(
+        [(14976, 5880), (15156, 5880), (15066, 5700)],
+        DOWN_HEAD,
+        FIRST_BACK,
+    ),
+    Line((14926, 5700), (14926, 6080), DOWN, FIRST),
+    Corners(
+        [(14836, 6080), (15016, 6080), (14926, 6260)],
+        DOWN_HEAD,
+        FIRST,
+    ),
+    Line((15576, 6260), (15576, 5880), UP, SECOND_BACK),
+    Corners(
+        [(15486, 5880), (15666, 5880), (15576, 5700)],
+        UP_HEAD,
+        SECOND_BACK,
+    ),
+    Line((15945, 5700), (15945, 6080), UP, THIRD),
+    Corners(
+        [(15855, 6080), (16035, 6080), (15945, 6260)],
+        UP_HEAD,
+        THIRD,
+    ),
+    Line((16595, 6260), (16595, 5880), DOWN, FOURTH_BACK),
+    Corners(
+        [(16505, 5880), (16685, 5880), (16595, 5700)],
+        DOWN_HEAD,
+        FOURTH_BACK,
+    ),
+    Lines("</g>\n"),
+];

@@ -1,133 +1,167 @@
-// Expected values: by hand, from "The picture" in docs/FORMATS.md. Two aircraft meet as in examples/same-altitude.enc, and
-// send each other six messages, in cycles 26 to 31. The marks of those that were lost or spoilt.
-ghost use Rattle.std.specs.Prelude.{IfOk};
-ghost use Rattle.flight.specs.Inside.{IsInside};
-
-use super::marks::{BLACK, Page, drawn};
+// Expected values: by hand, from "The picture" in docs/FORMATS.md. Two aircraft meet as in examples/same-altitude.enc,
+// and send each other six messages, in cycles 26 to 31. The marks of those that were lost or spoilt. A lost row is a line of
+// a third of the way to the other lane, with a cross at its end, and how many messages it has where these are several.
+use super::marks::{DASHED_40, DRAWN_30, DRAWN_40, Mark, Page};
 use super::pictured;
-use acas_base::{CopyPlan, Encounter, Fate};
+use crate::serial_runs::{DAMAGED, LEVEL, LOST};
+use Mark::{Corners, Line, Lines, Over};
+use acas_base::{CopyPlan, Fate};
+use acas_io::Sink;
 use std::alloc::{AllocError, Global};
 use std::test::Fail;
-use test_encounters::{PLAIN, aircraft, encounter, fate, leg};
 
-// Two aircraft that fly towards each other at one altitude, and what becomes of their messages.
-fn meeting(alloc: Global, fates: &[Fate]) -> Result<Encounter, Fail>
-    ensures { IfOk result IsInside }
-{
-    let crafts = [
-        aircraft(0x40_0A01, 0, 35_000)?,
-        aircraft(0x40_0B02, 91_200, 35_000)?,
-    ];
-    let legs = [leg(0, 1, 760, 0), leg(1, 1, -760, 0)];
-    encounter(alloc, 31, None, &crafts, &legs, &[], fates)
-}
+// A message of the second aircraft without copies.
+const LOST_BACK: Fate = Fate {
+    sender: 1,
+    receiver: 0,
+    ..LOST
+};
 
-// A message of the first aircraft without copies, and one of the second aircraft.
-fn lost(number: u16) -> Fate {
-    fate(number, 0, PLAIN, PLAIN)
-}
+// Of examples/lost-messages.enc. The marks of the first aircraft are below its lane.
+const THREE_LOST: &str = "messages 1 to 3 of 400A01 to 400B02 lost, cycle 26";
 
-fn lost_back(number: u16) -> Fate {
-    Fate {
-        sender: 1,
-        receiver: 0,
-        ..lost(number)
-    }
-}
-
-// How many messages a row has, written in the middle of a place.
-fn add_count(page: &mut Page, at: (u32, u32), count: &str, title: &str) -> Result<(), AllocError> {
-    page.words(
-        at,
-        "font-size=\"220\" text-anchor=\"middle\" fill=\"#FFFFFF\" stroke=\"#FFFFFF\" stroke-width=\"70\"",
-        title,
-        count,
-    )?;
-    page.words(
-        at,
-        "font-size=\"220\" text-anchor=\"middle\" fill=\"#222222\"",
-        title,
-        count,
-    )
-}
-
-// A line of a third of the way to the other lane, and the cross at its end.
-fn add_cross(page: &mut Page, from: (u32, u32), y: u32, title: &str) -> Result<(), AllocError> {
-    let stroke = drawn(BLACK, 40, "");
-    let left = from.0.saturating_sub(70);
-    let right = from.0.saturating_add(70);
-    let high = y.saturating_sub(70);
-    let low = y.saturating_add(70);
-    page.line(from, (from.0, y), stroke, title)?;
-    page.line((left, high), (right, low), stroke, title)?;
-    page.line((left, low), (right, high), stroke, title)
-}
-
-// Of the first aircraft, below its lane.
-fn add_first(page: &mut Page, x: u32, title: &str) -> Result<(), AllocError> {
-    add_cross(page, (x, 5700), 5886, title)
-}
-
-// Of examples/lost-messages.enc.
-fn three(alloc: Global) -> Result<Page, AllocError> {
-    let title = "messages 1 to 3 of 400A01 to 400B02 lost, cycle 26";
-    let mut page = Page::new(alloc, 0);
-    add_first(&mut page, 14926, title)?;
-    add_count(&mut page, (14646, 5966), "3", title)?;
-    page.lines("</g>\n")?;
-    Ok(page)
-}
+const THREE: &[Mark] = &[
+    Line((14926, 5700), (14926, 5886), DRAWN_40, THREE_LOST),
+    Line((14856, 5816), (14996, 5956), DRAWN_40, THREE_LOST),
+    Line((14856, 5956), (14996, 5816), DRAWN_40, THREE_LOST),
+    Over(220, (14646, 5966), THREE_LOST, "3"),
+    Lines("</g>\n"),
+];
 
 // Every odd message.
-fn odd(alloc: Global) -> Result<Page, AllocError> {
-    let mut page = Page::new(alloc, 0);
-    add_first(
-        &mut page,
-        14926,
-        "message 1 of 400A01 to 400B02 lost, cycle 26",
-    )?;
-    add_first(
-        &mut page,
-        15945,
-        "message 3 of 400A01 to 400B02 lost, cycle 28",
-    )?;
-    add_first(
-        &mut page,
-        16965,
-        "message 5 of 400A01 to 400B02 lost, cycle 30",
-    )?;
-    page.lines("</g>\n")?;
-    Ok(page)
-}
+const FIRST_LOST: &str = "message 1 of 400A01 to 400B02 lost, cycle 26";
+
+const THIRD_LOST: &str = "message 3 of 400A01 to 400B02 lost, cycle 28";
+
+const FIFTH_LOST: &str = "message 5 of 400A01 to 400B02 lost, cycle 30";
+
+const ODD: &[Mark] = &[
+    Line((14926, 5700), (14926, 5886), DRAWN_40, FIRST_LOST),
+    Line((14856, 5816), (14996, 5956), DRAWN_40, FIRST_LOST),
+    Line((14856, 5956), (14996, 5816), DRAWN_40, FIRST_LOST),
+    Line((15945, 5700), (15945, 5886), DRAWN_40, THIRD_LOST),
+    Line((15875, 5816), (16015, 5956), DRAWN_40, THIRD_LOST),
+    Line((15875, 5956), (16015, 5816), DRAWN_40, THIRD_LOST),
+    Line((16965, 5700), (16965, 5886), DRAWN_40, FIFTH_LOST),
+    Line((16895, 5816), (17035, 5956), DRAWN_40, FIFTH_LOST),
+    Line((16895, 5956), (17035, 5816), DRAWN_40, FIFTH_LOST),
+    Lines("</g>\n"),
+];
 
 // The last five messages of the second aircraft, above its lane.
-fn last_five(alloc: Global) -> Result<Page, AllocError> {
-    let title = "messages 2 to 6 of 400B02 to 400A01 lost, cycle 27";
-    let mut page = Page::new(alloc, 0);
-    add_cross(&mut page, (15576, 6260), 6074, title)?;
-    add_count(&mut page, (15856, 6154), "5", title)?;
-    page.lines("</g>\n")?;
-    Ok(page)
-}
+const FIVE_LOST: &str = "messages 2 to 6 of 400B02 to 400A01 lost, cycle 27";
+
+const LAST_FIVE: &[Mark] = &[
+    Line((15576, 6260), (15576, 6074), DRAWN_40, FIVE_LOST),
+    Line((15506, 6004), (15646, 6144), DRAWN_40, FIVE_LOST),
+    Line((15506, 6144), (15646, 6004), DRAWN_40, FIVE_LOST),
+    Over(220, (15856, 6154), FIVE_LOST, "5"),
+    Lines("</g>\n"),
+];
 
 // Of examples/damaged-message.enc.
-fn damaged(alloc: Global) -> Result<Page, AllocError> {
-    let title = "message 1 of 400A01 to 400B02 spoilt, cycle 26";
-    let mut page = Page::new(alloc, 0);
-    page.line(
-        (14926, 5700),
-        (14926, 6080),
-        drawn(BLACK, 40, "100 70"),
-        title,
-    )?;
-    page.corners(
+const SPOILT: &str = "message 1 of 400A01 to 400B02 spoilt, cycle 26";
+
+const ONE_SPOILT: &[Mark] = &[
+    Line((14926, 5700), (14926, 6080), DASHED_40, SPOILT),
+    Corners(
         [(14836, 6080), (15016, 6080), (14926, 6260)],
-        drawn(BLACK, 30, ""),
-        title,
-    )?;
-    page.lines("</g>\n")?;
-    Ok(page)
-}
+        DRAWN_30,
+        SPOILT,
+    ),
+    Lines("</g>\n"),
+];
+
+const LATE: CopyPlan = CopyPlan { hold: 2, mask: 0 };
+
+// What becomes of the messages, the marks at the end of the messages where there are some, and how many marks have
+// titles of lost and of spoilt messages.
+type Row = (&'static [Fate], &'static [Mark], usize, usize);
+
+pub const MARKED: &[Row] = &[
+    (
+        &[LOST, Fate { number: 2, ..LOST }, Fate { number: 3, ..LOST }],
+        THREE,
+        5,
+        0,
+    ),
+    (
+        &[LOST, Fate { number: 3, ..LOST }, Fate { number: 5, ..LOST }],
+        ODD,
+        9,
+        0,
+    ),
+    (
+        &[
+            Fate {
+                number: 2,
+                ..LOST_BACK
+            },
+            Fate {
+                number: 3,
+                ..LOST_BACK
+            },
+            Fate {
+                number: 4,
+                ..LOST_BACK
+            },
+            Fate {
+                number: 5,
+                ..LOST_BACK
+            },
+            Fate {
+                number: 6,
+                ..LOST_BACK
+            },
+        ],
+        LAST_FIVE,
+        5,
+        0,
+    ),
+    (
+        &[Fate {
+            copies: 1,
+            first: DAMAGED,
+            ..LOST
+        }],
+        ONE_SPOILT,
+        0,
+        2,
+    ),
+    // A message that is held back, one of which a copy is spoilt and another one good, and one without a take have no
+    // mark.
+    (
+        &[Fate {
+            copies: 2,
+            first: LATE,
+            ..LOST
+        }],
+        &[],
+        0,
+        0,
+    ),
+    (
+        &[Fate {
+            copies: 2,
+            first: DAMAGED,
+            ..LOST
+        }],
+        &[],
+        0,
+        0,
+    ),
+    (
+        &[Fate {
+            number: 6,
+            copies: 1,
+            first: LATE,
+            ..LOST
+        }],
+        &[],
+        0,
+        0,
+    ),
+];
 
 // In how many places a piece stands in a text.
 fn count_of(text: &[u8], piece: &[u8]) -> usize {
@@ -140,58 +174,32 @@ fn count_of(text: &[u8], piece: &[u8]) -> usize {
     count
 }
 
-// Whether the picture has these marks at the end of its messages, and titles of so many marks of lost and of spoilt
-// messages.
-fn has(
-    alloc: Global,
-    fates: &[Fate],
-    marks: &[u8],
-    lost: usize,
-    spoilt: usize,
-) -> Result<bool, Fail> {
-    let text = pictured(alloc, &meeting(alloc, fates)?)?;
-    Ok(
-        count_of(&text, marks) == 1
-            && count_of(&text, b" lost, cycle ") == lost
-            && count_of(&text, b" spoilt, cycle ") == spoilt,
-    )
+// Whether these marks stand once in a text.
+fn stand_once(alloc: Global, text: &[u8], marks: &[Mark]) -> Result<bool, AllocError> {
+    let mut page = Page::new(alloc, 0);
+    page.add(marks)?;
+    Ok(count_of(text, page.bytes()) == 1)
 }
 
-// Whether the picture has no such mark.
-fn has_none(alloc: Global, fates: &[Fate]) -> Result<bool, Fail> {
-    let text = pictured(alloc, &meeting(alloc, fates)?)?;
-    Ok(count_of(&text, b" lost, cycle ") == 0 && count_of(&text, b" spoilt, cycle ") == 0)
+fn is_marked(alloc: Global, text: &[u8], row: &Row) -> Result<bool, AllocError> {
+    let (_, marks, lost, spoilt) = *row;
+    if count_of(text, b" lost, cycle ") != lost || count_of(text, b" spoilt, cycle ") != spoilt {
+        return Ok(false);
+    }
+    Ok(marks.is_empty() || stand_once(alloc, text, marks)?)
 }
 
-pub fn marks_lost_rows(alloc: Global) -> Result<bool, Fail> {
-    let front = [lost(1), lost(2), lost(3)];
-    let apart = [lost(1), lost(3), lost(5)];
-    let back = [
-        lost_back(2),
-        lost_back(3),
-        lost_back(4),
-        lost_back(5),
-        lost_back(6),
-    ];
-    Ok(
-        has(alloc, &front, three(alloc)?.bytes(), 5, 0)?
-            && has(alloc, &apart, odd(alloc)?.bytes(), 9, 0)?
-            && has(alloc, &back, last_five(alloc)?.bytes(), 5, 0)?,
-    )
+fn is_pictured(alloc: Global, row: &Row) -> Result<bool, Fail> {
+    let sink = pictured(alloc, &LEVEL, row.0, &[])?;
+    Ok(is_marked(alloc, sink.bytes(), row)?)
 }
 
-pub fn marks_spoilt_rows(alloc: Global) -> Result<bool, Fail> {
-    let mask = CopyPlan { hold: 0, mask: 7 };
-    let spoilt = [fate(1, 1, mask, PLAIN)];
-    has(alloc, &spoilt, damaged(alloc)?.bytes(), 0, 2)
-}
-
-// A message that is held back, one of which a copy is spoilt and another one good, and one without a take have no mark.
-pub fn marks_nothing_else(alloc: Global) -> Result<bool, Fail> {
-    let late = CopyPlan { hold: 2, mask: 0 };
-    let mask = CopyPlan { hold: 0, mask: 7 };
-    let held = [fate(1, 2, late, PLAIN)];
-    let once = [fate(1, 2, mask, PLAIN)];
-    let after_all = [fate(6, 1, late, PLAIN)];
-    Ok(has_none(alloc, &held)? && has_none(alloc, &once)? && has_none(alloc, &after_all)?)
+// The place of the first row that is marked otherwise.
+pub fn first_other(alloc: Global, rows: &[Row]) -> Result<Option<usize>, Fail> {
+    for place in 0..rows.len() {
+        if !is_pictured(alloc, &rows[place])? {
+            return Ok(Some(place));
+        }
+    }
+    Ok(None)
 }
