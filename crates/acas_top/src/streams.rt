@@ -55,7 +55,8 @@ pub(crate) fn put_answer<K: Sink>(answer: Answer, sink: &mut K) -> Status
     ensures { WasPut result (answer_status answer) (answer_text answer) (K.written sink.old) (K.written sink.new) (K.faults sink.old) (K.faults sink.new) }
 {
     let status = status_after(answer.status(), write_text(&answer, sink));
-    // For the proof: here the answer would be dropped case by case, down to the last list. A call drops it as one value.
+    // For the proof: without this call the answer is dropped case by case, down to the last list. The call drops it as
+    // one value.
     drop(answer);
     status
 }

@@ -1,5 +1,5 @@
-// Expected values: by hand from "The picture" in docs/FORMATS.md, and the calls from examples/reversal.md. The panels of
-// the pair begin at 8070, the seconds at 14870, and the plan and the list at 17970.
+// Expected values: by hand from "The picture" in docs/FORMATS.md, and the calls from examples/reversal.md. The panels
+// of the pair begin at 8070, the seconds at 14870, and the plan and the list at 17970.
 
 // Of examples/reversal.enc. From west to east the aircraft come 91,200 ft, so the box of the plan shows 102,148 ft to
 // the east of -5,474, and 76,611 ft to the north of -38,305.

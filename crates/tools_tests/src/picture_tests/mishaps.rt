@@ -1,6 +1,7 @@
 // Expected values: by hand, from "The picture" in docs/FORMATS.md. Two aircraft meet as in examples/same-altitude.enc,
-// and send each other six messages, in cycles 26 to 31. The marks of those that were lost or spoilt. A lost row is a line of
-// a third of the way to the other lane, with a cross at its end, and how many messages it has where these are several.
+// and send each other six messages, in cycles 26 to 31. The marks of those that were lost or spoilt. A lost row is a
+// line of a third of the way to the other lane, with a cross at its end, and how many messages it has where these are
+// several.
 use super::marks::{DASHED_40, DRAWN_30, DRAWN_40, Mark, Page};
 use super::pictured;
 use crate::serial_runs::{DAMAGED, LEVEL, LOST};
