@@ -129,18 +129,11 @@ fn add_copies(line: &mut Line, copies: u8, first: CopyPlan, second: CopyPlan, th
     ensures added { line.new ≡ line.old ++ flat_map (λ field. 44 ∷ field) (copies_fields copies first second third) }
     ensures short { length line.new ≤ length line.old + 27 }
 {
-    if copies == 0 {
-        return;
+    let plans = [first, second, third];
+    let count = usize::from(copies).min(3);
+    for copy in &plans[..count] {
+        add_copy(line, *copy);
     }
-    add_copy(line, first);
-    if copies == 1 {
-        return;
-    }
-    add_copy(line, second);
-    if copies == 2 {
-        return;
-    }
-    add_copy(line, third);
 }
 
 pub(crate) fn spell_plan(line: &mut Line, crafts: &[CraftSpec], plan: &LinkPlan)
