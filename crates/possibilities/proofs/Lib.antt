@@ -1,0 +1,4 @@
+mod Sets
+mod Steps
+mod Told
+mod Never

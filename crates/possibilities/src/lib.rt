@@ -1,0 +1,10 @@
+//! Everything that an encounter's aircraft can advise: which words each of them can have in each cycle, over all orders
+//! of their steps, and where losses are asked about, over all patterns of lost messages besides.
+#![tactic(auto)]
+
+mod laws;
+mod word;
+mod words;
+
+pub use laws::never_law;
+pub use word::{ALL_WORDS, WORDS, Word};
