@@ -3,8 +3,15 @@
 #![tactic(auto)]
 
 mod laws;
+mod listing;
+mod mark;
+mod marked;
+mod possibilities;
+mod rows;
 mod word;
 mod words;
 
 pub use laws::never_law;
+pub use possibilities::Possibilities;
+pub use rows::Stop;
 pub use word::{ALL_WORDS, WORDS, Word};
