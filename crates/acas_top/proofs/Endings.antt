@@ -22,7 +22,8 @@ use Rattle.acas_top.specs.declared.words.Limit.TheVariants as limits
 use Rattle.acas_top.specs.Commands.{Command}
 use Rattle.acas_top.specs.Commands as commands
 use Rattle.acas_top.specs.declared.words.Page.TheVariants.{Help, Version}
-use Rattle.acas_top.specs.declared.words.Plain.TheVariants.{Audit, Compare, Decode, Explain, Gen, Many, Resume, Serial, Show, Sweep, Tell, Tracks, Vary}
+use Rattle.pair_ways.specs.declared.scope.Scope.TheVariants.{Losses, Orders}
+use Rattle.acas_top.specs.declared.words.Plain.TheVariants.{Audit, Compare, Decode, Explain, Gen, Many, Possible, Resume, Serial, Show, Sweep, Tell, Tracks, Vary}
 use Rattle.acas_top.specs.declared.words.Threaded.{Threaded}
 use Rattle.acas_top.specs.declared.words.Threaded.TheVariants.{Play, Sum}
 use Rattle.acas_top.specs.declared.words.Tool.TheVariants.{Messages, Picture, Places, Reports, Response, Summary, Watch, Why}
@@ -56,6 +57,8 @@ limit-by words =
     else if begins-with (codes "sum") words then Some limits.Encounter
     else if begins-with (codes "fly") words then Some limits.Encounter
     else if begins-with (codes "vary") words then Some limits.Encounter
+    else if begins-with (codes "orders") words then Some limits.Encounter
+    else if begins-with (codes "losses") words then Some limits.Encounter
     else if begins-with (codes "explain") words then Some limits.Either
     else Some limits.Recording
 
@@ -75,6 +78,8 @@ limit-said words (commands.OfPlain (Sweep number count crafts cycles)) said = sy
 limit-said words (commands.OfPlain Resume) said = sym (ap limit-by said)
 limit-said words (commands.OfPlain Tracks) said = sym (ap limit-by said)
 limit-said words (commands.OfPlain (Vary variation)) said = sym (ap limit-by said)
+limit-said words (commands.OfPlain (Possible Orders)) said = sym (ap limit-by said)
+limit-said words (commands.OfPlain (Possible Losses)) said = sym (ap limit-by said)
 limit-said words (commands.OfPlain Compare) said = sym (ap limit-by said)
 limit-said words (commands.OfPlain Many) said = sym (ap limit-by said)
 limit-said words (commands.OfPlain (Decode word)) said = sym (ap limit-by said)
@@ -107,6 +112,8 @@ only-serial words bytes text (commands.OfPlain (Show Help)) (inl said) also play
 only-serial words bytes text (commands.OfPlain (Show Help)) (inr (inl said)) also plays = absurd (clash (codes "serial") words _ _ said also refl refl)
 only-serial words bytes text (commands.OfPlain (Show Help)) (inr (inr said)) also plays = absurd (clash (codes "serial") words _ _ said also refl refl)
 only-serial words bytes text (commands.OfPlain (Show Version)) said also plays = absurd (clash (codes "serial") words _ _ said also refl refl)
+only-serial words bytes text (commands.OfPlain (Possible Orders)) said also plays = absurd (clash (codes "serial") words _ _ said also refl refl)
+only-serial words bytes text (commands.OfPlain (Possible Losses)) said also plays = absurd (clash (codes "serial") words _ _ said also refl refl)
 only-serial words bytes text (commands.OfPlain plain) said also plays = absurd (clash (codes "serial") words _ _ said also refl refl)
 only-serial words bytes text (commands.OfFlight names) said also plays = absurd (clash (codes "serial") words _ _ said.is also refl refl)
 only-serial words bytes text (commands.OfPicture labels) said also plays = absurd (clash (codes "serial") words _ _ said.is also refl refl)

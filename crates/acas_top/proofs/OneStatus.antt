@@ -6,6 +6,7 @@ use Rattle.acas_top.specs.declared.explaining.Subject.TheVariants as subjects
 use Rattle.acas_top.specs.Answers.{Answers, AnswersPlain, Imports, IsFaulty, IsLegal, IsRight, IsWrong, IsWrongPair, IsWrongPart, IsWrongRecording, Plays, RefusesTracks, Resumes, Runs, read_as}
 use Rattle.acas_top.specs.Flying.{AnswersFlight, Flies, IsNotFlown, named_in, unnamed_in}
 use Rattle.acas_top.specs.Many.{HasManyMore, TellsMany}
+use Rattle.acas_top.specs.Possible.{IsNotListed, Lists}
 use Rattle.acas_top.specs.Refusing.{Refuses}
 use Rattle.acas_top.specs.Varying.{IsNotVaried, Varies, changes_of, unknown_in}
 use Rattle.air_journal.specs.Airs.{air_of}
@@ -15,7 +16,9 @@ use Rattle.air_rules.specs.Serial.{IsSerial}
 use Rattle.variation_words.specs.declared.variation.Variation.{Variation}
 use Rattle.enc_file.specs.Reading.{Says}
 use Rattle.followed_advice.specs.Following.{Follows, Leaves}
+use Rattle.pair_ways.specs.declared.scope.Scope.{Scope}
 use Rattle.pieces.specs.Pieces.{AreCut}
+use Rattle.possibilities.specs.Rows.{IsPastBound}
 use Rattle.acas_top.specs.Comparing.{Compares, IsWrongOfTwo, in_first, in_second}
 use Rattle.air_journal.specs.States.{State}
 use Rattle.comparison.specs.Splitting.{IsSplit}
@@ -30,7 +33,7 @@ use Rattle.acas_top.specs.declared.status.Status.TheVariants.{Done, Refused, Wro
 use Rattle.acas_top.specs.Commands.{Command}
 use Rattle.acas_top.specs.Commands as commands
 use Rattle.acas_top.specs.declared.words.Plain.{Plain}
-use Rattle.acas_top.specs.declared.words.Plain.TheVariants.{Audit, Compare, Decode, Explain, Gen, Many, Resume, Serial, Show, Sweep, Tell, Tracks, Vary}
+use Rattle.acas_top.specs.declared.words.Plain.TheVariants.{Audit, Compare, Decode, Explain, Gen, Many, Possible, Resume, Serial, Show, Sweep, Tell, Tracks, Vary}
 use Rattle.acas_top.specs.declared.words.Threaded.{Threaded}
 use Rattle.acas_top.specs.declared.words.Threaded.TheVariants.{Play, Sum}
 use Rattle.acas_base.specs.Encounter.{Parts}
@@ -275,6 +278,25 @@ one-variation law variation bytes text other Refused Refused is other_is = refl
 one-variation law variation bytes text other Refused also is other_is = absurd other_is
 one-variation law variation bytes text other status also is other_is = absurd is
 
+-- ---- `orders` and `losses`
+
+-- Where something is listed, no two aircraft have more states than the search keeps.
+not-unlisted : (scope : Scope) (bytes text other : List ℕ) → Lists scope bytes text → IsNotListed scope bytes other → ⊥
+not-unlisted scope bytes text other lists (inl refused) = let one = lists.says in let two = refused.is in cc
+not-unlisted scope bytes text other lists (inr more) =
+    let same = one-encounter bytes more.encounter lists.encounter more.says lists.says in
+    let past = subst (λ (e : Parts). IsPastBound scope e more.stop) same more.past in
+    (lists.listed.found.equal more.stop.low more.stop.high past.two).within more.stop.cycle past.begun past.cycle past.many
+
+one-listing : (scope : Scope) (bytes text other : List ℕ) (status also : Status) → AnswersPlain (Possible scope) bytes status text → AnswersPlain (Possible scope) bytes also other → status ≡ also
+one-listing scope bytes text other Done Done is other_is = refl
+one-listing scope bytes text other Done Refused is other_is = absurd (not-unlisted scope bytes text other is other_is)
+one-listing scope bytes text other Done also is other_is = absurd other_is
+one-listing scope bytes text other Refused Done is other_is = absurd (not-unlisted scope bytes other text other_is is)
+one-listing scope bytes text other Refused Refused is other_is = refl
+one-listing scope bytes text other Refused also is other_is = absurd other_is
+one-listing scope bytes text other status also is other_is = absurd is
+
 -- ---- `many`
 
 -- Bytes are cut into one list of pieces at most.
@@ -328,6 +350,7 @@ one-plain laws (Sweep number count crafts cycles) bytes text other Done Done is 
 one-plain laws (Sweep number count crafts cycles) bytes text other Done also is other_is = absurd other_is
 one-plain laws (Sweep number count crafts cycles) bytes text other status also is other_is = absurd is
 one-plain laws (Vary variation) bytes text other status also is other_is = one-variation laws.serial variation bytes text other status also is other_is
+one-plain laws (Possible scope) bytes text other status also is other_is = one-listing scope bytes text other status also is other_is
 one-plain laws Many bytes text other Done also is other_is = many-only laws.pieces bytes text other also is other_is
 one-plain laws Many bytes text other Refused also is other_is = more-only laws.pieces bytes text other also is other_is
 one-plain laws Many bytes text other status also is other_is = absurd is

@@ -6,10 +6,13 @@ use Rattle.std.specs.Str.{bytes_eq}
 use Rattle.acas_top.specs.Words.{AreNoPlain, AreNoRun, SayPage, tool_word}
 use Rattle.acas_top.specs.declared.words.Page.{Page}
 use Rattle.acas_top.specs.declared.words.Page.TheVariants.{Help, Version}
-use Rattle.acas_top.specs.declared.words.Plain.TheVariants.{Audit, Compare, Decode, Explain, Gen, Many, Resume, Serial, Show, Sweep, Tell, Tracks, Vary}
+use Rattle.acas_top.specs.declared.words.Plain.TheVariants.{Audit, Compare, Decode, Explain, Gen, Many, Possible, Resume, Serial, Show, Sweep, Tell, Tracks, Vary}
 use Rattle.acas_top.specs.declared.words.Threaded.TheVariants.{Play, Sum}
 use Rattle.acas_top.specs.declared.words.Tool.{Tool}
-use Rattle.variation_words.specs.declared.variation.Variation.TheVariants.{Exchanges, Losses, Shifts}
+use Rattle.pair_ways.specs.declared.scope.Scope.{Scope}
+use Rattle.pair_ways.specs.declared.scope.Scope.TheVariants.{Losses, Orders}
+use Rattle.possibilities.specs.Listing.{scope_word}
+use Rattle.variation_words.specs.declared.variation.Variation.TheVariants.{Exchanges, Losses as Lost, Shifts}
 use Rattle.acas_top.specs.declared.words.Tool.TheVariants.{Messages, Picture, Places, Reports, Response, Summary, Watch, Why}
 
 -- A word that the test tells from another one is another one.
@@ -34,13 +37,17 @@ other-than-tools word messages picture places reports response summary watch why
 other-than-tools word messages picture places reports response summary watch why Watch = different word (codes "watch") refl watch
 other-than-tools word messages picture places reports response summary watch why Why = different word (codes "why") refl why
 
+pub other-than-scopes : (word : List ℕ) → false ≡ bytes_eq word (codes "orders") → false ≡ bytes_eq word (codes "losses") → (scope : Scope) → word ≢ scope_word scope
+other-than-scopes word orders losses Orders = different word (codes "orders") refl orders
+other-than-scopes word orders losses Losses = different word (codes "losses") refl losses
+
 pub other-than-pages : (word : List ℕ) → false ≡ bytes_eq word (codes "--help") → false ≡ bytes_eq word (codes "-h") → false ≡ bytes_eq word (codes "help") → false ≡ bytes_eq word (codes "--version") → (page : Page) → SayPage (word ∷ []) page → ⊥
 other-than-pages word long short plain version Help (inl is) = different word (codes "--help") refl long (ap first is)
 other-than-pages word long short plain version Help (inr (inl is)) = different word (codes "-h") refl short (ap first is)
 other-than-pages word long short plain version Help (inr (inr is)) = different word (codes "help") refl plain (ap first is)
 other-than-pages word long short plain version Version is = different word (codes "--version") refl version (ap first is)
 
-module _ (word : List ℕ) (serial : false ≡ bytes_eq word (codes "serial")) (audit : false ≡ bytes_eq word (codes "audit")) (resume : false ≡ bytes_eq word (codes "resume")) (compare : false ≡ bytes_eq word (codes "compare")) (explain : false ≡ bytes_eq word (codes "explain")) (tracks : false ≡ bytes_eq word (codes "tracks")) (many : false ≡ bytes_eq word (codes "many")) (tools : (tool : Tool) → word ≢ tool_word tool)
+module _ (word : List ℕ) (serial : false ≡ bytes_eq word (codes "serial")) (audit : false ≡ bytes_eq word (codes "audit")) (resume : false ≡ bytes_eq word (codes "resume")) (compare : false ≡ bytes_eq word (codes "compare")) (explain : false ≡ bytes_eq word (codes "explain")) (tracks : false ≡ bytes_eq word (codes "tracks")) (many : false ≡ bytes_eq word (codes "many")) (scopes : (scope : Scope) → word ≢ scope_word scope) (tools : (tool : Tool) → word ≢ tool_word tool)
     (pages : (page : Page) → SayPage (word ∷ []) page → ⊥) where
   pub other-than-commands : AreNoPlain (word ∷ [])
   other-than-commands Serial valid = λ is. different word (codes "serial") refl serial (ap first is)
@@ -54,7 +61,8 @@ module _ (word : List ℕ) (serial : false ≡ bytes_eq word (codes "serial")) (
   other-than-commands Resume valid = λ is. different word (codes "resume") refl resume (ap first is)
   other-than-commands Tracks valid = λ is. different word (codes "tracks") refl tracks (ap first is)
   other-than-commands Many valid = λ is. different word (codes "many") refl many (ap first is)
+  other-than-commands (Possible scope) valid = λ is. scopes scope (ap first is)
   other-than-commands (Vary (Shifts quantity address values)) valid = λ is. absurd (omega (arith, ap length is))
-  other-than-commands (Vary Losses) valid = λ is. absurd (omega (arith, ap length is))
+  other-than-commands (Vary Lost) valid = λ is. absurd (omega (arith, ap length is))
   other-than-commands (Vary Exchanges) valid = λ is. absurd (omega (arith, ap length is))
   other-than-commands (Show page) valid = pages page

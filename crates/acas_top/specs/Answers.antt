@@ -18,11 +18,12 @@ use Rattle.acas_top.specs.declared.status.Status.TheVariants.{Done, Refused, Wro
 use Rattle.acas_top.specs.Commands.{Command}
 use Rattle.acas_top.specs.Commands as commands
 use Rattle.acas_top.specs.declared.words.Plain.{Plain}
-use Rattle.acas_top.specs.declared.words.Plain.TheVariants.{Audit, Compare, Decode, Explain, Gen, Many, Resume, Serial, Show, Sweep, Tell, Tracks, Vary}
+use Rattle.acas_top.specs.declared.words.Plain.TheVariants.{Audit, Compare, Decode, Explain, Gen, Many, Possible, Resume, Serial, Show, Sweep, Tell, Tracks, Vary}
 use Rattle.acas_top.specs.declared.words.Threaded.{Threaded}
 use Rattle.acas_top.specs.declared.words.Threaded.TheVariants.{Play, Sum}
 use Rattle.acas_top.specs.Sweeping.{Sweeps}
 use Rattle.acas_top.specs.Telling.{Draws, Tells}
+use Rattle.acas_top.specs.Possible.{IsNotListed, Lists}
 use Rattle.acas_top.specs.Varying.{IsNotVaried, Varies}
 use Rattle.air_journal.specs.Airs.{air_of}
 use Rattle.air_journal.specs.States.{State}
@@ -259,6 +260,9 @@ AnswersPlain Tracks bytes status text = ⊥
 AnswersPlain (Vary variation) bytes Done text = Varies variation bytes text
 AnswersPlain (Vary variation) bytes Refused text = IsNotVaried variation bytes text
 AnswersPlain (Vary variation) bytes status text = ⊥
+AnswersPlain (Possible scope) bytes Done text = Lists scope bytes text
+AnswersPlain (Possible scope) bytes Refused text = IsNotListed scope bytes text
+AnswersPlain (Possible scope) bytes status text = ⊥
 AnswersPlain Many bytes Done text = TellsMany bytes text
 AnswersPlain Many bytes Refused text = HasManyMore bytes text
 AnswersPlain Many bytes status text = ⊥

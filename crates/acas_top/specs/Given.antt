@@ -11,7 +11,7 @@ use Rattle.acas_top.specs.Sweeping.{swept_lines}
 use Rattle.acas_top.specs.Telling.{tool_lines}
 use Rattle.acas_top.specs.Varying.{varied_lines}
 use Rattle.acas_top.specs.declared.answers.Answer.{Answer}
-use Rattle.acas_top.specs.declared.answers.Answer.TheVariants.{Compared, Decoded, ExplainedRefusal, ExplainedWrong, Faultless, Judged, Made, Many, Recorded, Refused, RightEncounter, RightRecording, Shown, Summed, Swept, Told, Unmet, Varied}
+use Rattle.acas_top.specs.declared.answers.Answer.TheVariants.{Compared, Decoded, ExplainedRefusal, ExplainedWrong, Faultless, Judged, Made, Listed, Many, Recorded, Refused, RightEncounter, RightRecording, Shown, Summed, Swept, Told, Unmet, Varied}
 use Rattle.acas_top.specs.declared.status.Status.{Status}
 use Rattle.acas_top.specs.declared.status.Status.TheVariants as statuses
 use Rattle.acas_top.specs.declared.telling.Told.{Told as ToolText}
@@ -21,6 +21,7 @@ use Rattle.acas_top.specs.declared.words.Limit.{Limit}
 use Rattle.acas_top.specs.declared.words.Tool.TheVariants as tools
 use Rattle.comparison.specs.Comparing.{compared_lines}
 use Rattle.enc_file.specs.Canonical.{canonical_lines}
+use Rattle.possibilities.specs.Listing.{listing_lines}
 use Rattle.rec_audit.specs.declared.verdict.Verdict.{Verdict}
 use Rattle.rec_audit.specs.declared.verdict.Verdict.TheVariants as verdicts
 use Rattle.rec_text.specs.Recording.{recording_lines}
@@ -38,6 +39,7 @@ answer_status (Swept swept) = statuses.Done
 answer_status (Varied varied) = statuses.Done
 answer_status (Many list) = statuses.Done
 answer_status (Told text) = statuses.Done
+answer_status (Listed listed) = statuses.Done
 answer_status (Summed commits counts) = statuses.Done
 answer_status (Compared one other found) = statuses.Done
 answer_status (Decoded word) = statuses.Done
@@ -69,6 +71,7 @@ answer_lines (Swept swept) = swept_lines swept.first swept.count swept.list.item
 answer_lines (Varied varied) = varied_lines varied.crafts varied.outcome varied.changes varied.list
 answer_lines (Many list) = many_lines list
 answer_lines (Told text) = told_lines text
+answer_lines (Listed listed) = listing_lines listed.scope listed.encounter listed.journal listed.found
 answer_lines (Summed commits counts) = summed_lines commits counts
 answer_lines (Compared one other found) = compared_lines one other found
 answer_lines (Decoded word) = word_lines word

@@ -3,6 +3,7 @@ pub mod Commands
 pub mod Drawing
 pub mod Words
 pub mod Pages
+pub mod Possible
 pub mod Counted
 pub mod Sweeping
 pub mod Telling

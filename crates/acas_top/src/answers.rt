@@ -13,6 +13,7 @@ ghost use Rattle.track_text.specs.Conditions.{IsRefused};
 use crate::explaining::{RightEncounter, RightRecording, Subject, read_as, right_tracks_line};
 use crate::many::{Many, answer_many};
 use crate::pages::put_page;
+use crate::possible::answer_possible;
 use crate::refusal::refusal_line;
 use crate::runs::{filled, serial_state};
 use crate::summing::put_summed;
@@ -31,6 +32,7 @@ use deliveries::Deliveries;
 use enc_file::{CanonicalText, ReadError};
 use enc_gen::make;
 use fault_text::explained;
+use possibilities::Possibilities;
 use rec_audit::{Explained, Loaded, Reason, Verdict, explain, judge, load, load_part};
 use rec_text::Recording;
 use std::alloc::{AllocError, Global};
@@ -51,6 +53,8 @@ pub(crate) enum Answer {
     Swept(Swept),
     /// What an encounter and its variants come to.
     Varied(Varied),
+    /// What can be of an encounter.
+    Listed(Possibilities),
     /// What each of many encounters comes to.
     Many(Many),
     /// How many commits a run in threads has, and the counts of the serial run.
@@ -91,6 +95,7 @@ impl Answer {
             | Answer::Told(_)
             | Answer::Swept(_)
             | Answer::Varied(_)
+            | Answer::Listed(_)
             | Answer::Many(_)
             | Answer::Summed(_, _)
             | Answer::Compared(_, _, _)
@@ -129,6 +134,7 @@ impl Text for Answer {
             Answer::Told(told) => told.put(sink),
             Answer::Swept(swept) => swept.put(sink),
             Answer::Varied(varied) => varied.put(sink),
+            Answer::Listed(possible) => possible.put(sink),
             Answer::Many(many) => many.put(sink),
             Answer::Summed(commits, counts) => put_summed(*commits, counts, sink),
             Answer::Compared(one, other, found) => Comparison { one, other, found }.put(sink),
@@ -372,6 +378,7 @@ pub(crate) fn answer_to<R: Threads + Sync>(
         } => answer_sweep(rt, alloc, number, count, crafts, cycles),
         Plain::Tracks => answer_tracks(alloc, bytes.as_slice()),
         Plain::Vary(variation) => answer_variation(rt, alloc, variation, bytes.as_slice()),
+        Plain::Possible(scope) => answer_possible(alloc, scope, bytes.as_slice()),
         Plain::Many => answer_many(rt, alloc, bytes),
         Plain::Resume => answer_resume(alloc, bytes.as_slice()),
         Plain::Compare => answer_compare(alloc, bytes.as_slice()),

@@ -11,6 +11,7 @@ mod many;
 mod many_text;
 mod pages;
 mod plain_program;
+mod possible;
 mod program;
 mod refusal;
 mod runs;

@@ -5,12 +5,15 @@ ghost use Rattle.acas_top.specs.Commands.{OfPlain, OfRun};
 ghost use Rattle.acas_top.specs.Words.{AreNoFlight, AreNoPicture, AreNoPlain, AreNoRun, IsInRange, Say, SayFlight, SayPage, SayPicture, greatest, most, plain_limit, tool_word};
 ghost use Rattle.acas_top.specs.declared.words.Page.{Page};
 ghost use Rattle.acas_top.specs.declared.words.Tool.{Tool};
+ghost use Rattle.pair_ways.specs.declared.scope.Scope.{Scope};
+ghost use Rattle.possibilities.specs.Listing.{scope_word};
 
 use acas_base::CRAFTS;
 use acas_text::parse_within;
 use address_words::are_addresses;
 use fault_text::begins_recording;
 use labels::Labels;
+use pair_ways::Scope;
 use variation_words::Variation;
 
 /// The most bytes that a command reads of an encounter's text.
@@ -98,6 +101,9 @@ pub enum Plain {
     Resume,
     /// `vary ..`: reads an encounter, plays it with one thing changed at a time, and writes what each run comes to.
     Vary(Variation),
+    /// `orders` or `losses`: reads an encounter, and writes what each aircraft can advise in any order of the steps; or
+    /// whatever messages are lost besides.
+    Possible(Scope),
     /// `many`: reads encounters, one after the other, plays each, and writes what each run comes to.
     Many,
     /// `tracks`: reads recorded tracks, and writes the encounter whose aircraft fly along them.
@@ -152,6 +158,7 @@ impl Plain {
             Plain::Serial => Some(Limit::Encounter),
             Plain::Tracks => Some(Limit::Encounter),
             Plain::Vary(_) => Some(Limit::Encounter),
+            Plain::Possible(_) => Some(Limit::Encounter),
             Plain::Audit => Some(Limit::Recording),
             Plain::Tell(_) => Some(Limit::Recording),
             Plain::Resume => Some(Limit::Recording),
@@ -194,6 +201,20 @@ fn tool_of(word: &str) -> Option<Tool>
     }
     if word == "why" {
         return Some(Tool::Why);
+    }
+    None
+}
+
+// The runs that a word asks about.
+fn scope_of(word: &str) -> Option<Scope>
+    ensures some { IfSome result (λ scope. word.now ≡ scope_word scope) }
+    ensures none { IfNone result ((scope : Scope) → word.now ≢ scope_word scope) }
+{
+    if word == "orders" {
+        return Some(Scope::Orders);
+    }
+    if word == "losses" {
+        return Some(Scope::Losses);
     }
     None
 }
@@ -258,6 +279,9 @@ fn of_one(word: &str) -> Option<Plain>
     }
     if word == "many" {
         return Some(Plain::Many);
+    }
+    if let Some(scope) = scope_of(word) {
+        return Some(Plain::Possible(scope));
     }
     match tool_of(word) {
         Some(tool) => Some(Plain::Tell(tool)),

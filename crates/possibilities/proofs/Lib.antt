@@ -1,4 +1,3 @@
-mod Sets
-mod Steps
-mod Told
-mod Never
+pub mod Filled
+pub mod Kept
+pub mod Searched

@@ -2,7 +2,7 @@
 ghost use Rattle.std.specs.Prelude.{◌≡◌, ◌<◌, ◌≤◌, is_some};
 ghost use Rattle.air_rules.specs.Journal.{cell_at};
 ghost use Rattle.equal_rows.specs.Rows.{begins, last_from};
-ghost use Rattle.possibilities.specs.Listing.{equal_mark, has_equal, keeps, row_up_to, said_in, shows, word_mark};
+ghost use Rattle.possibilities.specs.Listing.{equal_mark, has_equal, keeps, mark_in, row_up_to, said_in, shows, word_mark};
 
 use crate::mark::{Mark, is_same_mark};
 use crate::rows::{RUN, are_equal};
@@ -76,6 +76,21 @@ fn said_in(state: &AirState, own: u8, cycle: u16) -> Word
     }
 }
 
+impl WordRow<'_> {
+    // The mark of the word in a cycle in which the aircraft can have these.
+    fn mark_in(&self, set: &Words, cycle: u16) -> Option<Mark>
+        ensures { result ≡ mark_in self.now.state.now.journal set.now self.now.own self.now.word cycle }
+    {
+        if !set.has(self.word) {
+            return None;
+        }
+        Some(Mark::by(
+            !set.has_other(self.word),
+            said_in(self.state, self.own, cycle).is(self.word),
+        ))
+    }
+}
+
 impl Marked for WordRow<'_> {
     ghost mark = { λ w. word_mark w.state.now.journal w.row.now w.own w.word };
 
@@ -84,14 +99,7 @@ impl Marked for WordRow<'_> {
         if cycle == 0 {
             return None;
         }
-        let set = &self.row[usize::from(cycle)];
-        if !set.has(self.word) {
-            return None;
-        }
-        Some(Mark::by(
-            !set.has_other(self.word),
-            said_in(self.state, self.own, cycle).is(self.word),
-        ))
+        self.mark_in(&self.row[usize::from(cycle)], cycle)
     }
 }
 

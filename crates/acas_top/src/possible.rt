@@ -1,0 +1,69 @@
+// The answer to `orders` and to `losses`.
+ghost use Rattle.std.specs.Prelude.{◌≡◌, ◌<◌, ◌≤◌, IfOk, length};
+ghost use Rattle.acas_top.specs.Answers.{AnswersPlain};
+ghost use Rattle.acas_top.specs.Given.{answer_status, answer_text};
+ghost use Rattle.acas_top.specs.Possible.{bound_line};
+ghost use Rattle.acas_top.specs.declared.words.Plain.TheVariants.{Possible};
+ghost use Rattle.enc_file.specs.Reading.{Says};
+ghost use Rattle.flight.specs.Inside.{IsInside};
+
+use crate::ENCOUNTER_BYTES;
+use crate::answers::Answer;
+use crate::runs::serial_state;
+use acas_base::Encounter;
+use acas_text::Line;
+use enc_file::ReadError;
+use pair_ways::{Scope, TooMany};
+use possibilities::{Possibilities, Stop};
+use std::alloc::{AllocError, Global};
+
+// The line that says for which two aircraft, and after which cycle, there are more states than the search keeps.
+fn bound_line(encounter: &Encounter, stop: &TooMany) -> Line
+    requires low { stop.now.low < length encounter.now.crafts }
+    requires high { stop.now.high < length encounter.now.crafts }
+    ensures { result ≡ bound_line encounter.now stop.now }
+{
+    let crafts = encounter.crafts();
+    let mut line = Line::new();
+    line.text("bound");
+    line.address_field(crafts[usize::from(stop.low)].address.value());
+    line.address_field(crafts[usize::from(stop.high)].address.value());
+    line.u16_field(stop.cycle);
+    line.text("\n");
+    line
+}
+
+// The answer for an encounter.
+fn answer_for(alloc: Global, scope: Scope, encounter: &Encounter) -> Result<Answer, AllocError>
+    requires { IsInside encounter.now }
+    ensures { IfOk result (λ answer. (bytes : List ℕ) → Says bytes encounter.now → AnswersPlain (Possible scope) bytes (answer_status answer) (answer_text answer)) }
+{
+    let state = serial_state(alloc, encounter)?;
+    match Possibilities::of(alloc, state, scope) {
+        Ok(possible) => {
+            possible.found_law();
+            Ok(Answer::Listed(possible))
+        }
+        Err(Stop::TooMany(stop)) => Ok(Answer::Unmet(bound_line(encounter, &stop))),
+        Err(Stop::OutOfMemory) => Err(AllocError),
+    }
+}
+
+/// The answer to `orders` and to `losses`. The error says that memory was wanting.
+pub(crate) fn answer_possible(
+    alloc: Global,
+    scope: Scope,
+    bytes: &[u8],
+) -> Result<Answer, AllocError>
+    requires { length bytes.now ≤ ENCOUNTER_BYTES }
+    ensures { IfOk result (λ answer. AnswersPlain (Possible scope) bytes.now (answer_status answer) (answer_text answer)) }
+{
+    let encounter = match enc_file::read(alloc, bytes) {
+        Ok(encounter) => encounter,
+        Err(ReadError::Refused(refusal)) => {
+            return Ok(Answer::Refused(refusal.at, refusal.code.number()));
+        }
+        Err(ReadError::OutOfMemory) => return Err(AllocError),
+    };
+    answer_for(alloc, scope, &encounter)
+}
