@@ -1,3 +1,7 @@
-pub mod Filled
+pub mod Sets
+pub mod Steps
+pub mod Told
+pub mod Never
 pub mod Kept
 pub mod Searched
+pub mod Filled
