@@ -1,7 +1,5 @@
 pub mod Sets
 pub mod Steps
-pub mod Told
-pub mod Never
 pub mod Kept
 pub mod Searched
 pub mod Filled
