@@ -3,3 +3,4 @@ pub mod Steps
 pub mod Kept
 pub mod Searched
 pub mod Filled
+pub mod Counted
