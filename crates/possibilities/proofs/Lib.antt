@@ -1,5 +1,8 @@
 pub mod Sets
 pub mod Steps
+pub mod Alone
+pub mod Never
+pub mod Told
 pub mod Kept
 pub mod Searched
 pub mod Filled
