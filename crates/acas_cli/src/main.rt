@@ -32,11 +32,11 @@ fn words_of<R: Env + Alloc<A = Global>>(rt: &R) -> io::Result<Vec<String>> {
 // prove.
 const USAGE: [&str; 6] = [
     "usage: acas serial | play | tracks | fly ADDRESS .. | vary alt|x|y|late ",
-    "ADDRESS FIRST COUNT STEP | vary lose | vary swap | many | audit | sum | ",
-    "gen NUMBER CRAFTS CYCLES | reports | sweep NUMBER COUNT CRAFTS CYCLES | ",
-    "response | watch | resume | why | places | messages | summary | ",
-    "picture [hh:mm:ss] [ADDRESS=NAME ..] [CYCLE=TEXT ..] | compare | ",
-    "explain | decode WORD | --help | --version",
+    "ADDRESS FIRST COUNT STEP | vary lose | vary swap | orders | losses | ",
+    "many | audit | sum | gen NUMBER CRAFTS CYCLES | reports | ",
+    "sweep NUMBER COUNT CRAFTS CYCLES | response | watch | resume | why | ",
+    "places | messages | summary | picture [hh:mm:ss] [ADDRESS=NAME ..] ",
+    "[CYCLE=TEXT ..] | compare | explain | decode WORD | --help | --version",
 ];
 
 // The message on standard error, but for the usage.

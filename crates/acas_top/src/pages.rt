@@ -6,7 +6,7 @@ use crate::words::Page;
 use acas_lines::{LineSink, fixed_line};
 
 /// The page that `--help` writes.
-pub(crate) const HELP: [&str; 60] = [
+pub(crate) const HELP: [&str; 62] = [
     "acas plays encounters between aircraft with TCAS II version 7.1.\n",
     "\n",
     "usage: acas WORD [ARGUMENTS] < INPUT > OUTPUT\n",
@@ -21,6 +21,8 @@ pub(crate) const HELP: [&str; 60] = [
     "  vary alt|x|y|late ADDRESS FIRST COUNT STEP, vary lose, vary swap\n",
     "             Writes what its run comes to with one thing changed: for each of\n",
     "             COUNT values, each loss of messages, or each swap of addresses.\n",
+    "  orders     Writes what each aircraft can advise, in any order of the steps.\n",
+    "  losses     The same, whatever messages are lost besides.\n",
     "  many       Reads encounters, one after the other. Writes what each comes to.\n",
     "\n",
     "These words read a recording from standard input:\n",
@@ -53,7 +55,7 @@ pub(crate) const HELP: [&str; 60] = [
     "  0  Done. The whole output.\n",
     "  2  The words are no command. Nothing was read or written.\n",
     "  3  The words that read an encounter, explain: the input is none. A line,\n",
-    "     refused,RECORD,CODE; others are unknown, leaves, variants and pieces.\n",
+    "     refused,RECORD,CODE, or unknown, leaves, variants, pieces, bound.\n",
     "  4  The input is no recording of a legal and complete run; for resume, no\n",
     "     beginning of one. wrong,LINE,REASON or wrong,2,1,CODE; explain: two lines.\n",
     "  5  A read failed. Nothing.\n",
