@@ -14,6 +14,8 @@ mod pair_watch_tests;
 #[cfg(test)]
 mod picture_tests;
 #[cfg(test)]
+mod possibilities_tests;
+#[cfg(test)]
 mod ra_block_tests;
 #[cfg(test)]
 mod reasons_tests;
