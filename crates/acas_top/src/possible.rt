@@ -1,5 +1,5 @@
 // The answer to `orders` and to `losses`.
-ghost use Rattle.std.specs.Prelude.{◌≡◌, ◌<◌, ◌≤◌, IfOk, length};
+ghost use Rattle.std.specs.Prelude.{◌≡◌, ℕ, ◌<◌, ◌≤◌, IfOk, List, length};
 ghost use Rattle.acas_top.specs.Answers.{AnswersPlain};
 ghost use Rattle.acas_top.specs.Given.{answer_status, answer_text};
 ghost use Rattle.acas_top.specs.Possible.{bound_line};
