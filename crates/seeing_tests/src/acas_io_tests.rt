@@ -49,6 +49,15 @@ fn reads_up_to_the_limit(rt: HostRuntime) -> Result<(), AllocError> {
     Ok(())
 }
 
+// An input of 8,192 bytes is one read. One more shows its end.
+#[test]
+fn reads_much_at_once(rt: HostRuntime) -> Result<(), AllocError> {
+    let bytes = vec![in rt.alloc(); 0; 8_192]?;
+    let mut source = MemSource::new(bytes, 8_192, [3].to_vec(rt.alloc())?);
+    assert!(rt; read_all(rt.alloc(), &mut source, 8_192).is_ok());
+    Ok(())
+}
+
 // Whether two pieces are written whole to a sink with room for one. It takes two bytes at a time, and fails when it is
 // full.
 fn writes_one(alloc: Global, piece: &[u8], other: &[u8]) -> Result<bool, AllocError> {

@@ -157,6 +157,41 @@ const ROWS: &[Row] = &[
             third: PLAIN,
         },
     },
+    // The second leg of an aircraft begins in the last cycle.
+    Row {
+        number: 5,
+        crafts: 3,
+        cycles: 201,
+        version: 1,
+        address: 0x40_0302,
+        kind: Kind::Ra,
+        place: (50_000, -27_000, 31_900),
+        legs: 6,
+        leg: Leg {
+            craft: 2,
+            from: 201,
+            vx: 500,
+            vy: -270,
+            vz: 400,
+        },
+        misses: 1,
+        miss: Some(Miss {
+            own: 1,
+            target: 2,
+            from: 98,
+            to: 105,
+        }),
+        fates: 471,
+        fate: Fate {
+            sender: 2,
+            receiver: 1,
+            number: 201,
+            copies: 0,
+            first: PLAIN,
+            second: PLAIN,
+            third: PLAIN,
+        },
+    },
 ];
 
 fn last_craft(row: &Row) -> Result<CraftSpec, Fail> {
