@@ -37,7 +37,7 @@ found P test (y ∷ ys) x all is = elim (cases_Bool (test y)) [
 ]
 
 -- Each fate of an encounter has three copies at most, and their masks three bits at most.
-abbrev HasCopies : Fate → Type 0
+abbrev pub HasCopies : Fate → Type 0
 HasCopies fate = AreCopies fate.copies fate.first fate.second fate.third
 
 plain-copies : (sender receiver number : ℕ) → HasCopies (plain_fate sender receiver number)
@@ -56,7 +56,7 @@ usual-copies e is sender receiver number = by_plan (find (is_plan_of sender rece
     by_plan None f = plain-copies sender receiver number
     by_plan (Some plan) f = (found (IsPlan (length e.crafts)) (is_plan_of sender receiver) e.plans plan is.records.plans.0 f).copies
 
-copies-fit : (e : Parts) → IsEncounter e → (sender receiver number : ℕ) → HasCopies (fate_of e sender receiver number)
+pub copies-fit : (e : Parts) → IsEncounter e → (sender receiver number : ℕ) → HasCopies (fate_of e sender receiver number)
 copies-fit e is sender receiver number = by_record (find (is_fate_of sender receiver number) e.fates) refl
   where
     by_record : (o : Option Fate) → find (is_fate_of sender receiver number) e.fates ≡ o → HasCopies (unwrap_or o (usual_fate e sender receiver number))
