@@ -1,7 +1,7 @@
 -- All marks lie within the page, and their numbers fit.
-use Rattle.std.proofs.Common.{ℕ, zero, suc, ◌+◌, ◌-◌, ◌*◌, ◌^◌, ◌<◌, ◌≤◌, Bool, true, false, List, [], ◌∷◌, ◌++◌, Option, Some, None, codes, eqb, eq-eqb, eqb-true, length, ne_eqb, sym, ap, subst, arith, inl, inr}
-use Rattle.std.proofs.lemmas.Bool.{cases_Bool, cases_eq, cond-false, cond-true, ltb-false, ltb-true}
-use Rattle.std.specs.Prelude.{◌%◌, ◌/◌, ◌==◌, ℤ, IfSome, filter, nat_lt, slice_get, take}
+use Rattle.std.proofs.Common.{◌≡◌, ℕ, zero, suc, ◌+◌, ◌-◌, ◌*◌, ◌^◌, ◌<◌, ◌≤◌, Bool, true, false, List, [], ◌∷◌, ◌++◌, Option, Some, None, codes, eqb, eq-eqb, eqb-true, length, mul-le-mul_left, ne_eqb, sym, ap, subst, arith, inl, inr}
+use Rattle.std.proofs.lemmas.Bool.{cases_Bool, cases_eq, cond-false, cond-true, leb-true, ltb-false, ltb-true}
+use Rattle.std.specs.Prelude.{◌%◌, ◌/◌, ◌==◌, if◌then◌else◌, ℤ, IfSome, filter, nat_le, nat_lt, slice_get, take}
 use Rattle.std.specs.Fmt.{decimal}
 use Rattle.std.specs.Option.{option_map_or}
 use Rattle.std.specs.List.{AllByRecursion}
@@ -25,7 +25,7 @@ use Rattle.picture.specs.Onsets.{circle_mark, corners, diamond, downward, is_ons
 use Rattle.picture.specs.Altitude.{altitude_marks, altitude_with, axis_marks, course_line, course_marks, course_paint, course_point, course_points, course_y, courses, height_text, name_x}
 use Rattle.picture.specs.Heights.{HoldsPlanned, altitude_y, axis_of, has_modelled, height_in, modelled_in}
 use Rattle.picture.specs.Head.{description, head_marks, nearest_marks, sent_in, sent_text, title_marks, title_text}
-use Rattle.picture.specs.Layout.{bounds_of, bounds_to, frame_of, lane_base, lane_of, page_bounds, page_height, panels_top, plot_bottom, plot_height}
+use Rattle.picture.specs.Layout.{active_among, bounds_of, bounds_to, frame_of, lane_in, lane_of, lane_pitch, lanes_height, page_bounds, page_height, panels_top, plot_bottom, plot_height, tall_in}
 use Rattle.page_marks.specs.Places.{area_at, point_at}
 use Rattle.picture.specs.Legend.{arrow_words, band_words, height_words, item_marks, legend_marks, modelled_words, sample_marks, sample_shaft}
 use Rattle.picture.specs.Marked.{IsMarked, all_marked, mark_text}
@@ -34,7 +34,7 @@ use Rattle.picture.specs.Messages.{arrows}
 use Rattle.picture.specs.Modelled.{all_modelled_marks, departed, modelled_flights, modelled_line, modelled_marks, modelled_paint, modelled_point, modelled_points, modelled_title}
 use Rattle.picture.specs.MessagesDrawn.{arrow_marks, arrow_shaft, arrow_title, arrows_marks, color_of, down_shaft, event_x, head_points, shaft_marks, shaft_of, up_shaft}
 use Rattle.picture.specs.Mishaps.{sent_rows}
-use Rattle.picture.specs.MishapsDrawn.{count_marks, count_words, count_x, cross_at, cross_marks, drawn_row, hollow_marks, lost_y, messages_marks, mishaps_marks, row_shaft, row_title, sign_marks, stroke, third_of}
+use Rattle.picture.specs.MishapsDrawn.{count_marks, count_words, count_x, cross_at, cross_marks, drawn_row, hollow_marks, lost_way, lost_y, messages_marks, mishaps_marks, row_shaft, row_title, sign_marks, stroke}
 use Rattle.picture.specs.Laws.{IsSound}
 use Rattle.page_marks.specs.Paints.{blue, box_marks, dashed_paint, filled, grid, halo, hatched, ink, letters, line_paint, note, plain, purple, vermilion}
 use Rattle.picture.specs.Picture.{below_of, lanes_of, legend_top, list_top, plan_top, page, picture_lines, sections}
@@ -68,6 +68,7 @@ use Rattle.seconds_panel.specs.Panel.{seconds_marks}
 use Rattle.seconds_panel.specs.declared.own.TestedPair.{TestedPair}
 use Rattle.picture.specs.declared.bar.Bar.{Bar}
 use Rattle.picture.specs.declared.marked.Marked.{Marked}
+use Rattle.picture.specs.declared.layout.Lane.{Lane}
 use Rattle.picture.specs.declared.messages_drawn.Shaft.{Shaft}
 use Rattle.picture.specs.declared.messages_read.Arrow.{Arrow}
 use Rattle.picture.specs.declared.mishaps.SentRow.{SentRow}
@@ -141,12 +142,42 @@ point-to height x y few wide tall =
 traced-to : (height : ℕ) (outline : Outline) (points : List Point) (paint : Paint) (title : List ℕ) → FitsPaint paint → AllByRecursion (GoodPointTo height) points → GoodTo height (traced outline points paint title)
 traced-to height outline points paint title fits all = (all-left (IsWithin (bounds_to height) 0) IsPoint points all, (all-right (IsWithin (bounds_to height) 0) IsPoint points all, fits))
 
+-- ---- so many lanes
+
+-- What holds of both ways of a test holds of what it gives.
+both-ways : (P : ℕ → Type 0) (test : Bool) (x y : ℕ) → (test ≡ true → P x) → (test ≡ false → P y) → P (if test then x else y)
+both-ways P test x y one other = elim (cases_Bool test) [
+  | inl met ↦ subst P (sym (cond-true test x y met)) (one met)
+  | inr unmet ↦ subst P (sym (cond-false test x y unmet)) (other unmet)
+]
+
+-- So many lanes fit with a pitch.
+record IsPitch (lanes pitch : ℕ) : Type 0 where
+  least : 560 ≤ pitch
+  most : pitch ≤ 1200
+  all : pitch * lanes ≤ 8960
+
+pitch-of : (lanes : ℕ) → lanes ≤ 16 → IsPitch lanes (lane_pitch lanes)
+unfolding lane_pitch
+pitch-of lanes few =
+    both-ways (IsPitch lanes) (nat_le lanes 2) 1200 (if nat_le lanes 4 then 960 else (if nat_le lanes 8 then 740 else 560))
+    (λ met. let two = leb-true lanes 2 met in record { least = omega arith; most = omega arith; all = omega arith })
+    (λ over. both-ways (IsPitch lanes) (nat_le lanes 4) 960 (if nat_le lanes 8 then 740 else 560)
+    (λ met. let four = leb-true lanes 4 met in record { least = omega arith; most = omega arith; all = omega arith })
+    (λ more. both-ways (IsPitch lanes) (nat_le lanes 8) 740 560
+    (λ met. let eight = leb-true lanes 8 met in record { least = omega arith; most = omega arith; all = omega arith })
+    (λ rest. record { least = omega arith; most = omega arith; all = omega arith })))
+
+lanes-most : (lanes : ℕ) → lanes ≤ 16 → lanes_height lanes ≤ 8960
+unfolding lanes_height
+lanes-most lanes few = (pitch-of lanes few).all
+
 -- The same above the panels of a page of so many lanes.
 abbrev Good : ℕ → Mark → Type 0
 Good lanes mark = GoodTo (page_height lanes) mark
 
 low-page : (lanes : ℕ) → lanes ≤ 16 → page_height lanes ≤ 60000
-low-page lanes few = omega arith
+low-page lanes few = let most = lanes-most lanes few in omega arith
 
 good-line : (lanes x y p q : ℕ) (paint : Paint) (title : List ℕ) → FitsPaint paint → lanes ≤ 16 → x ≤ 20000 → y ≤ page_height lanes → p ≤ 20000 → q ≤ page_height lanes →
     Good lanes (figure (shapes.Segment (point_at x y) (point_at p q)) paint title)
@@ -188,6 +219,7 @@ good-head it e J pair lanes few = all-append (Good lanes) (title_marks e J) (nea
 
 good-time : (lanes cycles : ℕ) (start : Option ℕ) → lanes ≤ 16 → AllByRecursion (Good lanes) (time_marks cycles start lanes)
 good-time lanes cycles start few =
+    let most = lanes-most lanes few in
     let holds : HoldsTicks (bounds_of lanes) (tick_place lanes) = record {
       left = omega arith;
       right = omega arith;
@@ -497,11 +529,8 @@ good-bands air e J l lanes few =
 
 -- ---- bars
 
-height-most : (composite : Composite) → bar_height composite ≤ 400
-height-most composite = elim (cases_Bool composite.corrective) [
-  | inl met ↦ subst (λ (n : ℕ). n ≤ 400) (sym (cond-true composite.corrective 400 280 met)) (omega arith)
-  | inr unmet ↦ subst (λ (n : ℕ). n ≤ 400) (sym (cond-false composite.corrective 400 280 unmet)) (omega arith)
-]
+height-most : (tall : ℕ) (composite : Composite) → tall ≤ 400 → bar_height tall composite ≤ 400
+height-most tall composite few = both-ways (λ (n : ℕ). n ≤ 400) composite.corrective tall (tall * 7 / 10) (λ met. few) (λ unmet. omega arith)
 
 -- A bar stands between the ends of the axis.
 pub record IsBetween (cycles : ℕ) (row : Row) : Type 0 where
@@ -516,10 +545,35 @@ between cycles row first order last =
       right = begins-within cycles (row.last + 1) (omega arith) (omega arith);
     }
 
+-- A lane is one of so many.
+record IsAmong (lanes : ℕ) (lane : Lane) : Type 0 where
+  top : 5500 ≤ lane.base
+  bottom : lane.base ≤ 6000 + lanes_height lanes
+  tall : lane.tall ≤ 400
+  room : lane.room ≤ 880
+
+record IsTall (pitch tall : ℕ) : Type 0 where
+  least : 320 ≤ tall
+  most : tall ≤ 400
+
+tall-of : (pitch : ℕ) → 560 ≤ pitch → IsTall pitch (tall_in pitch)
+unfolding tall_in
+tall-of pitch least =
+    both-ways (IsTall pitch) (nat_lt pitch 640) (pitch - 240) 400 (λ met. let low = ltb-true pitch 640 met in record { least = omega arith; most = omega arith })
+    (λ unmet. record { least = omega arith; most = omega arith })
+
+among : (lanes number : ℕ) → lanes ≤ 16 → number ≤ lanes → IsAmong lanes (lane_in (lane_pitch lanes) number)
+unfolding lane_in lanes_height
+among lanes number few within =
+    let pitch = pitch-of lanes few in
+    let tall = tall-of (lane_pitch lanes) pitch.least in
+    let below = mul-le-mul_left (lane_pitch lanes) within in
+    record { top = omega arith; bottom = omega arith; tall = tall.most; room = omega arith }
+
 pub record Stands (lanes : ℕ) (bar : Bar) : Type 0 where
   pub right : bar.left + bar.width ≤ 17800
-  pub top : 5700 ≤ bar.base
-  pub bottom : bar.base ≤ 5700 + 960 * lanes
+  pub top : 5500 ≤ bar.base
+  pub bottom : bar.base ≤ 6000 + lanes_height lanes
   pub height : bar.height ≤ 400
 
 good-word : (lanes : ℕ) (bar : Bar) (word title : List ℕ) → lanes ≤ 16 → Stands lanes bar → AllByRecursion (Good lanes) (word_marks bar word title)
@@ -550,29 +604,29 @@ good-titled lanes bar composite title few s =
     (good-boxes lanes bar.left (bar.base - bar.height) bar.width bar.height (advised composite) title few (omega arith) (omega arith))
     (good-word lanes bar (word_of composite) title few s)
 
-good-bar : (lanes lane cycles address : ℕ) (composite : Composite) (row : Row) → lanes ≤ 16 → lane ≤ lanes → 1 ≤ row.first → row.first ≤ row.last → row.last ≤ cycles →
+good-bar : (lanes : ℕ) (lane : Lane) (cycles address : ℕ) (composite : Composite) (row : Row) → lanes ≤ 16 → IsAmong lanes lane → 1 ≤ row.first → row.first ≤ row.last → row.last ≤ cycles →
     AllByRecursion (Good lanes) (bar_marks cycles lane address composite row)
 unfolding bar_marks
-good-bar lanes lane cycles address composite row few within first order last =
+good-bar lanes lane cycles address composite row few there first order last =
     let b = between cycles row first order last in
     let one = b.in_order in
     let two = b.right in
     good-titled lanes (bar_of cycles lane row composite) composite (bar_title address row composite) few
-    (record { right = omega (arith, one, two); top = omega arith; bottom = omega arith; height = height-most composite })
+    (record { right = omega (arith, one, two); top = there.top; bottom = there.bottom; height = height-most lane.tall composite there.tall })
 
-good-bars : (air : Air) (e : Parts) (J : List Entry) → IsLegal air J → (own lanes lane address : ℕ) → lanes ≤ 16 → lane ≤ lanes → AllByRecursion (Good lanes) (bars e J own lane address)
+good-bars : (air : Air) (e : Parts) (J : List Entry) → IsLegal air J → (own lanes : ℕ) (lane : Lane) (address : ℕ) → lanes ≤ 16 → IsAmong lanes lane → AllByRecursion (Good lanes) (bars e J own lane address)
 unfolding bars
-good-bars air e J l own lanes lane address few within =
+good-bars air e J l own lanes lane address few there =
     all-over (IsLongest (is_shown J own) (goes_on J own) e.cycles) (Good lanes) (row_marks e J own lane address)
-    (λ row it. good-bar lanes lane e.cycles address (shown_in J own row.first) row few within it.begun it.in_order it.in_run) (shown_rows J e.cycles own)
+    (λ row it. good-bar lanes lane e.cycles address (shown_in J own row.first) row few there it.begun it.in_order it.in_run) (shown_rows J e.cycles own)
     (are-rows (is_shown J own) (goes_on J own) e.cycles (is-run air J l own)).longest
 
-good-lane : (air : Air) (it : LabelWords) (e : Parts) (J : List Entry) → IsLegal air J → (own lanes lane address : ℕ) → lanes ≤ 16 → lane ≤ lanes → AllByRecursion (Good lanes) (lane_marks it e J own lane address)
-good-lane air it e J l own lanes lane address few within =
+good-lane : (air : Air) (it : LabelWords) (e : Parts) (J : List Entry) → IsLegal air J → (own lanes : ℕ) (lane : Lane) (address : ℕ) → lanes ≤ 16 → IsAmong lanes lane → AllByRecursion (Good lanes) (lane_marks it e J own lane address)
+good-lane air it e J l own lanes lane address few there =
     all-append (Good lanes) (lane_head lane (name_of it address)) (bars e J own lane address) (
-      good-line lanes 2000 (lane_base lane) 17800 (lane_base lane) (line_paint grid 15) [] (omega arith) few (omega arith) (omega arith) (omega arith) (omega arith),
-      (good-words lanes 1880 (lane_base lane) 300 anchors.End weights.Regular (name_of it address) [] (omega arith) few (omega arith) (omega arith), tt),
-    ) (good-bars air e J l own lanes lane address few within)
+      good-line lanes 2000 lane.base 17800 lane.base (line_paint grid 15) [] (omega arith) few (omega arith) (omega arith) (omega arith) (omega arith),
+      (good-words lanes 1880 lane.base 300 anchors.End weights.Regular (name_of it address) [] (omega arith) few (omega arith) (omega arith), tt),
+    ) (good-bars air e J l own lanes lane address few there)
 
 -- ---- lanes
 
@@ -601,13 +655,17 @@ filter-few p (x ∷ xs) =
       | inr unmet ↦ (let all = ap length (cond-false (p x) (x ∷ filter p xs) (filter p xs) unmet) in omega arith)
     ]
 
-good-craft : (air : Air) (it : LabelWords) (e : Parts) (J : List Entry) → IsLegal air J → lanes_of e ≤ 16 → (own : ℕ) → AllByRecursion (Good (lanes_of e)) (craft_marks it e J own)
-unfolding craft_marks
-good-craft air it e J l few own = by (slice_get e.crafts own)
+-- The lane of an aircraft is one of all lanes.
+lane-among : (e : Parts) (own : ℕ) → lanes_of e ≤ 16 → IsAmong (lanes_of e) (lane_of e.crafts own)
+lane-among e own few = among (lanes_of e) (active_among (take own e.crafts)) few (filter-front is_active own e.crafts)
   where
     is_active : CraftSpec → Bool
     is_active craft = is_active_kind craft.kind
 
+good-craft : (air : Air) (it : LabelWords) (e : Parts) (J : List Entry) → IsLegal air J → lanes_of e ≤ 16 → (own : ℕ) → AllByRecursion (Good (lanes_of e)) (craft_marks it e J own)
+unfolding craft_marks
+good-craft air it e J l few own = by (slice_get e.crafts own)
+  where
     by : (craft : Option CraftSpec) → AllByRecursion (Good (lanes_of e)) (option_map_or (marks_of_craft it e J own) craft [])
     by None = tt
     by (Some craft) =
@@ -615,7 +673,7 @@ good-craft air it e J l few own = by (slice_get e.crafts own)
         elim (cases_Bool (is_active_kind craft.kind)) [
           | inl met ↦
               subst (AllByRecursion (Good (lanes_of e))) (sym (cond-true (is_active_kind craft.kind) (lane_marks it e J own lane craft.address) [] met))
-              (good-lane air it e J l own (lanes_of e) lane craft.address few (filter-front is_active own e.crafts))
+              (good-lane air it e J l own (lanes_of e) lane craft.address few (lane-among e own few))
           | inr unmet ↦ subst (AllByRecursion (Good (lanes_of e))) (sym (cond-false (is_active_kind craft.kind) (lane_marks it e J own lane craft.address) [] unmet)) tt
         ]
 
@@ -643,21 +701,22 @@ record IsNear (height : ℕ) (shaft : Shaft) : Type 0 where
   begins : shaft.tail_y + 600 ≤ height
   neck : shaft.neck_y ≤ height
   ends : shaft.tip_y ≤ height
+  room : shaft.room ≤ 880
 
-near : (lanes from to sender receiver : ℕ) → IsInPlot from → IsInPlot to → sender ≤ lanes → receiver ≤ lanes → IsNear (page_height lanes) (shaft_of from to sender receiver)
+near : (lanes from to : ℕ) (sender receiver : Lane) → IsInPlot from → IsInPlot to → IsAmong lanes sender → IsAmong lanes receiver → IsNear (page_height lanes) (shaft_of from to sender receiver)
 unfolding shaft_of
 near lanes from to sender receiver f t a b =
     let one = f.left in
     let two = f.right in
     let three = t.left in
     let four = t.right in
-    elim (cases_Bool (nat_lt sender receiver)) [
+    elim (cases_Bool (nat_lt sender.base receiver.base)) [
       | inl met ↦
-          subst (IsNear (page_height lanes)) (sym (cond-true (nat_lt sender receiver) (down_shaft from to sender receiver) (up_shaft from to sender receiver) met))
-          (record { tail = omega arith; tip = omega arith; left = omega arith; begins = omega arith; neck = omega arith; ends = omega arith })
+          subst (IsNear (page_height lanes)) (sym (cond-true (nat_lt sender.base receiver.base) (down_shaft from to sender receiver) (up_shaft from to sender receiver) met))
+          (record { tail = omega arith; tip = omega arith; left = omega arith; begins = omega arith; neck = omega arith; ends = omega arith; room = omega arith })
       | inr unmet ↦
-          subst (IsNear (page_height lanes)) (sym (cond-false (nat_lt sender receiver) (down_shaft from to sender receiver) (up_shaft from to sender receiver) unmet))
-          (record { tail = omega arith; tip = omega arith; left = omega arith; begins = omega arith; neck = omega arith; ends = omega arith })
+          subst (IsNear (page_height lanes)) (sym (cond-false (nat_lt sender.base receiver.base) (down_shaft from to sender receiver) (up_shaft from to sender receiver) unmet))
+          (record { tail = omega arith; tip = omega arith; left = omega arith; begins = omega arith; neck = omega arith; ends = omega arith; room = omega arith })
     ]
 
 good-shaft-line : (height : ℕ) (shaft : Shaft) (paint : Paint) (title : List ℕ) → FitsPaint paint → height ≤ 60000 → IsNear height shaft →
@@ -690,35 +749,24 @@ good-arrow e arrow few t =
     let from = event-within e.cycles arrow.sent_after t.sent in
     let to = event-within e.cycles arrow.taking.taken_after t.taken in
     let stands = near (lanes_of e) (event_x e.cycles arrow.sent_after) (event_x e.cycles arrow.taking.taken_after) (lane_of e.crafts arrow.taking.sender) (lane_of e.crafts arrow.taking.receiver) from to
-    (filter-front is_active arrow.taking.sender e.crafts) (filter-front is_active arrow.taking.receiver e.crafts) in
+    (lane-among e arrow.taking.sender few) (lane-among e arrow.taking.receiver few) in
     good-shaft (page_height (lanes_of e)) (arrow_shaft e arrow) (color_of arrow.after) (arrow_title (address_of e arrow.taking.sender) (address_of e arrow.taking.receiver) arrow) (low-page (lanes_of e) few) stands
-  where
-    is_active : CraftSpec → Bool
-    is_active craft = is_active_kind craft.kind
 
 good-arrows : (e : Parts) (J : List Entry) → IsLegal (air_of e) J → lanes_of e ≤ 16 → AllByRecursion (Good (lanes_of e)) (arrows_marks e J)
 good-arrows e J l few = all-over (IsTimely e) (Good (lanes_of e)) (arrow_marks e) (λ arrow timely. good-arrow e arrow few timely) (arrows e J) (arrows-timely e J J l l)
 
 -- ---- messages that were lost or spoilt
 
-third-most : (from to : ℕ) → third_of from to ≤ 320
-third-most from to = elim (cases_Bool (nat_lt 960 (to - from))) [
-  | inl met ↦ subst (λ (n : ℕ). n ≤ 320) (sym (cond-true (nat_lt 960 (to - from)) 320 ((to - from) / 3) met)) (omega arith)
-  | inr unmet ↦
-      (let most = ltb-false 960 (to - from) unmet in
-      subst (λ (n : ℕ). n ≤ 320) (sym (cond-false (nat_lt 960 (to - from)) 320 ((to - from) / 3) unmet)) (omega (arith, most)))
-]
+way-most : (room from to : ℕ) → room ≤ 880 → lost_way room from to ≤ 440
+way-most room from to few = both-ways (λ (n : ℕ). n ≤ 440) (nat_lt (room / 2) ((to - from) / 3)) (room / 2) ((to - from) / 3) (λ met. omega arith)
+    (λ unmet. let most = ltb-false (room / 2) ((to - from) / 3) unmet in omega arith)
 
-lost-most : (shaft : Shaft) → lost_y shaft ≤ shaft.tail_y + 320
+lost-most : (shaft : Shaft) → shaft.room ≤ 880 → lost_y shaft ≤ shaft.tail_y + 440
 unfolding lost_y
-lost-most shaft =
-    let down = third-most shaft.tail_y shaft.tip_y in
-    let below = shaft.tail_y + third_of shaft.tail_y shaft.tip_y in
-    let above_it = shaft.tail_y - third_of shaft.tip_y shaft.tail_y in
-    elim (cases_Bool (nat_lt shaft.tail_y shaft.tip_y)) [
-      | inl met ↦ subst (λ (n : ℕ). n ≤ shaft.tail_y + 320) (sym (cond-true (nat_lt shaft.tail_y shaft.tip_y) below above_it met)) (omega (arith, down))
-      | inr unmet ↦ subst (λ (n : ℕ). n ≤ shaft.tail_y + 320) (sym (cond-false (nat_lt shaft.tail_y shaft.tip_y) below above_it unmet)) (omega arith)
-    ]
+lost-most shaft few =
+    let down = way-most shaft.room shaft.tail_y shaft.tip_y few in
+    both-ways (λ (n : ℕ). n ≤ shaft.tail_y + 440) (nat_lt shaft.tail_y shaft.tip_y) (shaft.tail_y + lost_way shaft.room shaft.tail_y shaft.tip_y)
+    (shaft.tail_y - lost_way shaft.room shaft.tip_y shaft.tail_y) (λ met. omega (arith, down)) (λ unmet. omega arith)
 
 good-stroke : (height x y p q : ℕ) (title : List ℕ) → height ≤ 60000 → x ≤ 20000 → y ≤ height → p ≤ 20000 → q ≤ height → GoodTo height (stroke (point_at x y) (point_at p q) title)
 good-stroke height x y p q title few a b c d = line-to height x y p q (line_paint ink 40) title (omega arith) few a b c d
@@ -733,7 +781,7 @@ good-cross : (height : ℕ) (shaft : Shaft) (title : List ℕ) → height ≤ 60
 good-cross height shaft title few n =
     let tail = n.tail in
     let begins = n.begins in
-    let most = lost-most shaft in
+    let most = lost-most shaft n.room in
     let right : shaft.tail_x + 70 ≤ 20000 = omega (arith, tail) in
     let low : lost_y shaft + 70 ≤ height = omega (arith, most, begins) in
     (good-stroke height shaft.tail_x shaft.tail_y shaft.tail_x (lost_y shaft) title few (omega (arith, tail)) (omega (arith, begins)) (omega (arith, tail)) (omega (arith, low)), good-cross-at height shaft.tail_x (lost_y shaft) title few right low)
@@ -758,7 +806,7 @@ unfolding count_marks
 good-count height shaft row title few n =
     let tail = n.tail in
     let begins = n.begins in
-    let most = lost-most shaft in
+    let most = lost-most shaft n.room in
     let right = beside-most shaft in
     let words = decimal ((row.last + 1) - row.first) in
     let x : count_x shaft ≤ 20000 = omega (arith, right, tail) in
@@ -779,11 +827,8 @@ good-row e sign sent few t =
     let at = event-within e.cycles sent.sent_after t in
     let shaft = row_shaft e sent in
     let title = row_title (address_of e sent.sender) (address_of e sent.receiver) sign sent in
-    let stands = near (lanes_of e) x x (lane_of e.crafts sent.sender) (lane_of e.crafts sent.receiver) at at (filter-front is_active sent.sender e.crafts) (filter-front is_active sent.receiver e.crafts) in
+    let stands = near (lanes_of e) x x (lane_of e.crafts sent.sender) (lane_of e.crafts sent.receiver) at at (lane-among e sent.sender few) (lane-among e sent.receiver few) in
     all-append (Good (lanes_of e)) (sign_marks sign shaft title) (count_marks shaft sent.row title) (good-sign (page_height (lanes_of e)) sign shaft title (low-page (lanes_of e) few) stands) (good-count (page_height (lanes_of e)) shaft sent.row title (low-page (lanes_of e) few) stands)
-  where
-    is_active : CraftSpec → Bool
-    is_active craft = is_active_kind craft.kind
 
 good-rows : (e : Parts) (J : List Entry) (sign : Sign) → IsLegal (air_of e) J → lanes_of e ≤ 16 → AllByRecursion (Good (lanes_of e)) (mishaps_marks e J sign)
 good-rows e J sign l few = all-over (IsInRun e) (Good (lanes_of e)) (drawn_row e sign) (λ sent t. good-row e sign sent few t) (sent_rows e J sign) (rows-in-run e J sign J l)
@@ -806,7 +851,7 @@ good-sample : (height top x y : ℕ) (sign : Sign) (words : List ℕ) → height
 unfolding sample_marks
 good-sample height top x y sign words few low left right high =
     all-append (GoodTo height) (sign_marks sign (sample_shaft x y) []) (worded (letters (point_at (x + 200) (top + 430)) 260 anchors.Start weights.Regular) words [] ∷ [])
-    (good-sign height sign (sample_shaft x y) [] few (record { tail = omega arith; tip = omega arith; left = omega arith; begins = omega arith; neck = omega arith; ends = omega arith }))
+    (good-sign height sign (sample_shaft x y) [] few (record { tail = omega arith; tip = omega arith; left = omega arith; begins = omega arith; neck = omega arith; ends = omega arith; room = omega arith }))
     (words-to height (x + 200) (top + 430) 260 anchors.Start weights.Regular words [] (omega arith) few (omega arith) (omega arith), tt)
 
 good-legend : (height top : ℕ) → height ≤ 60000 → top + 2300 ≤ height → AllByRecursion (GoodTo height) (legend_marks top)
@@ -955,14 +1000,15 @@ are-good it e J labels valid l few =
     let n = lanes_of e in
     let below = below_of it e in
     let most = below-most it e labels in
+    let high = lanes-most n few in
     let height = page_height n + below in
-    let tall : height ≤ 60000 = omega (arith, most, few) in
+    let tall : height ≤ 60000 = omega (arith, most, high) in
     let lanes = all-range (Good n) (craft_marks it e J) 0 (length e.crafts) (λ own first last. good-craft (air_of e) it e J l few own) in
     let bands = good-bands (air_of e) e J l n few in
-    let panels = good-panels it e height (panels_top n) (nearest_pair e) (omega arith) (omega (arith, few)) tall (nearest-is e valid) in
+    let panels = good-panels it e height (panels_top n) (nearest_pair e) (omega arith) (omega (arith, high)) tall (nearest-is e valid) in
     let panels_low = panels-most (nearest_pair e) in
-    let plan = good-plan it e height (plan_top e) (nearest_pair e) (omega arith) (omega (arith, few, panels_low)) valid.run.length.0 (nearest-is e valid) in
-    let heard = good-heard it e J height (plan_top e) (omega arith) (omega (arith, few, panels_low)) in
+    let plan = good-plan it e height (plan_top e) (nearest_pair e) (omega arith) (omega (arith, high, panels_low)) valid.run.length.0 (nearest-is e valid) in
+    let heard = good-heard it e J height (plan_top e) (omega arith) (omega (arith, high, panels_low)) in
     let legend = good-legend height (legend_top e) tall (omega arith) in
     let list = good-list height (list_top e) it e.cycles tall (omega arith) in (
       above n below (head_marks it e J (nearest_pair e)) (good-head it e J (nearest_pair e) n few),
@@ -989,11 +1035,13 @@ each-section P Q (s ∷ rest) h =
     ((all-left P Q s.marks h.0, more.0), (all-right P Q s.marks h.0, more.1))
 
 fits-page : (lanes below : ℕ) → lanes ≤ 16 → below ≤ 26900 → FitsFrame (frame_of lanes below)
-fits-page lanes below few small_below = record {
-  width = omega arith;
-  height = omega arith;
-  window = record { corner = (point-to (page_height lanes) 2000 5100 (low-page lanes few) (omega arith) (omega arith)).1; width = omega arith; height = omega arith };
-}
+fits-page lanes below few small_below =
+    let most = lanes-most lanes few in
+    record {
+      width = omega arith;
+      height = omega arith;
+      window = record { corner = (point-to (page_height lanes) 2000 5100 (low-page lanes few) (omega arith) (omega arith)).1; width = omega arith; height = omega arith };
+    }
 
 pub is-sound : (it : LabelWords) (e : Parts) (J : List Entry) → AreLabels it → IsEncounter e → length e.crafts ≤ 16 → IsLegal (air_of e) J → IsSound it e J
 unfolding picture_lines

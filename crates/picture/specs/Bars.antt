@@ -13,11 +13,12 @@ use Rattle.advisory_report.specs.Phrases.{has_advice}
 use Rattle.advisory_report.specs.declared.composite.Composite.{Composite}
 use Rattle.equal_rows.specs.declared.row.Row.{Row}
 use Rattle.labels.specs.Labels.{LabelWords, name_of}
-use Rattle.picture.specs.Layout.{lane_base, lane_of}
+use Rattle.picture.specs.Layout.{lane_of}
 use Rattle.page_marks.specs.Places.{area_at, point_at}
 use Rattle.page_marks.specs.Paints.{box_marks, grid, halo, letters, line_paint}
 use Rattle.picture.specs.Shown.{shown_in, shown_rows}
 use Rattle.picture.specs.declared.bar.Bar.{Bar}
+use Rattle.picture.specs.declared.layout.Lane.{Lane}
 use Rattle.page_marks.specs.declared.paints.Advised.{Advised}
 use Rattle.page_marks.specs.declared.paints.Advised.TheVariants as kinds
 use Rattle.plot_axes.specs.Time.{begin_of}
@@ -49,32 +50,26 @@ bar_title address row composite =
 
 -- ---- where a bar stands
 
-abbrev pub tall : ℕ
-tall = 400
-
-abbrev pub low : ℕ
-low = 280
-
--- Bars of corrective advice are tall.
-abbrev pub bar_height : Composite → ℕ
-bar_height composite = if composite.corrective then tall else low
+-- Bars of corrective advice are tall. Other bars are low: seven tenths of that.
+abbrev pub bar_height : ℕ → Composite → ℕ
+bar_height tall composite = if composite.corrective then tall else tall * 7 / 10
 
 -- It reaches from the beginning of its first cycle to the end of its last one, and stands on the base of its lane.
-abbrev pub bar_of : ℕ → ℕ → Row → Composite → Bar
+abbrev pub bar_of : ℕ → Lane → Row → Composite → Bar
 bar_of cycles lane row composite = record {
   left = begin_of cycles row.first;
   width = begin_of cycles (row.last + 1) - begin_of cycles row.first;
-  base = lane_base lane;
-  height = bar_height composite;
+  base = lane.base;
+  height = bar_height lane.tall composite;
 }
 
 -- A bar stands in the box of the lanes.
 pub record IsPlaced (bar : Bar) : Type 0 where
   pub left : 2000 ≤ bar.left
   pub right : bar.left + bar.width ≤ 17800
-  pub top : 5700 ≤ bar.base
-  pub bottom : bar.base ≤ 21060
-  pub height : bar.height ≤ tall
+  pub top : 5500 ≤ bar.base
+  pub bottom : bar.base ≤ 25200
+  pub height : bar.height ≤ 400
 
 abbrev pub bar_area : Bar → Area
 bar_area bar = area_at bar.left (bar.base - bar.height) bar.width bar.height
@@ -109,24 +104,24 @@ word_marks bar word title = if has_room bar (length word) then word_pair bar wor
 unfoldable pub titled_bar : Bar → Composite → List ℕ → List Mark
 titled_bar bar composite title = box_marks (advised composite) (bar_area bar) title ++ word_marks bar (word_of composite) title
 
-unfoldable pub bar_marks : ℕ → ℕ → ℕ → Composite → Row → List Mark
+unfoldable pub bar_marks : ℕ → Lane → ℕ → Composite → Row → List Mark
 bar_marks cycles lane address composite row = titled_bar (bar_of cycles lane row composite) composite (bar_title address row composite)
 
 -- ---- lanes
 
-abbrev pub row_marks : Parts → List Entry → ℕ → ℕ → ℕ → Row → List Mark
+abbrev pub row_marks : Parts → List Entry → ℕ → Lane → ℕ → Row → List Mark
 row_marks e journal own lane address row = bar_marks e.cycles lane address (shown_in journal own row.first) row
 
-unfoldable pub bars : Parts → List Entry → ℕ → ℕ → ℕ → List Mark
+unfoldable pub bars : Parts → List Entry → ℕ → Lane → ℕ → List Mark
 bars e journal own lane address = flat_map (row_marks e journal own lane address) (shown_rows journal e.cycles own)
 
 -- The line on which the bars of a lane stand, and what the aircraft is called.
-abbrev pub lane_head : ℕ → List ℕ → List Mark
+abbrev pub lane_head : Lane → List ℕ → List Mark
 lane_head lane name =
-    figure (shapes.Segment (point_at 2000 (lane_base lane)) (point_at 17800 (lane_base lane))) (line_paint grid 15) []
-    ∷ worded (letters (point_at 1880 (lane_base lane)) 300 anchors.End weights.Regular) name [] ∷ []
+    figure (shapes.Segment (point_at 2000 lane.base) (point_at 17800 lane.base)) (line_paint grid 15) []
+    ∷ worded (letters (point_at 1880 lane.base) 300 anchors.End weights.Regular) name [] ∷ []
 
-abbrev pub lane_marks : LabelWords → Parts → List Entry → ℕ → ℕ → ℕ → List Mark
+abbrev pub lane_marks : LabelWords → Parts → List Entry → ℕ → Lane → ℕ → List Mark
 lane_marks it e journal own lane address = lane_head lane (name_of it address) ++ bars e journal own lane address
 
 abbrev pub marks_of_craft : LabelWords → Parts → List Entry → ℕ → CraftSpec → List Mark

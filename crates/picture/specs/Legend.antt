@@ -20,7 +20,7 @@ item_marks top x advised words =
 
 -- A sign at a place, and what it means.
 abbrev pub sample_shaft : ℕ → ℕ → Shaft
-sample_shaft x y = record { tail_x = x; tail_y = y; tip_x = x; neck_y = y + 220; tip_y = y + 400 }
+sample_shaft x y = record { tail_x = x; tail_y = y; tip_x = x; neck_y = y + 220; tip_y = y + 400; room = 400 }
 
 unfoldable pub sample_marks : ℕ → ℕ → ℕ → Sign → List ℕ → List Mark
 sample_marks top x y sign words = sign_marks sign (sample_shaft x y) [] ++ worded (letters (point_at (x + 200) (top + 430)) 260 anchors.Start weights.Regular) words [] ∷ []

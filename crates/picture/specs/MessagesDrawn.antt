@@ -10,8 +10,9 @@ use Rattle.acas_text.specs.Hex.{hex}
 use Rattle.air_journal.specs.Airs.{address_of}
 use Rattle.page_marks.specs.Paints.{blue, filled, line_paint, note, vermilion}
 use Rattle.page_marks.specs.Places.{point_at}
-use Rattle.picture.specs.Layout.{lane_base, lane_of}
+use Rattle.picture.specs.Layout.{lane_of}
 use Rattle.picture.specs.Messages.{arrows}
+use Rattle.picture.specs.declared.layout.Lane.{Lane}
 use Rattle.picture.specs.declared.messages_drawn.Shaft.{Shaft}
 use Rattle.picture.specs.declared.messages_read.Arrow.{Arrow}
 use Rattle.plot_axes.specs.Time.{axis_begin, middle_of}
@@ -44,15 +45,17 @@ unfoldable pub event_x : ℕ → ℕ → ℕ
 event_x cycles commits = if commits == 0 then axis_begin else middle_of cycles commits
 
 -- From the end of the bars of the upper lane to the top of those of the lower lane, a little to the left.
-abbrev pub down_shaft : ℕ → ℕ → ℕ → ℕ → Shaft
-down_shaft from to upper lower = record { tail_x = from - 70; tail_y = lane_base upper; tip_x = to - 70; neck_y = lane_base lower - 580; tip_y = lane_base lower - 400 }
+abbrev pub down_shaft : ℕ → ℕ → Lane → Lane → Shaft
+down_shaft from to upper lower =
+    record { tail_x = from - 70; tail_y = upper.base; tip_x = to - 70; neck_y = (lower.base - lower.tall) - 180; tip_y = lower.base - lower.tall; room = upper.room }
 
 -- From the top of the bars of the lower lane to the end of those of the upper lane, a little to the right.
-abbrev pub up_shaft : ℕ → ℕ → ℕ → ℕ → Shaft
-up_shaft from to lower upper = record { tail_x = from + 70; tail_y = lane_base lower - 400; tip_x = to + 70; neck_y = lane_base upper + 180; tip_y = lane_base upper }
+abbrev pub up_shaft : ℕ → ℕ → Lane → Lane → Shaft
+up_shaft from to lower upper =
+    record { tail_x = from + 70; tail_y = lower.base - lower.tall; tip_x = to + 70; neck_y = upper.base + 180; tip_y = upper.base; room = lower.room }
 
-unfoldable pub shaft_of : ℕ → ℕ → ℕ → ℕ → Shaft
-shaft_of from to sender receiver = if nat_lt sender receiver then down_shaft from to sender receiver else up_shaft from to sender receiver
+unfoldable pub shaft_of : ℕ → ℕ → Lane → Lane → Shaft
+shaft_of from to sender receiver = if nat_lt sender.base receiver.base then down_shaft from to sender receiver else up_shaft from to sender receiver
 
 -- A shaft stands near the lanes.
 pub record IsShaft (shaft : Shaft) : Type 0 where
@@ -62,6 +65,7 @@ pub record IsShaft (shaft : Shaft) : Type 0 where
   pub begins : shaft.tail_y ≤ 39500
   pub neck : shaft.neck_y ≤ 39500
   pub ends : shaft.tip_y ≤ 39500
+  pub room : shaft.room ≤ 880
 
 -- ---- its marks
 

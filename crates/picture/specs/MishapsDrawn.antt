@@ -40,14 +40,16 @@ row_title sender receiver sign sent =
 
 -- ---- where a lost message ends
 
--- A third of the way from its sender to its receiver, and at most 320 from its sender. So no lane between the two hides
--- it.
-abbrev pub third_of : ℕ → ℕ → ℕ
-third_of from to = if nat_lt 960 (to - from) then 320 else (to - from) / 3
+-- A third of the way from its sender to its receiver, and at most half of the way to the next lane. So no lane between
+-- the two hides it.
+abbrev pub lost_way : ℕ → ℕ → ℕ → ℕ
+lost_way room from to = if nat_lt (room / 2) ((to - from) / 3) then room / 2 else (to - from) / 3
 
 -- How far down: below the sender where the receiver stands below, else above it.
 unfoldable pub lost_y : Shaft → ℕ
-lost_y shaft = if nat_lt shaft.tail_y shaft.tip_y then shaft.tail_y + third_of shaft.tail_y shaft.tip_y else shaft.tail_y - third_of shaft.tip_y shaft.tail_y
+lost_y shaft =
+    if nat_lt shaft.tail_y shaft.tip_y then shaft.tail_y + lost_way shaft.room shaft.tail_y shaft.tip_y
+    else shaft.tail_y - lost_way shaft.room shaft.tip_y shaft.tail_y
 
 -- ---- the marks
 

@@ -1,11 +1,11 @@
 // A bar: a row of cycles in which an aircraft shows the same.
 ghost use Rattle.std.specs.Prelude.{◌≡◌, ◌+◌, ◌<◌, ◌≤◌, length};
 ghost use Rattle.picture.specs.Bars.{IsPlaced, advised, bar_area, bar_height, bar_marks, bar_of, bar_title, has_room, mark_text, titled_bar, word_marks, word_x, word_y};
-ghost use Rattle.picture.specs.Layout.{lane_base};
+ghost use Rattle.picture.specs.Layout.{IsLane};
 ghost use Rattle.svg_text.specs.declared.drawing.TheConstants.{LABEL_BYTES};
 
 use crate::bar::Bar;
-use crate::layout::lane_base;
+use crate::layout::Lane;
 use acas_base::Address;
 use acas_lines::fixed_line;
 use acas_text::Line;
@@ -70,15 +70,20 @@ pub(crate) fn bar_title(address: Address, row: Row, composite: &Composite) -> Li
 
 // ---- where it stands
 
-fn bar_height(composite: &Composite) -> u32
-    ensures value { result ≡ bar_height composite.now }
+fn bar_height(tall: u32, composite: &Composite) -> u32
+    requires { tall ≤ 400 }
+    ensures value { result ≡ bar_height tall composite.now }
     ensures most { result ≤ 400 }
 {
-    if composite.corrective { 400 } else { 280 }
+    if composite.corrective {
+        tall
+    } else {
+        tall * 7 / 10
+    }
 }
 
-fn bar_of(axis: TimeAxis, lane: u32, row: Row, composite: &Composite) -> Bar
-    requires lane { lane ≤ 16 }
+fn bar_of(axis: TimeAxis, lane: Lane, row: Row, composite: &Composite) -> Bar
+    requires lane { IsLane lane }
     requires first { 1 ≤ row.first }
     requires order { row.first ≤ row.last }
     requires last { row.last ≤ axis.cycles }
@@ -89,8 +94,8 @@ fn bar_of(axis: TimeAxis, lane: u32, row: Row, composite: &Composite) -> Bar
     Bar {
         left,
         width: axis.begin(row.last + 1) - left,
-        base: lane_base(lane),
-        height: bar_height(composite),
+        base: lane.base,
+        height: bar_height(lane.tall, composite),
     }
 }
 
@@ -121,7 +126,7 @@ fn word_x(bar: Bar) -> u32
 fn word_y(bar: Bar) -> u32
     requires { IsPlaced bar }
     ensures value { result ≡ word_y bar }
-    ensures most { result ≤ 21140 }
+    ensures most { result ≤ 25280 }
 {
     bar.base - bar.height / 2 + 80
 }
@@ -158,13 +163,13 @@ fn put_titled<D: Drawing>(bar: Bar, composite: &Composite, title: &Line, drawing
 #[tactic(auto, unfolding(crate::specs::Bars::bar_marks))]
 pub(crate) fn put_bar<D: Drawing>(
     axis: TimeAxis,
-    lane: u32,
+    lane: Lane,
     address: Address,
     composite: &Composite,
     row: Row,
     drawing: &mut D,
 )
-    requires lane { lane ≤ 16 }
+    requires lane { IsLane lane }
     requires first { 1 ≤ row.first }
     requires order { row.first ≤ row.last }
     requires last { row.last ≤ axis.cycles }

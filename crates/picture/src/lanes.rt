@@ -4,12 +4,12 @@ ghost use Rattle.std.specs.List.{flat_map};
 ghost use Rattle.acas_text.specs.Hex.{hex};
 ghost use Rattle.equal_rows.specs.Rows.{rows_at};
 ghost use Rattle.picture.specs.Bars.{bars, craft_marks, lane_head, lane_marks, lanes_marks, row_marks};
-ghost use Rattle.picture.specs.Layout.{lane_base};
+ghost use Rattle.picture.specs.Layout.{IsLane};
 ghost use Rattle.picture.specs.Shown.{goes_on, is_shown};
 ghost use Rattle.svg_text.specs.declared.drawing.TheConstants.{LABEL_BYTES};
 
 use crate::bars::put_bar;
-use crate::layout::{lane_base, lane_of};
+use crate::layout::{Lane, lane_of};
 use crate::shown::{begins, last_from, shown_in};
 use acas_base::Address;
 use acas_text::Line;
@@ -25,13 +25,13 @@ fn put_begun<D: Drawing>(
     state: &AirState,
     axis: TimeAxis,
     own: u8,
-    lane: u32,
+    lane: Lane,
     address: Address,
     cycle: u16,
     drawing: &mut D,
 )
     requires axis { axis.cycles ≡ state.now.encounter.cycles }
-    requires lane { lane ≤ 16 }
+    requires lane { IsLane lane }
     requires first { 1 ≤ cycle }
     requires last { cycle ≤ axis.cycles }
     ensures { D.drew drawing.old drawing.new (flat_map (row_marks state.now.encounter state.now.journal own lane address) (rows_at (is_shown state.now.journal own) (goes_on state.now.journal own) state.now.encounter.cycles cycle)) }
@@ -57,12 +57,12 @@ fn put_bars<D: Drawing>(
     state: &AirState,
     axis: TimeAxis,
     own: u8,
-    lane: u32,
+    lane: Lane,
     address: Address,
     drawing: &mut D,
 )
     requires axis { axis.cycles ≡ state.now.encounter.cycles }
-    requires lane { lane ≤ 16 }
+    requires lane { IsLane lane }
     ensures { D.drew drawing.old drawing.new (bars state.now.encounter state.now.journal own lane address) }
 {
     for cycle in 1..axis.cycles + 1 {
@@ -81,19 +81,18 @@ pub(crate) fn address_text(address: Address) -> Line
 }
 
 // Puts the line of a lane, and what its aircraft is called.
-fn put_lane_head<D: Drawing>(lane: u32, name: &Line, drawing: &mut D)
-    requires lane { lane ≤ 16 }
+fn put_lane_head<D: Drawing>(lane: Lane, name: &Line, drawing: &mut D)
+    requires lane { IsLane lane }
     requires name { length name.now ≤ LABEL_BYTES }
     ensures { D.drew drawing.old drawing.new (lane_head lane name.now) }
 {
-    let base = lane_base(lane);
     let line = Shape::Segment {
-        from: point_at(2_000, base),
-        to: point_at(17_800, base),
+        from: point_at(2_000, lane.base),
+        to: point_at(17_800, lane.base),
     };
     put_line(line, grid(), drawing);
     put_words(
-        point_at(1_880, base),
+        point_at(1_880, lane.base),
         300,
         Anchor::End,
         Weight::Regular,
@@ -107,12 +106,12 @@ fn put_lane<D: Drawing>(
     state: &AirState,
     axis: TimeAxis,
     own: u8,
-    lane: u32,
+    lane: Lane,
     address: Address,
     drawing: &mut D,
 )
     requires axis { axis.cycles ≡ state.now.encounter.cycles }
-    requires lane { lane ≤ 16 }
+    requires lane { IsLane lane }
     ensures { D.drew drawing.old drawing.new (lane_marks labels.now state.now.encounter state.now.journal own lane address) }
 {
     put_lane_head(lane, &labels.name(address), drawing);

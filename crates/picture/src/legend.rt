@@ -48,6 +48,7 @@ fn sample_shaft(x: u32, y: u32) -> Shaft
         tip_x: x,
         neck_y: y + 220,
         tip_y: y + 400,
+        room: 400,
     }
 }
 

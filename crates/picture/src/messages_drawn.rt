@@ -1,6 +1,7 @@
 // How the arrows of messages are drawn between the lanes.
 ghost use Rattle.std.specs.Prelude.{◌≡◌, ◌∷◌, [], ◌≤◌, length};
 ghost use Rattle.air_journal.specs.Airs.{address_of};
+ghost use Rattle.picture.specs.Layout.{IsLane};
 ghost use Rattle.picture.specs.Messages.{IsArrow};
 ghost use Rattle.picture.specs.MessagesDrawn.{IsShaft, arrow_marks, arrow_shaft, arrow_title, color_of, down_shaft, event_x, head_points, message_text, shaft_marks, shaft_of, up_shaft};
 ghost use Rattle.page_marks.specs.Paints.{filled};
@@ -9,7 +10,7 @@ ghost use Rattle.svg_text.specs.declared.drawing.TheConstants.{LABEL_BYTES};
 ghost use Rattle.svg_text.specs.declared.shapes.Outline.TheVariants as outlines;
 
 use crate::altitude::address_of;
-use crate::layout::{lane_base, lane_of};
+use crate::layout::{Lane, lane_of};
 use crate::messages_read::Arrow;
 use acas_base::{Address, Encounter, Vrc};
 use acas_text::Line;
@@ -17,7 +18,8 @@ use page_marks::{blue, filled, line_paint, note, point_at, vermilion};
 use plot_axes::{TIME_BEGIN, TimeAxis};
 use svg_text::{Color, Drawing, Outline, Shape};
 
-/// Where an arrow stands: its tail, where its head begins, and its tip.
+/// Where an arrow stands: its tail, where its head begins, and its tip; and how far it is from the lane of its sender
+/// to the next lane.
 #[derive(Clone, Copy)]
 pub(crate) struct Shaft {
     pub tail_x: u32,
@@ -25,6 +27,7 @@ pub(crate) struct Shaft {
     pub tip_x: u32,
     pub neck_y: u32,
     pub tip_y: u32,
+    pub room: u32,
 }
 
 // ---- what it says
@@ -89,59 +92,60 @@ pub(crate) fn event_x(axis: TimeAxis, commits: u16) -> u32
     }
 }
 
-fn down_shaft(from: u32, to: u32, upper: u32, lower: u32) -> Shaft
+fn down_shaft(from: u32, to: u32, upper: Lane, lower: Lane) -> Shaft
     requires from_left { 2000 ≤ from }
     requires from_right { from ≤ 17800 }
     requires to_left { 2000 ≤ to }
     requires to_right { to ≤ 17800 }
-    requires upper { upper ≤ 16 }
-    requires lower { lower ≤ 16 }
+    requires upper { IsLane upper }
+    requires lower { IsLane lower }
     ensures value { result ≡ down_shaft from to upper lower }
     ensures near { IsShaft result }
 {
-    let base = lane_base(lower);
+    let top = lower.base - lower.tall;
     Shaft {
         tail_x: from - 70,
-        tail_y: lane_base(upper),
+        tail_y: upper.base,
         tip_x: to - 70,
-        neck_y: base - 580,
-        tip_y: base - 400,
+        neck_y: top - 180,
+        tip_y: top,
+        room: upper.room,
     }
 }
 
-fn up_shaft(from: u32, to: u32, lower: u32, upper: u32) -> Shaft
+fn up_shaft(from: u32, to: u32, lower: Lane, upper: Lane) -> Shaft
     requires from_left { 2000 ≤ from }
     requires from_right { from ≤ 17800 }
     requires to_left { 2000 ≤ to }
     requires to_right { to ≤ 17800 }
-    requires lower { lower ≤ 16 }
-    requires upper { upper ≤ 16 }
+    requires lower { IsLane lower }
+    requires upper { IsLane upper }
     ensures value { result ≡ up_shaft from to lower upper }
     ensures near { IsShaft result }
 {
-    let base = lane_base(upper);
     Shaft {
         tail_x: from + 70,
-        tail_y: lane_base(lower) - 400,
+        tail_y: lower.base - lower.tall,
         tip_x: to + 70,
-        neck_y: base + 180,
-        tip_y: base,
+        neck_y: upper.base + 180,
+        tip_y: upper.base,
+        room: lower.room,
     }
 }
 
 /// From the lane of a sender to that of a receiver.
 #[tactic(auto, unfolding(crate::specs::MessagesDrawn::shaft_of))]
-pub(crate) fn shaft_of(from: u32, to: u32, sender: u32, receiver: u32) -> Shaft
+pub(crate) fn shaft_of(from: u32, to: u32, sender: Lane, receiver: Lane) -> Shaft
     requires from_left { 2000 ≤ from }
     requires from_right { from ≤ 17800 }
     requires to_left { 2000 ≤ to }
     requires to_right { to ≤ 17800 }
-    requires sender { sender ≤ 16 }
-    requires receiver { receiver ≤ 16 }
+    requires sender { IsLane sender }
+    requires receiver { IsLane receiver }
     ensures value { result ≡ shaft_of from to sender receiver }
     ensures near { IsShaft result }
 {
-    if sender < receiver {
+    if sender.base < receiver.base {
         down_shaft(from, to, sender, receiver)
     } else {
         up_shaft(from, to, sender, receiver)

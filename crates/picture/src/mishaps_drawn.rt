@@ -4,7 +4,7 @@ ghost use Rattle.std.specs.Fmt.{decimal};
 ghost use Rattle.air_journal.specs.Airs.{address_of};
 ghost use Rattle.picture.specs.MessagesDrawn.{IsShaft, head_points};
 ghost use Rattle.picture.specs.Mishaps.{IsSentRow};
-ghost use Rattle.picture.specs.MishapsDrawn.{count_marks, count_x, cross_at, cross_marks, drawn_row, fate_text, hollow_marks, lost_y, numbers_text, row_shaft, row_title, sign_marks, stroke, third_of, titled_row};
+ghost use Rattle.picture.specs.MishapsDrawn.{count_marks, count_x, cross_at, cross_marks, drawn_row, fate_text, hollow_marks, lost_way, lost_y, numbers_text, row_shaft, row_title, sign_marks, stroke, titled_row};
 ghost use Rattle.page_marks.specs.Paints.{ink, line_paint};
 ghost use Rattle.svg_text.specs.Marks.{traced};
 ghost use Rattle.svg_text.specs.declared.drawing.TheConstants.{LABEL_BYTES};
@@ -70,24 +70,26 @@ fn row_title(sender: Address, receiver: Address, sign: Sign, sent: SentRow) -> L
 
 // ---- where a lost message ends
 
-fn third_of(from: u32, to: u32) -> u32
-    ensures value { result ≡ third_of from to }
-    ensures few { result ≤ 320 }
+fn lost_way(room: u32, from: u32, to: u32) -> u32
+    requires { room ≤ 880 }
+    ensures value { result ≡ lost_way room from to }
+    ensures few { result ≤ 440 }
 {
-    let way = to.saturating_sub(from);
-    if way > 960 { 320 } else { way / 3 }
+    let third = to.saturating_sub(from) / 3;
+    let half = room / 2;
+    if half < third { half } else { third }
 }
 
 #[tactic(auto, unfolding(crate::specs::MishapsDrawn::lost_y))]
 fn lost_y(shaft: Shaft) -> u32
     requires { IsShaft shaft }
     ensures value { result ≡ lost_y shaft }
-    ensures most { result ≤ 39820 }
+    ensures most { result ≤ 39940 }
 {
     if shaft.tail_y < shaft.tip_y {
-        shaft.tail_y + third_of(shaft.tail_y, shaft.tip_y)
+        shaft.tail_y + lost_way(shaft.room, shaft.tail_y, shaft.tip_y)
     } else {
-        let back = third_of(shaft.tip_y, shaft.tail_y);
+        let back = lost_way(shaft.room, shaft.tip_y, shaft.tail_y);
         shaft.tail_y.saturating_sub(back)
     }
 }

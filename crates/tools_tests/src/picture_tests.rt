@@ -88,7 +88,7 @@ enum Drawing {
     // 2,800.
     Labelled,
     // Of examples/transponder-only.enc. The first aircraft has no lane, so the second one has the first lane. With one
-    // lane in place of two, what follows is higher by 960.
+    // lane in place of two, what follows is higher by 1,200.
     Transponder,
 }
 
@@ -101,7 +101,7 @@ fn add_end(page: &mut Page, list: &[Mark]) -> Result<(), AllocError> {
 
 fn add_one_cycle(page: &mut Page) -> Result<(), AllocError> {
     page.add(HEAD_OF_ONE_CYCLE)?;
-    add_time(page, 2020, ONE, "cycle")?;
+    add_time(page, 2500, ONE, "cycle")?;
     page.add(labelled::NONE)?;
     page.add(altitude::OF_ONE_CYCLE)?;
     page.add(messages::NONE)?;
@@ -127,21 +127,21 @@ fn add_panels(
 
 fn add_reversal(page: &mut Page) -> Result<(), AllocError> {
     page.add(HEAD_OF_REVERSAL)?;
-    add_time(page, 2020, FIFTHS, "cycle")?;
+    add_time(page, 2500, FIFTHS, "cycle")?;
     add_panels(page, labelled::NONE, "400A01", ADDRESSES, FIFTHS)?;
     add_end(page, labelled::NONE)
 }
 
 fn add_labelled(page: &mut Page) -> Result<(), AllocError> {
     page.add(HEAD_OF_LABELLED)?;
-    add_time(page, 2020, TIMES, "time")?;
+    add_time(page, 2500, TIMES, "time")?;
     add_panels(page, labelled::LINES, "AB-12", NAMES, TIMES)?;
     add_end(page, labelled::LIST)
 }
 
 fn add_transponder(page: &mut Page) -> Result<(), AllocError> {
     page.add(HEAD_OF_TRANSPONDER)?;
-    add_time(page, 1060, FIFTHS, "cycle")?;
+    add_time(page, 1300, FIFTHS, "cycle")?;
     page.add(labelled::NONE)?;
     altitude::add_transponder(page)?;
     page.add(messages::NONE)?;
@@ -163,7 +163,7 @@ fn add(page: &mut Page, drawing: Drawing) -> Result<(), AllocError> {
 // of calls, of which `further` has rows.
 fn has_drawing(alloc: Global, text: &[u8], drawing: Drawing) -> Result<bool, AllocError> {
     let higher = if matches!(drawing, Drawing::Transponder) {
-        960
+        1_200
     } else {
         0
     };
@@ -240,6 +240,12 @@ fn keeps_names_apart(rt: HostRuntime) -> Result<(), Fail> {
 #[test]
 fn gathers_equal_calls(rt: HostRuntime) -> Result<(), Fail> {
     assert_eq!(rt; groups::first_other(rt.alloc(), groups::GATHERED)?, None);
+    Ok(())
+}
+
+#[test]
+fn gives_few_lanes_more_room(rt: HostRuntime) -> Result<(), Fail> {
+    assert_eq!(rt; groups::first_other(rt.alloc(), groups::LANES)?, None);
     Ok(())
 }
 

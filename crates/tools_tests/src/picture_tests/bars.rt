@@ -15,10 +15,10 @@ const NAME: Paint = " font-size=\"300\" text-anchor=\"end\" fill=\"#222222\"";
 // Two empty lanes.
 pub const OF_ONE_CYCLE: &[Mark] = &[
     Lines("<g>\n"),
-    Line((2000, 5700), (17800, 5700), GRID, ""),
-    Words((1880, 5700), NAME, "", "400A01"),
-    Line((2000, 6660), (17800, 6660), GRID, ""),
-    Words((1880, 6660), NAME, "", "400B02"),
+    Line((2000, 5950), (17800, 5950), GRID, ""),
+    Words((1880, 5950), NAME, "", "400A01"),
+    Line((2000, 7150), (17800, 7150), GRID, ""),
+    Words((1880, 7150), NAME, "", "400B02"),
     Lines("</g>\n"),
 ];
 
@@ -26,30 +26,30 @@ pub const OF_ONE_CYCLE: &[Mark] = &[
 fn add_reversed(page: &mut Page, shown: &Reversed, name: &'static str) -> Result<(), AllocError> {
     page.add(&[
         Lines("<g>\n"),
-        Line((2000, 5700), (17800, 5700), GRID, ""),
-        Words((1880, 5700), NAME, "", name),
-        Rect((8116, 5420), (6625, 280), TRAFFIC_BAR, shown.traffic),
-        Over(220, (11428, 5640), shown.traffic, "TRAFFIC"),
-        Rect((14741, 5300), (1020, 400), UP_BAR, shown.up),
-        Rect((15761, 5300), (2039, 400), DOWN_BAR, shown.down),
-        Rect((15761, 5300), (2039, 400), HATCHED, shown.down),
-        Over(220, (16780, 5580), shown.down, "DOWN-DESCEND"),
+        Line((2000, 5950), (17800, 5950), GRID, ""),
+        Words((1880, 5950), NAME, "", name),
+        Rect((8116, 5670), (6625, 280), TRAFFIC_BAR, shown.traffic),
+        Over(220, (11428, 5890), shown.traffic, "TRAFFIC"),
+        Rect((14741, 5550), (1020, 400), UP_BAR, shown.up),
+        Rect((15761, 5550), (2039, 400), DOWN_BAR, shown.down),
+        Rect((15761, 5550), (2039, 400), HATCHED, shown.down),
+        Over(220, (16780, 5830), shown.down, "DOWN-DESCEND"),
     ])
 }
 
 // In the second lane.
 const TURNED: &[Mark] = &[
-    Line((2000, 6660), (17800, 6660), GRID, ""),
-    Words((1880, 6660), NAME, "", "400B02"),
-    Rect((8116, 6380), (6625, 280), TRAFFIC_BAR, TURNED_TRAFFIC),
-    Over(220, (11428, 6600), TURNED_TRAFFIC, "TRAFFIC"),
-    Rect((14741, 6260), (510, 400), UP_BAR, TURNED_UP),
-    Rect((15251, 6260), (510, 400), DOWN_BAR, TURNED_DOWN),
-    Rect((15251, 6260), (510, 400), HATCHED, TURNED_DOWN),
-    Rect((15761, 6260), (509, 400), DOWN_BAR, TURNED_MORE),
-    Rect((15761, 6260), (509, 400), HATCHED, TURNED_MORE),
-    Rect((16270, 6380), (1530, 280), UP_BAR, TURNED_AGAIN),
-    Over(220, (17035, 6600), TURNED_AGAIN, "UP-CLIMB"),
+    Line((2000, 7150), (17800, 7150), GRID, ""),
+    Words((1880, 7150), NAME, "", "400B02"),
+    Rect((8116, 6870), (6625, 280), TRAFFIC_BAR, TURNED_TRAFFIC),
+    Over(220, (11428, 7090), TURNED_TRAFFIC, "TRAFFIC"),
+    Rect((14741, 6750), (510, 400), UP_BAR, TURNED_UP),
+    Rect((15251, 6750), (510, 400), DOWN_BAR, TURNED_DOWN),
+    Rect((15251, 6750), (510, 400), HATCHED, TURNED_DOWN),
+    Rect((15761, 6750), (509, 400), DOWN_BAR, TURNED_MORE),
+    Rect((15761, 6750), (509, 400), HATCHED, TURNED_MORE),
+    Rect((16270, 6870), (1530, 280), UP_BAR, TURNED_AGAIN),
+    Over(220, (17035, 7090), TURNED_AGAIN, "UP-CLIMB"),
     Lines("</g>\n"),
 ];
 

@@ -9,40 +9,40 @@ use std::alloc::AllocError;
 
 // The lines across the panel of the range, and what they say.
 const MILES: &[Mark] = &[
-    Line((2000, 10870), (17800, 10870), GRID, ""),
-    Words((1880, 10950), SMALL_BEFORE, "", "0 NM"),
-    Line((2000, 10295), (17800, 10295), GRID, ""),
-    Words((1880, 10375), SMALL_BEFORE, "", "5 NM"),
-    Line((2000, 9720), (17800, 9720), GRID, ""),
-    Words((1880, 9800), SMALL_BEFORE, "", "10 NM"),
-    Line((2000, 9145), (17800, 9145), GRID, ""),
-    Words((1880, 9225), SMALL_BEFORE, "", "15 NM"),
-    Line((2000, 8570), (17800, 8570), GRID, ""),
-    Words((1880, 8650), SMALL_BEFORE, "", "20 NM"),
+    Line((2000, 11350), (17800, 11350), GRID, ""),
+    Words((1880, 11430), SMALL_BEFORE, "", "0 NM"),
+    Line((2000, 10775), (17800, 10775), GRID, ""),
+    Words((1880, 10855), SMALL_BEFORE, "", "5 NM"),
+    Line((2000, 10200), (17800, 10200), GRID, ""),
+    Words((1880, 10280), SMALL_BEFORE, "", "10 NM"),
+    Line((2000, 9625), (17800, 9625), GRID, ""),
+    Words((1880, 9705), SMALL_BEFORE, "", "15 NM"),
+    Line((2000, 9050), (17800, 9050), GRID, ""),
+    Words((1880, 9130), SMALL_BEFORE, "", "20 NM"),
 ];
 
 const FEET: &[Mark] = &[
-    Line((2000, 14270), (17800, 14270), GRID, ""),
-    Words((1880, 14350), SMALL_BEFORE, "", "0 ft"),
-    Line((2000, 13695), (17800, 13695), GRID, ""),
-    Words((1880, 13775), SMALL_BEFORE, "", "200 ft"),
-    Line((2000, 13120), (17800, 13120), GRID, ""),
-    Words((1880, 13200), SMALL_BEFORE, "", "400 ft"),
-    Line((2000, 12545), (17800, 12545), GRID, ""),
-    Words((1880, 12625), SMALL_BEFORE, "", "600 ft"),
-    Line((2000, 11970), (17800, 11970), GRID, ""),
-    Words((1880, 12050), SMALL_BEFORE, "", "800 ft"),
+    Line((2000, 14750), (17800, 14750), GRID, ""),
+    Words((1880, 14830), SMALL_BEFORE, "", "0 ft"),
+    Line((2000, 14175), (17800, 14175), GRID, ""),
+    Words((1880, 14255), SMALL_BEFORE, "", "200 ft"),
+    Line((2000, 13600), (17800, 13600), GRID, ""),
+    Words((1880, 13680), SMALL_BEFORE, "", "400 ft"),
+    Line((2000, 13025), (17800, 13025), GRID, ""),
+    Words((1880, 13105), SMALL_BEFORE, "", "600 ft"),
+    Line((2000, 12450), (17800, 12450), GRID, ""),
+    Words((1880, 12530), SMALL_BEFORE, "", "800 ft"),
 ];
 
 // The level of ALIM.
 const ALIM: &[Mark] = &[
     Line(
-        (2000, 12545),
-        (17800, 12545),
+        (2000, 13025),
+        (17800, 13025),
         " fill=\"none\" stroke=\"#222222\" stroke-width=\"20\" stroke-dasharray=\"260 100\"",
         "ALIM 600 ft",
     ),
-    Words((17900, 12625), SMALL, "", "ALIM 600 ft"),
+    Words((17900, 13105), SMALL, "", "ALIM 600 ft"),
 ];
 
 // The line and the ring at the closest approach.
@@ -90,15 +90,16 @@ pub const NAMES: Headings = Headings {
 
 // Both aircraft fly towards each other to the end.
 const RANGES: &[u32] = &[
-    9144, 9173, 9202, 9231, 9259, 9288, 9317, 9346, 9375, 9403, 9432, 9461, 9490, 9518, 9547, 9576,
-    9605, 9633, 9662, 9691, 9720, 9749, 9777, 9806, 9835, 9864, 9892, 9921, 9950, 9979, 10007,
+    9624, 9653, 9682, 9711, 9739, 9768, 9797, 9826, 9855, 9883, 9912, 9941, 9970, 9998, 10027,
+    10056, 10085, 10113, 10142, 10171, 10200, 10229, 10257, 10286, 10315, 10344, 10372, 10401,
+    10430, 10459, 10487,
 ];
 
 // They are at one altitude until one of them climbs.
 const HEIGHTS: &[u32] = &[
-    14270, 14270, 14270, 14270, 14270, 14270, 14270, 14270, 14270, 14270, 14270, 14270, 14270,
-    14270, 14270, 14270, 14270, 14270, 14270, 14270, 14270, 14270, 14270, 14270, 14270, 14270,
-    14270, 13983, 13695, 13408, 13120,
+    14750, 14750, 14750, 14750, 14750, 14750, 14750, 14750, 14750, 14750, 14750, 14750, 14750,
+    14750, 14750, 14750, 14750, 14750, 14750, 14750, 14750, 14750, 14750, 14750, 14750, 14750,
+    14750, 14463, 14175, 13888, 13600,
 ];
 
 // A panel with the line of its distances.
@@ -128,52 +129,52 @@ fn add_panel(
 }
 
 const ONE_RANGE: Panel = Panel {
-    top: 8570,
+    top: 9050,
     levels: MILES,
     alim: &[],
     closest: "closest approach: cycle 1, slant range 91200 ft",
     x: 2000,
-    y: 9144,
+    y: 9624,
 };
 
 const ONE_HEIGHT: Panel = Panel {
-    top: 11970,
+    top: 12450,
     levels: FEET,
     alim: ALIM,
     closest: "closest approach: cycle 1, vertical distance 300 ft",
     x: 2000,
-    y: 13408,
+    y: 13888,
 };
 
 // The slant range in cycle 31, and what is said of it.
 fn last_range(closest: &'static str) -> Panel {
     Panel {
-        top: 8570,
+        top: 9050,
         levels: MILES,
         alim: &[],
         closest,
         x: 17290,
-        y: 10007,
+        y: 10487,
     }
 }
 
 // The vertical distance in cycle 31.
 fn last_height(closest: &'static str) -> Panel {
     Panel {
-        top: 11970,
+        top: 12450,
         levels: FEET,
         alim: ALIM,
         closest,
         x: 17290,
-        y: 13120,
+        y: 13600,
     }
 }
 
 // One cycle, 91,200 ft and 300 ft apart. The lines are dots.
 pub fn add_one_cycle(page: &mut Page) -> Result<(), AllocError> {
     let Headings { range, height, .. } = ADDRESSES;
-    let far = Circle((2000, 9144), 40, DOT, range);
-    let high = Circle((2000, 13408), 40, DOT, height);
+    let far = Circle((2000, 9624), 40, DOT, range);
+    let high = Circle((2000, 13888), 40, DOT, height);
     page.add(&[Lines("<g>\n")])?;
     add_panel(page, &ONE_RANGE, range, ONE, far)?;
     add_panel(page, &ONE_HEIGHT, height, ONE, high)?;

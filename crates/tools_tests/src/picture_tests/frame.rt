@@ -38,13 +38,13 @@ const CLOSEST_OF_ONE: &str = "closest as planned: 400A01 and 400B02, cycle 1; th
 
 pub const HEAD_OF_ONE_CYCLE: &[Mark] = &[
     OPENING,
-    Lines("viewBox=\"0 0 20000 26870\" width=\"1000\" height=\"1343\""),
+    Lines("viewBox=\"0 0 20000 27350\" width=\"1000\" height=\"1367\""),
     FONT,
     Lines(OF_TWO_TA),
     Lines(PATTERN),
-    Rect((2000, 5100), (15800, 2020), "", ""),
+    Rect((2000, 5100), (15800, 2500), "", ""),
     DEFINED,
-    Rect((0, 0), (20000, 26870), WHITE, ""),
+    Rect((0, 0), (20000, 27350), WHITE, ""),
     Lines("<g>\n"),
     Words((400, 700), TITLE, "", OF_TWO_TA),
     Words((400, 1150), SENT, "", "0 messages sent"),
@@ -67,13 +67,13 @@ const APART: &str = "slant range 45601 ft, vertical distance 400 ft";
 
 pub const HEAD_OF_REVERSAL: &[Mark] = &[
     OPENING,
-    Lines("viewBox=\"0 0 20000 26870\" width=\"1000\" height=\"1343\""),
+    Lines("viewBox=\"0 0 20000 27350\" width=\"1000\" height=\"1367\""),
     FONT,
     Lines(OF_TWO_RA),
     Lines(PATTERN),
-    Rect((2000, 5100), (15800, 2020), "", ""),
+    Rect((2000, 5100), (15800, 2500), "", ""),
     DEFINED,
-    Rect((0, 0), (20000, 26870), WHITE, ""),
+    Rect((0, 0), (20000, 27350), WHITE, ""),
     Lines("<g>\n"),
     Words((400, 700), TITLE, "", OF_TWO_RA),
     Words((400, 1150), SENT, "", "12 messages sent"),
@@ -89,13 +89,13 @@ const CLOSEST_OF_LABELLED: &str =
 // The seven marks in the run make the page higher by 2,800.
 pub const HEAD_OF_LABELLED: &[Mark] = &[
     OPENING,
-    Lines("viewBox=\"0 0 20000 29670\" width=\"1000\" height=\"1483\""),
+    Lines("viewBox=\"0 0 20000 30150\" width=\"1000\" height=\"1507\""),
     FONT,
     Lines(OF_TWO_RA),
     Lines(PATTERN),
-    Rect((2000, 5100), (15800, 2020), "", ""),
+    Rect((2000, 5100), (15800, 2500), "", ""),
     DEFINED,
-    Rect((0, 0), (20000, 29670), WHITE, ""),
+    Rect((0, 0), (20000, 30150), WHITE, ""),
     Lines("<g>\n"),
     Words((400, 700), TITLE, "", OF_TWO_RA),
     Words((400, 1150), SENT, "", "12 messages sent"),
@@ -106,16 +106,16 @@ pub const HEAD_OF_LABELLED: &[Mark] = &[
 
 const OF_ONE_RA: &str = "Encounter of 2 aircraft (1 RA, 0 TA, 1 XPDR), 31 cycles";
 
-// One lane in place of two makes it lower by 960.
+// One lane in place of two makes it lower by 1,200.
 pub const HEAD_OF_TRANSPONDER: &[Mark] = &[
     OPENING,
-    Lines("viewBox=\"0 0 20000 25910\" width=\"1000\" height=\"1295\""),
+    Lines("viewBox=\"0 0 20000 26150\" width=\"1000\" height=\"1307\""),
     FONT,
     Lines(OF_ONE_RA),
     Lines(PATTERN),
-    Rect((2000, 5100), (15800, 1060), "", ""),
+    Rect((2000, 5100), (15800, 1300), "", ""),
     DEFINED,
-    Rect((0, 0), (20000, 25910), WHITE, ""),
+    Rect((0, 0), (20000, 26150), WHITE, ""),
     Lines("<g>\n"),
     Words((400, 700), TITLE, "", OF_ONE_RA),
     Words((400, 1150), SENT, "", "0 messages sent"),
@@ -156,9 +156,9 @@ pub fn add_time(
     let style = " font-size=\"260\" text-anchor=\"middle\" fill=\"#222222\"";
     page.add(&[
         Lines("<g>\n"),
-        Ticks(ticks, 1500, 7220, style),
+        Ticks(ticks, 1500, 7700, style),
         Rect((2000, 5100), (15800, lanes), FRAME, ""),
-        Words((9900, 7900), style, "", name),
+        Words((9900, 8380), style, "", name),
         Lines("</g>\n"),
     ])
 }
@@ -168,35 +168,35 @@ const BOTH: Paint = " fill=\"#F3E6F1\" stroke=\"#8E4585\" stroke-width=\"50\"";
 // A lost message is a line that ends in a cross. A spoilt one is a line of dashes that ends in a hollow head.
 pub const LEGEND: &[Mark] = &[
     Lines("<g>\n"),
-    Rect((2000, 24770), (700, 280), TRAFFIC_BAR, ""),
-    Words((2850, 25000), PLAIN, "", "traffic"),
-    Rect((5200, 24770), (700, 280), UP_BAR, ""),
-    Words((6050, 25000), PLAIN, "", "up"),
-    Rect((8400, 24770), (700, 280), DOWN_BAR, ""),
-    Rect((8400, 24770), (700, 280), HATCHED, ""),
-    Words((9250, 25000), PLAIN, "", "down"),
-    Rect((11600, 24770), (700, 280), BOTH, ""),
-    Words((12450, 25000), PLAIN, "", "up and down"),
-    Line((14900, 24780), (14900, 24913), DRAWN_40, ""),
-    Line((14830, 24843), (14970, 24983), DRAWN_40, ""),
-    Line((14830, 24983), (14970, 24843), DRAWN_40, ""),
-    Words((15100, 25000), PLAIN, "", "lost"),
-    Line((16800, 24710), (16800, 24930), DASHED_40, ""),
+    Rect((2000, 25250), (700, 280), TRAFFIC_BAR, ""),
+    Words((2850, 25480), PLAIN, "", "traffic"),
+    Rect((5200, 25250), (700, 280), UP_BAR, ""),
+    Words((6050, 25480), PLAIN, "", "up"),
+    Rect((8400, 25250), (700, 280), DOWN_BAR, ""),
+    Rect((8400, 25250), (700, 280), HATCHED, ""),
+    Words((9250, 25480), PLAIN, "", "down"),
+    Rect((11600, 25250), (700, 280), BOTH, ""),
+    Words((12450, 25480), PLAIN, "", "up and down"),
+    Line((14900, 25260), (14900, 25393), DRAWN_40, ""),
+    Line((14830, 25323), (14970, 25463), DRAWN_40, ""),
+    Line((14830, 25463), (14970, 25323), DRAWN_40, ""),
+    Words((15100, 25480), PLAIN, "", "lost"),
+    Line((16800, 25190), (16800, 25410), DASHED_40, ""),
     Corners(
-        [(16710, 24930), (16890, 24930), (16800, 25110)],
+        [(16710, 25410), (16890, 25410), (16800, 25590)],
         DRAWN_30,
         "",
     ),
-    Words((17000, 25000), PLAIN, "", "spoilt"),
+    Words((17000, 25480), PLAIN, "", "spoilt"),
     Words(
-        (2000, 25470),
+        (2000, 25950),
         PLAIN,
         "",
         "A tall bar: corrective advice. A low bar: preventive advice, or traffic alone.",
     ),
-    Words((2000, 25820), PLAIN, "", ARROW),
-    Words((2000, 26170), PLAIN, "", BAND),
-    Words((2000, 26520), PLAIN, "", DOTTED),
+    Words((2000, 26300), PLAIN, "", ARROW),
+    Words((2000, 26650), PLAIN, "", BAND),
+    Words((2000, 27000), PLAIN, "", DOTTED),
     Lines("</g>\n"),
 ];
 

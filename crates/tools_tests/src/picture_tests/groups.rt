@@ -60,6 +60,24 @@ const THREE_PAIRS: Group = Group {
     ],
 };
 
+// The first pair of these, and seven aircraft that are too far away from all others to be measured.
+const NINE: Group = Group {
+    cycles: 13,
+    gain: Some(1024),
+    places: &[
+        (0x40_0A01, 0, 0, 35_000),
+        (0x40_0B02, 91_200, 0, 35_000),
+        (0x40_0C03, 0, 300_000, 35_000),
+        (0x40_0D04, 0, 500_000, 35_000),
+        (0x40_0E05, 0, 700_000, 35_000),
+        (0x40_0F06, 0, 900_000, 35_000),
+        (0x41_0A07, 0, -300_000, 35_000),
+        (0x41_0B08, 0, -500_000, 35_000),
+        (0x41_0C09, 0, -700_000, 35_000),
+    ],
+    legs: &[EAST, WEST],
+};
+
 // A group, lines of its picture, and whether they stand there in order.
 type Row = (Group, &'static str, bool);
 
@@ -68,6 +86,12 @@ pub const PLACED: &[Row] = &[(CROSSING, further::PLACED, true)];
 pub const GATHERED: &[Row] = &[
     (THREE_PAIRS, further::SIX, true),
     (THREE_PAIRS, further::SECOND, false),
+];
+
+pub const LANES: &[Row] = &[
+    (CROSSING, further::THREE_LANES, true),
+    (THREE_PAIRS, further::SIX_LANES, true),
+    (NINE, further::NINE_LANES, true),
 ];
 
 fn crafts(alloc: Global, places: &[Place]) -> Result<Vec<CraftSpec>, Fail> {

@@ -88,7 +88,7 @@ const CYCLES: &[u32] = &[
 ];
 
 // Each y from here on stands below the lanes. It is written as for two lanes.
-const BELOW_LANES: u32 = 7000;
+const BELOW_LANES: u32 = 7600;
 
 // The text so far.
 #[derive(Drop)]

@@ -22,10 +22,10 @@ const LOST_BACK: Fate = Fate {
 const THREE_LOST: &str = "messages 1 to 3 of 400A01 to 400B02 lost, cycle 26";
 
 const THREE: &[Mark] = &[
-    Line((14926, 5700), (14926, 5886), DRAWN_40, THREE_LOST),
-    Line((14856, 5816), (14996, 5956), DRAWN_40, THREE_LOST),
-    Line((14856, 5956), (14996, 5816), DRAWN_40, THREE_LOST),
-    Over(220, (14646, 5966), THREE_LOST, "3"),
+    Line((14926, 5950), (14926, 6216), DRAWN_40, THREE_LOST),
+    Line((14856, 6146), (14996, 6286), DRAWN_40, THREE_LOST),
+    Line((14856, 6286), (14996, 6146), DRAWN_40, THREE_LOST),
+    Over(220, (14646, 6296), THREE_LOST, "3"),
     Lines("</g>\n"),
 ];
 
@@ -37,15 +37,15 @@ const THIRD_LOST: &str = "message 3 of 400A01 to 400B02 lost, cycle 28";
 const FIFTH_LOST: &str = "message 5 of 400A01 to 400B02 lost, cycle 30";
 
 const ODD: &[Mark] = &[
-    Line((14926, 5700), (14926, 5886), DRAWN_40, FIRST_LOST),
-    Line((14856, 5816), (14996, 5956), DRAWN_40, FIRST_LOST),
-    Line((14856, 5956), (14996, 5816), DRAWN_40, FIRST_LOST),
-    Line((15945, 5700), (15945, 5886), DRAWN_40, THIRD_LOST),
-    Line((15875, 5816), (16015, 5956), DRAWN_40, THIRD_LOST),
-    Line((15875, 5956), (16015, 5816), DRAWN_40, THIRD_LOST),
-    Line((16965, 5700), (16965, 5886), DRAWN_40, FIFTH_LOST),
-    Line((16895, 5816), (17035, 5956), DRAWN_40, FIFTH_LOST),
-    Line((16895, 5956), (17035, 5816), DRAWN_40, FIFTH_LOST),
+    Line((14926, 5950), (14926, 6216), DRAWN_40, FIRST_LOST),
+    Line((14856, 6146), (14996, 6286), DRAWN_40, FIRST_LOST),
+    Line((14856, 6286), (14996, 6146), DRAWN_40, FIRST_LOST),
+    Line((15945, 5950), (15945, 6216), DRAWN_40, THIRD_LOST),
+    Line((15875, 6146), (16015, 6286), DRAWN_40, THIRD_LOST),
+    Line((15875, 6286), (16015, 6146), DRAWN_40, THIRD_LOST),
+    Line((16965, 5950), (16965, 6216), DRAWN_40, FIFTH_LOST),
+    Line((16895, 6146), (17035, 6286), DRAWN_40, FIFTH_LOST),
+    Line((16895, 6286), (17035, 6146), DRAWN_40, FIFTH_LOST),
     Lines("</g>\n"),
 ];
 
@@ -53,10 +53,10 @@ const ODD: &[Mark] = &[
 const FIVE_LOST: &str = "messages 2 to 6 of 400B02 to 400A01 lost, cycle 27";
 
 const LAST_FIVE: &[Mark] = &[
-    Line((15576, 6260), (15576, 6074), DRAWN_40, FIVE_LOST),
-    Line((15506, 6004), (15646, 6144), DRAWN_40, FIVE_LOST),
-    Line((15506, 6144), (15646, 6004), DRAWN_40, FIVE_LOST),
-    Over(220, (15856, 6154), FIVE_LOST, "5"),
+    Line((15576, 6750), (15576, 6484), DRAWN_40, FIVE_LOST),
+    Line((15506, 6414), (15646, 6554), DRAWN_40, FIVE_LOST),
+    Line((15506, 6554), (15646, 6414), DRAWN_40, FIVE_LOST),
+    Over(220, (15856, 6564), FIVE_LOST, "5"),
     Lines("</g>\n"),
 ];
 
@@ -64,9 +64,9 @@ const LAST_FIVE: &[Mark] = &[
 const SPOILT: &str = "message 1 of 400A01 to 400B02 spoilt, cycle 26";
 
 const ONE_SPOILT: &[Mark] = &[
-    Line((14926, 5700), (14926, 6080), DASHED_40, SPOILT),
+    Line((14926, 5950), (14926, 6570), DASHED_40, SPOILT),
     Corners(
-        [(14836, 6080), (15016, 6080), (14926, 6260)],
+        [(14836, 6570), (15016, 6570), (14926, 6750)],
         DRAWN_30,
         SPOILT,
     ),
