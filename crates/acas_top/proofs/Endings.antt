@@ -12,7 +12,7 @@ use Rattle.acas_top.specs.Statuses.{status_number}
 use Rattle.acas_top.specs.Words.{AreNoCommand, AreNoFlight, AreNoList, AreNoPicture, AreNoPlain, AreNoQuiet, AreNoRun, IsCommand, Say, limit_of, most}
 use Rattle.acas_top.specs.Given.{answer_status, answer_text}
 use Rattle.acas_top.specs.declared.answers.Answer.{Answer}
-use Rattle.acas_top.specs.declared.answers.Answer.TheVariants.{Compared, Decoded, ExplainedRefusal, ExplainedWrong, Faultless, Judged, Made, Many as AnswerMany, Recorded, Refused, RightEncounter, RightRecording, Shown, Summed, Swept, Told, Unmet, Varied}
+use Rattle.acas_top.specs.declared.answers.Answer.TheVariants.{Compared, Decoded, ExplainedRefusal, ExplainedWrong, Faultless, Judged, Listed, Made, Many as AnswerMany, Recorded, Refused, RightEncounter, RightRecording, Shown, Summed, Swept, Told, Unmet, Varied}
 use Rattle.acas_top.specs.declared.status.Status.{Status}
 use Rattle.acas_top.specs.declared.status.Status.TheVariants as statuses
 use Rattle.rec_audit.specs.declared.verdict.Verdict.TheVariants.{Legal, Wrong}
@@ -322,6 +322,7 @@ is-answer (Made encounter) = tt
 is-answer (Told text) = tt
 is-answer (Swept swept) = tt
 is-answer (Varied varied) = tt
+is-answer (Listed listed) = tt
 is-answer (AnswerMany list) = tt
 is-answer (Summed commits counts) = tt
 is-answer (Compared one other found) = tt

@@ -1,18 +1,16 @@
 -- A single word that is none of the words of commands says none.
-use Rattle.std.proofs.Common.{◌≡◌, ◌∙◌, ℕ, List, [], ◌∷◌, false, true, length, get_or, refl, ap, arith, inl, inr}
+use Rattle.std.proofs.Common.{◌≡◌, ◌∙◌, ℕ, List, [], ◌∷◌, false, true, get_or, refl, ap, inl, inr}
 use Rattle.std.specs.Prelude.{◌≢◌, codes}
 use Rattle.std.proofs.lemmas.Bool.{false≢true}
 use Rattle.std.specs.Str.{bytes_eq}
-use Rattle.acas_top.specs.Words.{AreNoPlain, AreNoRun, SayPage, tool_word}
+use Rattle.acas_top.specs.Words.{AreNoRun, SayPage, tool_word}
 use Rattle.acas_top.specs.declared.words.Page.{Page}
 use Rattle.acas_top.specs.declared.words.Page.TheVariants.{Help, Version}
-use Rattle.acas_top.specs.declared.words.Plain.TheVariants.{Audit, Compare, Decode, Explain, Gen, Many, Possible, Resume, Serial, Show, Sweep, Tell, Tracks, Vary}
 use Rattle.acas_top.specs.declared.words.Threaded.TheVariants.{Play, Sum}
 use Rattle.acas_top.specs.declared.words.Tool.{Tool}
 use Rattle.pair_ways.specs.declared.scope.Scope.{Scope}
 use Rattle.pair_ways.specs.declared.scope.Scope.TheVariants.{Losses, Orders}
 use Rattle.possibilities.specs.Listing.{scope_word}
-use Rattle.variation_words.specs.declared.variation.Variation.TheVariants.{Exchanges, Losses as Lost, Shifts}
 use Rattle.acas_top.specs.declared.words.Tool.TheVariants.{Messages, Picture, Places, Reports, Response, Summary, Watch, Why}
 
 -- A word that the test tells from another one is another one.
@@ -46,23 +44,3 @@ other-than-pages word long short plain version Help (inl is) = different word (c
 other-than-pages word long short plain version Help (inr (inl is)) = different word (codes "-h") refl short (ap first is)
 other-than-pages word long short plain version Help (inr (inr is)) = different word (codes "help") refl plain (ap first is)
 other-than-pages word long short plain version Version is = different word (codes "--version") refl version (ap first is)
-
-module _ (word : List ℕ) (serial : false ≡ bytes_eq word (codes "serial")) (audit : false ≡ bytes_eq word (codes "audit")) (resume : false ≡ bytes_eq word (codes "resume")) (compare : false ≡ bytes_eq word (codes "compare")) (explain : false ≡ bytes_eq word (codes "explain")) (tracks : false ≡ bytes_eq word (codes "tracks")) (many : false ≡ bytes_eq word (codes "many")) (scopes : (scope : Scope) → word ≢ scope_word scope) (tools : (tool : Tool) → word ≢ tool_word tool)
-    (pages : (page : Page) → SayPage (word ∷ []) page → ⊥) where
-  pub other-than-commands : AreNoPlain (word ∷ [])
-  other-than-commands Serial valid = λ is. different word (codes "serial") refl serial (ap first is)
-  other-than-commands Audit valid = λ is. different word (codes "audit") refl audit (ap first is)
-  other-than-commands (Gen number crafts cycles) valid = λ is. absurd (omega (arith, ap length is))
-  other-than-commands (Tell tool) valid = λ is. tools tool (ap first is)
-  other-than-commands (Sweep number count crafts cycles) valid = λ is. absurd (omega (arith, ap length is))
-  other-than-commands Compare valid = λ is. different word (codes "compare") refl compare (ap first is)
-  other-than-commands Explain valid = λ is. different word (codes "explain") refl explain (ap first is)
-  other-than-commands (Decode digits) valid = λ is. absurd (omega (arith, ap length is))
-  other-than-commands Resume valid = λ is. different word (codes "resume") refl resume (ap first is)
-  other-than-commands Tracks valid = λ is. different word (codes "tracks") refl tracks (ap first is)
-  other-than-commands Many valid = λ is. different word (codes "many") refl many (ap first is)
-  other-than-commands (Possible scope) valid = λ is. scopes scope (ap first is)
-  other-than-commands (Vary (Shifts quantity address values)) valid = λ is. absurd (omega (arith, ap length is))
-  other-than-commands (Vary Lost) valid = λ is. absurd (omega (arith, ap length is))
-  other-than-commands (Vary Exchanges) valid = λ is. absurd (omega (arith, ap length is))
-  other-than-commands (Show page) valid = pages page

@@ -38,6 +38,7 @@ fn answer_for(alloc: Global, scope: Scope, encounter: &Encounter) -> Result<Answ
     requires { IsInside encounter.now }
     ensures { IfOk result (λ answer. (bytes : List ℕ) → Says bytes encounter.now → AnswersPlain (Possible scope) bytes (answer_status answer) (answer_text answer)) }
 {
+    encounter.valid_law();
     let state = serial_state(alloc, encounter)?;
     match Possibilities::of(alloc, state, scope) {
         Ok(possible) => {

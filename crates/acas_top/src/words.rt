@@ -280,14 +280,14 @@ fn of_one(word: &str) -> Option<Plain>
     if word == "many" {
         return Some(Plain::Many);
     }
-    if let Some(scope) = scope_of(word) {
-        return Some(Plain::Possible(scope));
-    }
     match tool_of(word) {
         Some(tool) => Some(Plain::Tell(tool)),
-        None => match page_of(word) {
-            Some(page) => Some(Plain::Show(page)),
-            None => None,
+        None => match scope_of(word) {
+            Some(scope) => Some(Plain::Possible(scope)),
+            None => match page_of(word) {
+                Some(page) => Some(Plain::Show(page)),
+                None => None,
+            },
         },
     }
 }

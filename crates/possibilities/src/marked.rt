@@ -143,10 +143,7 @@ impl Marked for EqualRow<'_> {
         if cycle == 0 || !self.list[usize::from(cycle)] {
             return None;
         }
-        Some(Mark::by(
-            false,
-            has_equal(self.state, self.low, self.high, cycle),
-        ))
+        Some(Mark::by(false, has_equal(self.state, self.low, self.high, cycle)))
     }
 }
 
