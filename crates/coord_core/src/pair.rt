@@ -182,6 +182,7 @@ fn cell_after(prev: &Cell, view: &View, rac: Vrc, rank: Rank) -> Cell
 ///   threat. Else it goes on. A `Second` aircraft changes its sense where the complement forbids it. Any other aircraft
 ///   does so once, by a geometric reversal.
 /// - Where no advisory starts or goes on, it is Traffic where the tests of a traffic advisory hold, else Clear.
+#[inline(always)]
 pub fn next_cell(prev: &Cell, view: &View, rac: Vrc, rank: Rank) -> Cell
     requires { (intent : Intent) → prev.now ≡ Cell.Ra intent → intent.age < 600 }
     ensures { result ≡ following_cell prev.now view.now rac rank }
