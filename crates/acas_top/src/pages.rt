@@ -6,7 +6,7 @@ use crate::words::Page;
 use acas_lines::{LineSink, fixed_line};
 
 /// The page that `--help` writes.
-pub(crate) const HELP: [&str; 62] = [
+pub(crate) const HELP: [&str; 60] = [
     "acas plays encounters between aircraft with TCAS II version 7.1.\n",
     "\n",
     "usage: acas WORD [ARGUMENTS] < INPUT > OUTPUT\n",
@@ -16,11 +16,9 @@ pub(crate) const HELP: [&str; 62] = [
     "  play       The same in threads, in an order that may differ from run to run.\n",
     "  sum        Does both. Writes counts of both runs.\n",
     "  tracks     Reads recorded tracks. Writes the encounter that flies along them.\n",
-    "  fly ADDRESS ..\n",
-    "             Writes the encounter in which these aircraft follow their advice.\n",
+    "  fly ADDRESS ..  Writes the encounter in which these follow their advice.\n",
     "  vary alt|x|y|late ADDRESS FIRST COUNT STEP, vary lose, vary swap\n",
-    "             Writes what its run comes to with one thing changed: for each of\n",
-    "             COUNT values, each loss of messages, or each swap of addresses.\n",
+    "             Writes what its run comes to with one thing changed at a time.\n",
     "  orders     Writes what each aircraft can advise, in any order of the steps.\n",
     "  losses     The same, whatever messages are lost besides.\n",
     "  many       Reads encounters, one after the other. Writes what each comes to.\n",
