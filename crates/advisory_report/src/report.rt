@@ -22,8 +22,8 @@ fn is_same_word(before: &Composite, after: &Composite) -> bool
     word(before) == word(after)
 }
 
-/// Whether the report has no line for a commit, from the composite before it to its own one: the word stays, and nothing
-/// is said (this project's profile). A caller that asks this first makes only the lines that are there.
+/// Whether the report has no line for a commit, from the composite before it to its own one: the word stays, and
+/// nothing is said (this project's profile). A caller that asks this first makes only the lines that are there.
 pub fn is_quiet(before: &Composite, after: &Composite) -> bool
     ensures value { result ≡ is_quiet before.now after.now }
     ensures quiet { IsTrue result ↔ ((word_of before.now ≡ word_of after.now) × (aural_of before.now after.now ≡ Aural.Silent)) }

@@ -76,8 +76,8 @@ impl AirState {
         }
     }
 
-    /// Commits an active aircraft's next cycle, as [`AirState::commit`] does, by a picture that only has the separations
-    /// that the rules ask for after the cells of the aircraft's last commit.
+    /// Commits an active aircraft's next cycle, as [`AirState::commit`] does, by a picture that only has the
+    /// separations that the rules ask for after the cells of the aircraft's last commit.
     pub fn commit_after(&mut self, own: u8, pic: &Picture) -> Commit
         requires active { IsActive self.old.encounter own }
         requires picture { commits self.old.journal own < self.old.encounter.cycles → pic.now ≡ picture_after (commit_cells self.old.journal own (commits self.old.journal own)) self.old.encounter own (commits self.old.journal own + 1) }

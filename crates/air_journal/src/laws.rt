@@ -46,8 +46,9 @@ pub fn shape_law()
     air_rules::shape_law();
 }
 
-/// A law: what comes first doesn't follow from what is flown later. Where the aircraft of two encounters are at the same
-/// places up to a cycle, the airs are alike up to it, and the serial journals are the same up to the end of that round.
+/// A law: what comes first doesn't follow from what is flown later. Where the aircraft of two encounters are at the
+/// same places up to a cycle, the airs are alike up to it, and the serial journals are the same up to the end of that
+/// round.
 pub fn causality_law()
     ensures alike { (e f : Parts) (last : ℕ) → FlyAlikeUpTo e f last → AreAlikeUpTo (air_of e) (air_of f) last }
     ensures same { (e f : Parts) (last : ℕ) (one two : List Entry) → IsEncounter e → IsEncounter f → FlyAlikeUpTo e f last →

@@ -155,8 +155,8 @@ impl Tables {
         self.orders[usize::from(target)].push(Arrival { send, sender: own });
     }
 
-    /// A take of the copy at a place of its queue, of which this complement was read, or none. It is inlined in the calls
-    /// of `AirState::take_found`.
+    /// A take of the copy at a place of its queue, of which this complement was read, or none. It is inlined in the
+    /// calls of `AirState::take_found`.
     #[inline(always)]
     pub(crate) fn take(&mut self, own: u8, sender: u8, place: usize, reads: Option<Vrc>)
         requires own { own < CRAFTS }

@@ -42,8 +42,8 @@ impl Model for Deliveries {
 }
 
 impl Deliveries {
-    /// Those of a state. They take memory by the number of its aircraft: 57,600 bytes for each one. Want of memory is the
-    /// only error.
+    /// Those of a state. They take memory by the number of its aircraft: 57,600 bytes for each one. Want of memory is
+    /// the only error.
     pub fn new(alloc: Global, state: AirState) -> Result<Deliveries, AllocError>
         ensures { IfOk result (λ deliveries. deliveries ≡ state) }
     {

@@ -67,9 +67,9 @@ fn first_flown(alloc: Global, encounter: &Encounter, named: &[u8]) -> Result<Enc
 }
 
 /// The encounter in which the named aircraft, by index, follow their own advice. In each cycle the altitude of each is
-/// that of the modelled response of `response`, rounded to the nearest 1/60 ft, the greater of two. The response is from
-/// the plan of the encounter that is given, to the advice of the serial journal of the encounter that is made. All else
-/// stays as it is. The named aircraft have needed legs alone.
+/// that of the modelled response of `response`, rounded to the nearest 1/60 ft, the greater of two. The response is
+/// from the plan of the encounter that is given, to the advice of the serial journal of the encounter that is made. All
+/// else stays as it is. The named aircraft have needed legs alone.
 ///
 /// `Ok(Err(..))` says where the flight leaves the limits. By [`crate::following_law`] there is then no such encounter,
 /// and never more than one. The outer error says that memory was wanting.

@@ -61,8 +61,8 @@ impl<'a> Notes<'a> {
         }
     }
 
-    /// Those of a recording, and of what became of its messages. Fates of messages that its journal doesn't send have no
-    /// effect.
+    /// Those of a recording, and of what became of its messages. Fates of messages that its journal doesn't send have
+    /// no effect.
     pub fn of_recording(text: &'a [u8], deliveries: &'a Deliveries) -> Notes<'a>
         requires { length text.now < 2 ^ 32 - 1 }
         ensures { result ≡ record { text = text.now; encounter = deliveries.now.encounter; journal = Some deliveries.now.journal } }

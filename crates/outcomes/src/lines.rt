@@ -10,8 +10,8 @@ use crate::outcome::Outcome;
 use acas_base::CRAFTS;
 use acas_text::Line;
 
-/// What one of many variants of an encounter comes to: its outcome, and whether its crews see and hear what those of the
-/// encounter as it is do.
+/// What one of many variants of an encounter comes to: its outcome, and whether its crews see and hear what those of
+/// the encounter as it is do.
 #[derive(Clone, Copy)]
 pub struct Variant {
     pub outcome: Outcome,

@@ -7,8 +7,8 @@ ghost use Rattle.pair_panels.specs.Nearest.{IsNearest, IsPair, nearest_pair};
 ghost use Rattle.pair_panels.specs.declared.distance.Distance.{Distance};
 ghost use Rattle.pair_panels.specs.declared.nearest.NearPair.{NearPair};
 
-/// A law: of the pairs in which an aircraft advises no one comes nearer than the nearest pair, and of those that come as
-/// near it has the least indices. Where there is none, there is no such pair.
+/// A law: of the pairs in which an aircraft advises no one comes nearer than the nearest pair, and of those that come
+/// as near it has the least indices. Where there is none, there is no such pair.
 pub fn nearest_law()
     ensures { (e : Parts) → IsEncounter e → IsNearest e (nearest_pair e) }
 {}

@@ -326,9 +326,9 @@ fn put_plot<D: Drawing>(
 }
 
 /// Draws a distance of a pair against time, from `top` downward, over [`PANEL_HEIGHT`]: a line through the distances of
-/// all cycles, and the closest approach as a circle and a dotted line. In a run of one cycle the line is a dot. With the
-/// vertical distance stands ALIM, by the level of the first aircraft at the closest approach, where there is one. The
-/// heading calls the aircraft as the labels do, and the axis of time has the labels' clock.
+/// all cycles, and the closest approach as a circle and a dotted line. In a run of one cycle the line is a dot. With
+/// the vertical distance stands ALIM, by the level of the first aircraft at the closest approach, where there is one.
+/// The heading calls the aircraft as the labels do, and the axis of time has the labels' clock.
 #[tactic(auto, unfolding(crate::specs::Panel::distance_marks))]
 pub fn put_distance<D: Drawing>(
     top: u32,
