@@ -21,7 +21,7 @@ pub(crate) fn first_behind(encounter: &Encounter, tables: &Tables, commits: u16)
     let count = count_of(encounter);
     for craft in 0..count {
         let theirs = tables.made(craft).commits;
-        if is_active(encounter, craft) && theirs < commits {
+        if theirs < commits && is_active(encounter, craft) {
             return Some(Behind {
                 craft,
                 commits: theirs,
