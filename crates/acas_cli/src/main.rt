@@ -33,7 +33,7 @@ fn words_of<R: Env + Alloc<A = Global>>(rt: &R) -> io::Result<Vec<String>> {
 const USAGE: [&str; 6] = [
     "usage: acas serial | play | tracks | fly ADDRESS .. | vary alt|x|y|late ",
     "ADDRESS FIRST COUNT STEP | vary lose | vary swap | orders | losses | ",
-    "many | audit | sum | gen NUMBER CRAFTS CYCLES | reports | ",
+    "instance .. | many | audit | sum | gen NUMBER CRAFTS CYCLES | reports | ",
     "sweep NUMBER COUNT CRAFTS CYCLES | response | watch | resume | why | ",
     "places | messages | summary | picture [hh:mm:ss] [ADDRESS=NAME ..] ",
     "[CYCLE=TEXT ..] | compare | explain | decode WORD | --help | --version",

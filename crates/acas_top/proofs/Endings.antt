@@ -12,7 +12,7 @@ use Rattle.acas_top.specs.Statuses.{status_number}
 use Rattle.acas_top.specs.Words.{AreNoCommand, AreNoFlight, AreNoList, AreNoPicture, AreNoPlain, AreNoQuiet, AreNoRun, IsCommand, Say, limit_of, most}
 use Rattle.acas_top.specs.Given.{answer_status, answer_text}
 use Rattle.acas_top.specs.declared.answers.Answer.{Answer}
-use Rattle.acas_top.specs.declared.answers.Answer.TheVariants.{Compared, Decoded, ExplainedRefusal, ExplainedWrong, Faultless, Judged, Listed, Made, Many as AnswerMany, Recorded, Refused, RightEncounter, RightRecording, Shown, Summed, Swept, Told, Unmet, Varied}
+use Rattle.acas_top.specs.declared.answers.Answer.TheVariants.{Compared, Decoded, ExplainedRefusal, ExplainedWrong, Said, Judged, Listed, Made, Many as AnswerMany, Recorded, Refused, RightEncounter, RightRecording, Shown, Summed, Swept, Told, Unmet, Varied}
 use Rattle.acas_top.specs.declared.status.Status.{Status}
 use Rattle.acas_top.specs.declared.status.Status.TheVariants as statuses
 use Rattle.rec_audit.specs.declared.verdict.Verdict.TheVariants.{Legal, Wrong}
@@ -23,7 +23,7 @@ use Rattle.acas_top.specs.Commands.{Command}
 use Rattle.acas_top.specs.Commands as commands
 use Rattle.acas_top.specs.declared.words.Page.TheVariants.{Help, Version}
 use Rattle.pair_ways.specs.declared.scope.Scope.TheVariants.{Losses, Orders}
-use Rattle.acas_top.specs.declared.words.Plain.TheVariants.{Audit, Compare, Decode, Explain, Gen, Many, Possible, Resume, Serial, Show, Sweep, Tell, Tracks, Vary}
+use Rattle.acas_top.specs.declared.words.Plain.TheVariants.{Audit, Compare, Decode, Explain, Gen, Instance, Many, Possible, Resume, Serial, Show, Sweep, Tell, Tracks, Vary}
 use Rattle.acas_top.specs.declared.words.Threaded.{Threaded}
 use Rattle.acas_top.specs.declared.words.Threaded.TheVariants.{Play, Sum}
 use Rattle.acas_top.specs.declared.words.Tool.TheVariants.{Messages, Picture, Places, Reports, Response, Summary, Watch, Why}
@@ -59,6 +59,7 @@ limit-by words =
     else if begins-with (codes "vary") words then Some limits.Encounter
     else if begins-with (codes "orders") words then Some limits.Encounter
     else if begins-with (codes "losses") words then Some limits.Encounter
+    else if begins-with (codes "instance") words then Some limits.Encounter
     else if begins-with (codes "explain") words then Some limits.Either
     else Some limits.Recording
 
@@ -80,6 +81,7 @@ limit-said words (commands.OfPlain Tracks) said = sym (ap limit-by said)
 limit-said words (commands.OfPlain (Vary variation)) said = sym (ap limit-by said)
 limit-said words (commands.OfPlain (Possible Orders)) said = sym (ap limit-by said)
 limit-said words (commands.OfPlain (Possible Losses)) said = sym (ap limit-by said)
+limit-said words (commands.OfPlain (Instance scope want)) said = sym (ap limit-by said)
 limit-said words (commands.OfPlain Compare) said = sym (ap limit-by said)
 limit-said words (commands.OfPlain Many) said = sym (ap limit-by said)
 limit-said words (commands.OfPlain (Decode word)) said = sym (ap limit-by said)
@@ -330,7 +332,7 @@ is-answer (Decoded word) = tt
 is-answer (Shown page) = tt
 is-answer (Judged (Legal entries)) = tt
 is-answer (Judged (Wrong line reason)) = tt
-is-answer (Faultless line) = tt
+is-answer (Said line) = tt
 is-answer (RightEncounter right) = tt
 is-answer (RightRecording right) = tt
 is-answer (ExplainedRefusal at code told) = tt

@@ -9,3 +9,4 @@ pub mod FlightWords
 pub mod ByChange
 pub mod Variations
 pub mod ManyRuns
+pub mod Shown

@@ -1,6 +1,6 @@
 -- Limits, and what is longer.
-use Rattle.std.proofs.Common.{◌≡◌, ℕ, ◌<◌, ◌≤◌, Bool, true, false, List, length, Option, Some, None, refl, sym, ap, subst, arith, length-append}
-use Rattle.std.specs.Prelude.{IfSome, if◌then◌else◌}
+use Rattle.std.proofs.Common.{◌≡◌, ℕ, ◌<◌, ◌≤◌, Bool, true, false, List, length, Option, Some, None, refl, ap, subst, arith, length-append}
+use Rattle.std.specs.Prelude.{if◌then◌else◌}
 use Rattle.acas_io.specs.Stream.{Took, TookAll}
 use Rattle.acas_top.specs.Ends.{IsTooLong}
 use Rattle.acas_top.specs.Words.{greatest, most}

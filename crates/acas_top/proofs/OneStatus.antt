@@ -1,12 +1,14 @@
 -- At most one status answers a command on the bytes that it read.
-use Rattle.std.proofs.Common.{◌≡◌, ◌∙◌, List, ℕ, Result, Ok, Err, Option, Some, None, ap, ap₂, arith, inl, inr, length, refl, subst, sym}
+use Rattle.std.proofs.Common.{◌≡◌, ◌∙◌, List, ℕ, Result, Ok, Err, ap, ap₂, arith, inl, inr, length, refl, subst, sym}
 use Rattle.std.proofs.lemmas.Option.{none-some}
 use Rattle.acas_top.specs.declared.explaining.Subject.{Subject}
 use Rattle.acas_top.specs.declared.explaining.Subject.TheVariants as subjects
 use Rattle.acas_top.specs.Answers.{Answers, AnswersPlain, Imports, IsFaulty, IsLegal, IsRight, IsWrong, IsWrongPair, IsWrongPart, IsWrongRecording, Plays, RefusesTracks, Resumes, Runs, read_as}
 use Rattle.acas_top.specs.Flying.{AnswersFlight, Flies, IsNotFlown, named_in, unnamed_in}
 use Rattle.acas_top.specs.Many.{HasManyMore, TellsMany}
+use Rattle.acas_top.specs.Instances.{IsNotShown, Shows, sought_in}
 use Rattle.acas_top.specs.Possible.{IsNotListed, Lists}
+use Rattle.report_words.specs.declared.wanted.Wanted.{Wanted}
 use Rattle.acas_top.specs.Refusing.{Refuses}
 use Rattle.acas_top.specs.Varying.{IsNotVaried, Varies, changes_of, unknown_in}
 use Rattle.air_journal.specs.Airs.{air_of}
@@ -33,7 +35,7 @@ use Rattle.acas_top.specs.declared.status.Status.TheVariants.{Done, Refused, Wro
 use Rattle.acas_top.specs.Commands.{Command}
 use Rattle.acas_top.specs.Commands as commands
 use Rattle.acas_top.specs.declared.words.Plain.{Plain}
-use Rattle.acas_top.specs.declared.words.Plain.TheVariants.{Audit, Compare, Decode, Explain, Gen, Many, Possible, Resume, Serial, Show, Sweep, Tell, Tracks, Vary}
+use Rattle.acas_top.specs.declared.words.Plain.TheVariants.{Audit, Compare, Decode, Explain, Gen, Instance, Many, Possible, Resume, Serial, Show, Sweep, Tell, Tracks, Vary}
 use Rattle.acas_top.specs.declared.words.Threaded.{Threaded}
 use Rattle.acas_top.specs.declared.words.Threaded.TheVariants.{Play, Sum}
 use Rattle.acas_base.specs.Encounter.{Parts}
@@ -297,6 +299,30 @@ one-listing scope bytes text other Refused Refused is other_is = refl
 one-listing scope bytes text other Refused also is other_is = absurd other_is
 one-listing scope bytes text other status also is other_is = absurd is
 
+-- ---- `instance`
+
+-- Where something is shown, each address is known, and no two aircraft have more states than the search keeps.
+not-unshown : (scope : Scope) (want : Wanted) (bytes text other : List ℕ) → Shows scope want bytes text → IsNotShown scope want bytes other → ⊥
+not-unshown scope want bytes text other shows (inl (inl refused)) = let one = shows.says in let two = refused.is in cc
+not-unshown scope want bytes text other shows (inl (inr more)) =
+    let same = one-encounter bytes more.encounter shows.encounter more.says shows.says in
+    let past = subst (λ (e : Parts). IsPastBound scope e more.stop) same more.past in
+    (shows.within.equal more.stop.low more.stop.high past.two).within more.stop.cycle past.begun past.cycle past.many
+not-unshown scope want bytes text other shows (inr nobody) =
+    let same = one-encounter bytes nobody.encounter shows.encounter nobody.says shows.says in
+    let one = shows.known in
+    let two = subst (λ (e : Parts). sought_in e want ≡ Err nobody.address) same nobody.unknown in
+    cc
+
+one-instance : (scope : Scope) (want : Wanted) (bytes text other : List ℕ) (status also : Status) → AnswersPlain (Instance scope want) bytes status text → AnswersPlain (Instance scope want) bytes also other → status ≡ also
+one-instance scope want bytes text other Done Done is other_is = refl
+one-instance scope want bytes text other Done Refused is other_is = absurd (not-unshown scope want bytes text other is other_is)
+one-instance scope want bytes text other Done also is other_is = absurd other_is
+one-instance scope want bytes text other Refused Done is other_is = absurd (not-unshown scope want bytes other text other_is is)
+one-instance scope want bytes text other Refused Refused is other_is = refl
+one-instance scope want bytes text other Refused also is other_is = absurd other_is
+one-instance scope want bytes text other status also is other_is = absurd is
+
 -- ---- `many`
 
 -- Bytes are cut into one list of pieces at most.
@@ -351,6 +377,7 @@ one-plain laws (Sweep number count crafts cycles) bytes text other Done also is 
 one-plain laws (Sweep number count crafts cycles) bytes text other status also is other_is = absurd is
 one-plain laws (Vary variation) bytes text other status also is other_is = one-variation laws.serial variation bytes text other status also is other_is
 one-plain laws (Possible scope) bytes text other status also is other_is = one-listing scope bytes text other status also is other_is
+one-plain laws (Instance scope want) bytes text other status also is other_is = one-instance scope want bytes text other status also is other_is
 one-plain laws Many bytes text other Done also is other_is = many-only laws.pieces bytes text other also is other_is
 one-plain laws Many bytes text other Refused also is other_is = more-only laws.pieces bytes text other also is other_is
 one-plain laws Many bytes text other status also is other_is = absurd is

@@ -1,5 +1,5 @@
 -- What is told of an encounter with one thing changed, and what answers `vary`.
-use Rattle.std.proofs.Common.{◌≡◌, ◌∙◌, ℕ, ◌≤◌, List, Option, None, Some, Result, Ok, Err, Vec, arith, inl, inr, length, subst, sym}
+use Rattle.std.proofs.Common.{◌≡◌, ℕ, ◌≤◌, List, Option, None, Result, Ok, Err, Vec, arith, inr, length, subst, sym}
 use Rattle.std.specs.Global.{Global}
 use Rattle.std.specs.List.{AllZip}
 use Rattle.std.specs.Prelude.{IfOk, ◌↔◌}

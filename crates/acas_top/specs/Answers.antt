@@ -7,6 +7,7 @@ use Rattle.acas_lines.specs.Lines.{count_line, joined}
 use Rattle.acas_top.specs.Comparing.{Compares, IsWrongOfTwo}
 use Rattle.acas_top.specs.Counted.{AreSerial, counts_of}
 use Rattle.acas_top.specs.Flying.{AnswersFlight}
+use Rattle.acas_top.specs.Instances.{IsNotShown, Shows}
 use Rattle.acas_top.specs.Many.{HasManyMore, TellsMany}
 use Rattle.acas_top.specs.Pages.{page_lines}
 use Rattle.acas_top.specs.Refusing.{Refuses, refused_line}
@@ -18,7 +19,7 @@ use Rattle.acas_top.specs.declared.status.Status.TheVariants.{Done, Refused, Wro
 use Rattle.acas_top.specs.Commands.{Command}
 use Rattle.acas_top.specs.Commands as commands
 use Rattle.acas_top.specs.declared.words.Plain.{Plain}
-use Rattle.acas_top.specs.declared.words.Plain.TheVariants.{Audit, Compare, Decode, Explain, Gen, Many, Possible, Resume, Serial, Show, Sweep, Tell, Tracks, Vary}
+use Rattle.acas_top.specs.declared.words.Plain.TheVariants.{Audit, Compare, Decode, Explain, Gen, Instance, Many, Possible, Resume, Serial, Show, Sweep, Tell, Tracks, Vary}
 use Rattle.acas_top.specs.declared.words.Threaded.{Threaded}
 use Rattle.acas_top.specs.declared.words.Threaded.TheVariants.{Play, Sum}
 use Rattle.acas_top.specs.Sweeping.{Sweeps}
@@ -263,6 +264,9 @@ AnswersPlain (Vary variation) bytes status text = ⊥
 AnswersPlain (Possible scope) bytes Done text = Lists scope bytes text
 AnswersPlain (Possible scope) bytes Refused text = IsNotListed scope bytes text
 AnswersPlain (Possible scope) bytes status text = ⊥
+AnswersPlain (Instance scope want) bytes Done text = Shows scope want bytes text
+AnswersPlain (Instance scope want) bytes Refused text = IsNotShown scope want bytes text
+AnswersPlain (Instance scope want) bytes status text = ⊥
 AnswersPlain Many bytes Done text = TellsMany bytes text
 AnswersPlain Many bytes Refused text = HasManyMore bytes text
 AnswersPlain Many bytes status text = ⊥

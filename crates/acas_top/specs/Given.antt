@@ -11,7 +11,7 @@ use Rattle.acas_top.specs.Sweeping.{swept_lines}
 use Rattle.acas_top.specs.Telling.{tool_lines}
 use Rattle.acas_top.specs.Varying.{varied_lines}
 use Rattle.acas_top.specs.declared.answers.Answer.{Answer}
-use Rattle.acas_top.specs.declared.answers.Answer.TheVariants.{Compared, Decoded, ExplainedRefusal, ExplainedWrong, Faultless, Judged, Made, Listed, Many, Recorded, Refused, RightEncounter, RightRecording, Shown, Summed, Swept, Told, Unmet, Varied}
+use Rattle.acas_top.specs.declared.answers.Answer.TheVariants.{Compared, Decoded, ExplainedRefusal, ExplainedWrong, Said, Judged, Made, Listed, Many, Recorded, Refused, RightEncounter, RightRecording, Shown, Summed, Swept, Told, Unmet, Varied}
 use Rattle.acas_top.specs.declared.status.Status.{Status}
 use Rattle.acas_top.specs.declared.status.Status.TheVariants as statuses
 use Rattle.acas_top.specs.declared.telling.Told.{Told as ToolText}
@@ -44,7 +44,7 @@ answer_status (Summed commits counts) = statuses.Done
 answer_status (Compared one other found) = statuses.Done
 answer_status (Decoded word) = statuses.Done
 answer_status (Shown page) = statuses.Done
-answer_status (Faultless line) = statuses.Done
+answer_status (Said line) = statuses.Done
 answer_status (RightEncounter right) = statuses.Done
 answer_status (RightRecording right) = statuses.Done
 answer_status (ExplainedRefusal at code told) = statuses.Refused
@@ -76,7 +76,7 @@ answer_lines (Summed commits counts) = summed_lines commits counts
 answer_lines (Compared one other found) = compared_lines one other found
 answer_lines (Decoded word) = word_lines word
 answer_lines (Shown page) = page_lines page
-answer_lines (Faultless line) = line ∷ []
+answer_lines (Said line) = line ∷ []
 answer_lines (RightEncounter right) = right_encounter_lines right
 answer_lines (RightRecording right) = right_recording_lines right
 answer_lines (ExplainedRefusal at code told) = refused_line at code ∷ told ∷ []

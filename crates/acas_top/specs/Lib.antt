@@ -12,6 +12,7 @@ pub mod Summing
 pub mod Refusing
 pub mod Flying
 pub mod Varying
+pub mod Instances
 pub mod Many
 pub mod Answers
 pub mod Ends

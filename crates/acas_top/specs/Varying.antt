@@ -1,5 +1,5 @@
 -- What `vary` answers: a line for the encounter as it is, and one for each of its variants; or why there are none.
-use Rattle.std.specs.Prelude.{◌≡◌, ◌↔◌, ◌⊎◌, ℕ, ◌+◌, ◌<◌, ◌≤◌, ◌==◌, if◌then◌else◌, List, [], ◌∷◌, ◌++◌, IfSome, MatchOption, None, Option, Some, codes, is_none, length, map, position, slice_get, slice_index_or, unwrap_or}
+use Rattle.std.specs.Prelude.{◌≡◌, ◌↔◌, ◌⊎◌, ℕ, ◌+◌, ◌<◌, ◌≤◌, ◌==◌, if◌then◌else◌, List, ◌∷◌, ◌++◌, IfSome, MatchOption, None, Option, Some, codes, is_none, length, map, position, slice_get, slice_index_or, unwrap_or}
 use Rattle.std.specs.List.{AllZip, range_with_len}
 use Rattle.acas_base.specs.Encounter.{Parts}
 use Rattle.acas_base.specs.declared.craft.CraftSpec.{CraftSpec}

@@ -6,9 +6,9 @@ use Rattle.acas_base.specs.declared.TheConstants.{CRAFTS}
 use Rattle.acas_text.specs.Hex.{hex}
 use Rattle.address_words.specs.Addresses.{are_addresses}
 use Rattle.fault_text.specs.Lines.{begins_recording}
-use Rattle.pair_ways.specs.declared.scope.Scope.{Scope}
 use Rattle.possibilities.specs.Listing.{scope_word}
 use Rattle.labels.specs.Labels.{LabelWords, labels_in}
+use Rattle.report_words.specs.Wanting.{IsInRange as IsWanted, words_of as wanted_words}
 use Rattle.variation_words.specs.Words.{IsInRange as IsVariation, words_of}
 use Rattle.acas_top.specs.declared.words.TheConstants.{ENCOUNTER_BYTES, RECORDING_BYTES}
 use Rattle.acas_top.specs.Commands.{Command}
@@ -18,7 +18,7 @@ use Rattle.acas_top.specs.declared.words.Limit.TheVariants as limits
 use Rattle.acas_top.specs.declared.words.Page.{Page}
 use Rattle.acas_top.specs.declared.words.Page.TheVariants.{Help, Version}
 use Rattle.acas_top.specs.declared.words.Plain.{Plain}
-use Rattle.acas_top.specs.declared.words.Plain.TheVariants.{Audit, Compare, Decode, Explain, Gen, Many, Possible, Resume, Serial, Show, Sweep, Tell, Tracks, Vary}
+use Rattle.acas_top.specs.declared.words.Plain.TheVariants.{Audit, Compare, Decode, Explain, Gen, Instance, Many, Possible, Resume, Serial, Show, Sweep, Tell, Tracks, Vary}
 use Rattle.acas_top.specs.declared.words.Threaded.{Threaded}
 use Rattle.acas_top.specs.declared.words.Threaded.TheVariants.{Play, Sum}
 use Rattle.acas_top.specs.declared.words.Tool.{Tool}
@@ -35,6 +35,7 @@ IsInRange Resume = Unit {0}
 IsInRange Tracks = Unit {0}
 IsInRange (Vary variation) = IsVariation variation
 IsInRange (Possible scope) = Unit {0}
+IsInRange (Instance scope want) = IsWanted want
 IsInRange Compare = Unit {0}
 IsInRange Many = Unit {0}
 IsInRange (Decode word) = word < 2 ^ 56
@@ -92,6 +93,7 @@ SayPlain words Resume = words ≡ codes "resume" ∷ []
 SayPlain words Tracks = words ≡ codes "tracks" ∷ []
 SayPlain words (Vary variation) = words ≡ codes "vary" ∷ words_of variation
 SayPlain words (Possible scope) = words ≡ scope_word scope ∷ []
+SayPlain words (Instance scope want) = words ≡ codes "instance" ∷ scope_word scope ∷ wanted_words want
 SayPlain words Compare = words ≡ codes "compare" ∷ []
 SayPlain words Many = words ≡ codes "many" ∷ []
 SayPlain words (Decode word) = words ≡ codes "decode" ∷ hex 14 word ∷ []
@@ -149,6 +151,7 @@ plain_limit Serial = Some limits.Encounter
 plain_limit Tracks = Some limits.Encounter
 plain_limit (Vary variation) = Some limits.Encounter
 plain_limit (Possible scope) = Some limits.Encounter
+plain_limit (Instance scope want) = Some limits.Encounter
 plain_limit Audit = Some limits.Recording
 plain_limit (Gen number crafts cycles) = None
 plain_limit (Tell tool) = Some limits.Recording

@@ -11,6 +11,7 @@ ghost use Rattle.rec_audit.specs.Judging.{IsRecordingOf};
 ghost use Rattle.track_text.specs.Conditions.{IsRefused};
 
 use crate::explaining::{RightEncounter, RightRecording, Subject, read_as, right_tracks_line};
+use crate::instance::answer_instance;
 use crate::many::{Many, answer_many};
 use crate::pages::put_page;
 use crate::possible::answer_possible;
@@ -63,8 +64,8 @@ pub(crate) enum Answer {
     Compared(AirState, AirState, Found),
     /// What a word says.
     Decoded(u64),
-    /// The line that says that nothing is wrong with a text of tracks.
-    Faultless(Line),
+    /// One line.
+    Said(Line),
     /// What is told of an encounter in which nothing is wrong.
     RightEncounter(RightEncounter),
     /// What is told of a recording in which nothing is wrong.
@@ -100,7 +101,7 @@ impl Answer {
             | Answer::Summed(_, _)
             | Answer::Compared(_, _, _)
             | Answer::Decoded(_)
-            | Answer::Faultless(_)
+            | Answer::Said(_)
             | Answer::RightEncounter(_)
             | Answer::RightRecording(_)
             | Answer::Shown(_) => Status::Done,
@@ -139,7 +140,7 @@ impl Text for Answer {
             Answer::Summed(commits, counts) => put_summed(*commits, counts, sink),
             Answer::Compared(one, other, found) => Comparison { one, other, found }.put(sink),
             Answer::Decoded(word) => WordText(*word).put(sink),
-            Answer::Faultless(line) => sink.line(line),
+            Answer::Said(line) => sink.line(line),
             Answer::RightEncounter(right) => right.put(sink),
             Answer::RightRecording(right) => right.put(sink),
             Answer::ExplainedRefusal(at, code, told) => put_both(
@@ -315,7 +316,7 @@ fn answer_about_tracks(alloc: Global, bytes: &[u8]) -> Result<Answer, AllocError
     ensures { IfOk result (λ answer. AnswersPlain Plain.Explain bytes.now (answer_status answer) (answer_text answer)) }
 {
     match track_text::read(alloc, bytes) {
-        Ok(encounter) => Ok(Answer::Faultless(right_tracks_line(&encounter, bytes))),
+        Ok(encounter) => Ok(Answer::Said(right_tracks_line(&encounter, bytes))),
         Err(track_text::ReadError::Refused(refusal)) => Ok(answer_refused_tracks(bytes, refusal)),
         Err(track_text::ReadError::OutOfMemory) => Err(AllocError),
     }
@@ -379,6 +380,7 @@ pub(crate) fn answer_to<R: Threads + Sync>(
         Plain::Tracks => answer_tracks(alloc, bytes.as_slice()),
         Plain::Vary(variation) => answer_variation(rt, alloc, variation, bytes.as_slice()),
         Plain::Possible(scope) => answer_possible(alloc, scope, bytes.as_slice()),
+        Plain::Instance(scope, want) => answer_instance(alloc, scope, want, bytes.as_slice()),
         Plain::Many => answer_many(rt, alloc, bytes),
         Plain::Resume => answer_resume(alloc, bytes.as_slice()),
         Plain::Compare => answer_compare(alloc, bytes.as_slice()),

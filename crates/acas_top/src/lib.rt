@@ -7,6 +7,7 @@ mod counts;
 mod drawing;
 mod explaining;
 mod flying;
+mod instance;
 mod many;
 mod many_text;
 mod pages;

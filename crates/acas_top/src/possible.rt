@@ -17,8 +17,8 @@ use pair_ways::{Scope, TooMany};
 use possibilities::{Possibilities, Stop};
 use std::alloc::{AllocError, Global};
 
-// The line that says for which two aircraft, and after which cycle, there are more states than the search keeps.
-fn bound_line(encounter: &Encounter, stop: &TooMany) -> Line
+/// The line that says for which two aircraft, and after which cycle, there are more states than the search keeps.
+pub(crate) fn bound_line(encounter: &Encounter, stop: &TooMany) -> Line
     requires low { stop.now.low < length encounter.now.crafts }
     requires high { stop.now.high < length encounter.now.crafts }
     ensures { result ≡ bound_line encounter.now stop.now }

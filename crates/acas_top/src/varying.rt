@@ -31,8 +31,8 @@ use variation_words::Variation;
 // The most variants that are played.
 const VARIANTS: usize = 4_096;
 
-// The line that says that no aircraft has this address.
-fn unknown_line(address: u32) -> Line
+/// The line that says that no aircraft has this address.
+pub(crate) fn unknown_line(address: u32) -> Line
     requires { address < 2 ^ 24 }
     ensures { result ≡ unknown_line (hex 6 address) }
 {
@@ -43,8 +43,8 @@ fn unknown_line(address: u32) -> Line
     line
 }
 
-// The index of the aircraft with this address.
-fn index_of(crafts: &[CraftSpec], address: u32) -> Option<usize>
+/// The index of the aircraft with this address.
+pub(crate) fn index_of(crafts: &[CraftSpec], address: u32) -> Option<usize>
     ensures value { result ≡ index_of crafts.now address }
     ensures inside { IfSome result (λ index. index < length crafts.now) }
 {

@@ -14,6 +14,7 @@ use address_words::are_addresses;
 use fault_text::begins_recording;
 use labels::Labels;
 use pair_ways::Scope;
+use report_words::Wanted;
 use variation_words::Variation;
 
 /// The most bytes that a command reads of an encounter's text.
@@ -104,6 +105,9 @@ pub enum Plain {
     /// `orders` or `losses`: reads an encounter, and writes what each aircraft can advise in any order of the steps; or
     /// whatever messages are lost besides.
     Possible(Scope),
+    /// `instance ..`: reads an encounter, and writes the recording of a run that has what is wanted, in some order of the
+    /// steps; or where losses are asked about, with messages lost.
+    Instance(Scope, Wanted),
     /// `many`: reads encounters, one after the other, plays each, and writes what each run comes to.
     Many,
     /// `tracks`: reads recorded tracks, and writes the encounter whose aircraft fly along them.
@@ -159,6 +163,7 @@ impl Plain {
             Plain::Tracks => Some(Limit::Encounter),
             Plain::Vary(_) => Some(Limit::Encounter),
             Plain::Possible(_) => Some(Limit::Encounter),
+            Plain::Instance(_, _) => Some(Limit::Encounter),
             Plain::Audit => Some(Limit::Recording),
             Plain::Tell(_) => Some(Limit::Recording),
             Plain::Resume => Some(Limit::Recording),
@@ -346,15 +351,23 @@ fn of_four(word: &str, number: &str, crafts: &str, cycles: &str) -> Option<Plain
     })
 }
 
-// The plain command of a word and four numbers.
-fn of_five(word: &str, number: &str, count: &str, crafts: &str, cycles: &str) -> Option<Plain>
-    ensures some { IfSome result (λ plain. Say (word.now ∷ number.now ∷ count.now ∷ crafts.now ∷ cycles.now ∷ []) (OfPlain plain)) }
+// What a run is wanted for.
+fn instance_of(scope: &str, first: &str, second: &str, third: &str) -> Option<Plain>
+    ensures some { IfSome result (λ plain. Say (codes "instance" ∷ scope.now ∷ first.now ∷ second.now ∷ third.now ∷ []) (OfPlain plain)) }
     ensures valid { IfSome result IsInRange }
-    ensures none { IfNone result (AreNoPlain (word.now ∷ number.now ∷ count.now ∷ crafts.now ∷ cycles.now ∷ [])) }
+    ensures none { IfNone result (AreNoPlain (codes "instance" ∷ scope.now ∷ first.now ∷ second.now ∷ third.now ∷ [])) }
 {
-    if word != "sweep" {
-        return None;
-    }
+    let scope = scope_of(scope)?;
+    let wanted = report_words::of_three(first, second, third)?;
+    Some(Plain::Instance(scope, wanted))
+}
+
+// The sweep of four numbers.
+fn sweep_of(number: &str, count: &str, crafts: &str, cycles: &str) -> Option<Plain>
+    ensures some { IfSome result (λ plain. Say (codes "sweep" ∷ number.now ∷ count.now ∷ crafts.now ∷ cycles.now ∷ []) (OfPlain plain)) }
+    ensures valid { IfSome result IsInRange }
+    ensures none { IfNone result (AreNoPlain (codes "sweep" ∷ number.now ∷ count.now ∷ crafts.now ∷ cycles.now ∷ [])) }
+{
     let number = parse_within(number.as_bytes(), 0, u32::MAX)?;
     let count = parse_within(count.as_bytes(), 1, 4_096)?;
     let crafts = parse_within(crafts.as_bytes(), 1, 4)?;
@@ -365,6 +378,21 @@ fn of_five(word: &str, number: &str, count: &str, crafts: &str, cycles: &str) ->
         crafts: crafts as u8,
         cycles: cycles as u16,
     })
+}
+
+// The plain command of five words.
+fn of_five(word: &str, number: &str, count: &str, crafts: &str, cycles: &str) -> Option<Plain>
+    ensures some { IfSome result (λ plain. Say (word.now ∷ number.now ∷ count.now ∷ crafts.now ∷ cycles.now ∷ []) (OfPlain plain)) }
+    ensures valid { IfSome result IsInRange }
+    ensures none { IfNone result (AreNoPlain (word.now ∷ number.now ∷ count.now ∷ crafts.now ∷ cycles.now ∷ [])) }
+{
+    if word == "sweep" {
+        return sweep_of(number, count, crafts, cycles);
+    }
+    if word == "instance" {
+        return instance_of(number, count, crafts, cycles);
+    }
+    None
 }
 
 // The plain command of six words.

@@ -7,3 +7,5 @@ pub mod Kept
 pub mod Searched
 pub mod Filled
 pub mod Counted
+pub mod Excluded
+pub mod Rowless

@@ -1,3 +1,4 @@
+pub mod Excluded
 pub mod Filling
 pub mod Kept
 pub mod Listed

@@ -2,16 +2,15 @@
 //! of their steps, and where losses are asked about, over all patterns of lost messages besides.
 #![tactic(auto)]
 
+mod excluding;
 mod laws;
 mod listing;
 mod mark;
 mod marked;
 mod possibilities;
 mod rows;
-mod word;
 mod words;
 
 pub use laws::never_law;
 pub use possibilities::Possibilities;
 pub use rows::Stop;
-pub use word::{ALL_WORDS, WORDS, Word};

@@ -1,9 +1,10 @@
 // The words of the report as values.
-ghost use Rattle.std.specs.Prelude.{◌≡◌, ◌<◌};
-ghost use Rattle.possibilities.specs.Saying.{advice, composite_with, is_same, join, join_down, join_traffic, join_up, place_in_order, said_by, stronger, word_alone};
+ghost use Rattle.std.specs.Prelude.{◌≡◌, ◌≢◌, ◌<◌, ◌≤◌, MatchOption, length};
+ghost use Rattle.report_words.specs.Saying.{advice, composite_with, is_same, join, join_down, join_traffic, join_up, place_in_order, said_by, stronger, text_of, word_alone};
+ghost use Rattle.report_words.specs.declared.word.Word.{Word};
 
 use acas_base::{Cell, Sense, Strength};
-use advisory_report::Composite;
+use advisory_report::{Composite, word};
 
 /// What the cells of an aircraft say in a cycle: a word of the report.
 #[derive(Clone, Copy)]
@@ -174,5 +175,25 @@ impl Word {
                 ..none
             },
         }
+    }
+
+    /// Its text in the report.
+    pub fn text(self) -> &'static str
+        ensures text { result.now ≡ text_of self }
+        ensures short { length result.now ≤ 13 }
+    {
+        word(&self.composite())
+    }
+
+    /// The word of a text; none where it is the text of no word.
+    pub fn parse(text: &str) -> Option<Word>
+        ensures { MatchOption result ((word : Word) → text.now ≢ text_of word) (λ word. text.now ≡ text_of word) }
+    {
+        for at in 0..ALL_WORDS.len() {
+            if text == ALL_WORDS[at].text() {
+                return Some(ALL_WORDS[at]);
+            }
+        }
+        None
     }
 }

@@ -8,6 +8,8 @@ mod followed_advice_tests;
 #[cfg(test)]
 mod idle_notes_tests;
 #[cfg(test)]
+mod instances_tests;
+#[cfg(test)]
 mod journal_tables_tests;
 #[cfg(test)]
 mod pair_watch_tests;

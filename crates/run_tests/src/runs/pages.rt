@@ -25,10 +25,10 @@ fn tells_its_version(rt: HostRuntime) -> Result<(), Fail> {
 }
 
 // The words that play, read or make something.
-const WORDS: [&str; 24] = [
-    "serial", "play", "sum", "tracks", "fly", "vary", "orders", "losses", "many", "audit",
-    "reports", "response", "watch", "why", "places", "messages", "summary", "picture", "compare",
-    "resume", "explain", "gen", "sweep", "decode",
+const WORDS: [&str; 25] = [
+    "serial", "play", "sum", "tracks", "fly", "vary", "orders", "losses", "instance", "many",
+    "audit", "reports", "response", "watch", "why", "places", "messages", "summary", "picture",
+    "compare", "resume", "explain", "gen", "sweep", "decode",
 ];
 
 // Whether this is the first word of a line of a text.

@@ -1,4 +1,4 @@
-use Rattle.std.proofs.Common.{◌≡◌, ◌∙◌, ◌++◌, [], List, ℕ, ap, ap₂, subst, sym}
+use Rattle.std.proofs.Common.{◌∙◌, ◌++◌, [], List, ℕ, ap, ap₂, subst, sym}
 use Rattle.std.proofs.lemmas.List.{append-nil}
 use Rattle.acas_lines.specs.Lines.{joined}
 use Rattle.acas_top.specs.Refusing.{refused_line}

@@ -1,4 +1,4 @@
-use Rattle.std.proofs.Common.{◌≡◌, ◌<◌, ap, length, subst, sym, ◌∙◌}
+use Rattle.std.proofs.Common.{subst, sym}
 use Rattle.acas_base.specs.Encounter.{Parts}
 use Rattle.air_journal.proofs.Bounds.{below}
 use Rattle.air_journal.specs.Airs.{air_of}

@@ -1,4 +1,4 @@
-use Rattle.std.proofs.Common.{◌≡◌, List, sym, subst}
+use Rattle.std.proofs.Common.{sym, subst}
 use Rattle.acas_base.specs.Encounter.{Parts}
 use Rattle.air_journal.specs.Airs.{air_of}
 use Rattle.air_rules.specs.Rules.{IsComplete}

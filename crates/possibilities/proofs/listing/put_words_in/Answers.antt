@@ -1,11 +1,11 @@
-use Rattle.std.proofs.Common.{◌≡◌, ℕ, ◌+◌, ◌++◌, ◌∷◌, [], List, get_or, sym, ap, ◌∙◌, subst, arith}
+use Rattle.std.proofs.Common.{ℕ, ◌++◌, ◌∷◌, [], List, get_or, sym, ap, ◌∙◌, subst}
 use Rattle.std.proofs.lemmas.Grind.{flat_map-append}
 use Rattle.std.proofs.lemmas.List.{append-nil, take_more}
 use Rattle.std.proofs.lemmas.List.Concat.{flat_map-cons}
 use Rattle.std.specs.Prelude.{flat_map, take}
 use Rattle.possibilities.specs.Listing.{word_lines_at}
-use Rattle.possibilities.specs.declared.word.TheConstants.{ALL_WORDS}
-use Rattle.possibilities.specs.declared.word.Word.{Word}
+use Rattle.report_words.specs.declared.word.TheConstants.{ALL_WORDS}
+use Rattle.report_words.specs.declared.word.Word.{Word}
 use Rattle.possibilities.proofs.listing.put_words_in.Goals as goal
 
 pub loop-at-preserved : goal.loop-at-preserved

@@ -1,6 +1,6 @@
 use Rattle.std.specs.Prelude.{flat_map, take}
 use Rattle.possibilities.specs.Listing.{word_lines_at}
-use Rattle.possibilities.specs.declared.word.TheConstants.{ALL_WORDS}
+use Rattle.report_words.specs.declared.word.TheConstants.{ALL_WORDS}
 use Rattle.possibilities.proofs.listing.put_words_in.Given as goal
 
 -- The lines of the words so far were taken.

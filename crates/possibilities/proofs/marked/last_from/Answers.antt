@@ -1,4 +1,4 @@
-use Rattle.std.proofs.Common.{◌≡◌, ◌<◌, false, true, sym, ap, ◌∙◌, arith}
+use Rattle.std.proofs.Common.{◌≡◌, false, true, sym, ◌∙◌}
 use Rattle.equal_rows.proofs.Lasting.{lasts-on, lasts-stop}
 use Rattle.possibilities.specs.Listing.{keeps}
 use Rattle.possibilities.proofs.marked.last_from.Goals as goal

@@ -1,0 +1,3 @@
+pub mod InRow
+pub mod Lost
+pub mod Steered

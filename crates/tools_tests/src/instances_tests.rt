@@ -1,0 +1,62 @@
+// Expected values: the orders and losses of "What can happen" in docs/FORMATS.md. In the reversal at most six cycles in a
+// row have equal senses; of two that fly level at one altitude two, and six where messages are lost.
+use crate::serial_runs::{LEVEL, Meeting, REVERSAL, met};
+use acas_base::Strength;
+use instances::{Sought, find};
+use pair_ways::Scope;
+use report_words::Word;
+use std::alloc::Global;
+use std::test::Fail;
+
+// What is asked, and whether a run is found that has it.
+type Row = (&'static Meeting, Scope, Sought, bool);
+
+// Equal senses in so many cycles.
+const fn row(cycles: u16) -> Sought {
+    Sought::Equal {
+        one: 1,
+        other: 0,
+        cycles,
+    }
+}
+
+// The word of an aircraft.
+const fn climbs(own: u8, cycle: u16) -> Sought {
+    Sought::Word {
+        own,
+        cycle,
+        word: Word::Up(Strength::Positive),
+    }
+}
+
+const ROWS: &[Row] = &[
+    (&REVERSAL, Scope::Orders, row(6), true),
+    (&REVERSAL, Scope::Orders, row(7), false),
+    (&LEVEL, Scope::Orders, row(2), true),
+    (&LEVEL, Scope::Orders, row(3), false),
+    (&LEVEL, Scope::Losses, row(6), true),
+    (&LEVEL, Scope::Orders, climbs(1, 31), true),
+    (&LEVEL, Scope::Orders, climbs(1, 25), false),
+];
+
+fn is_found(alloc: Global, row: Row) -> Result<bool, Fail> {
+    let (meeting, scope, sought, _) = row;
+    let state = met(alloc, meeting, &[], &[])?;
+    Ok(find(alloc, &state, scope, sought)?.is_some())
+}
+
+// The first row of which a run is found where none is, or the other way round.
+fn first_other(alloc: Global, rows: &[Row]) -> Result<Option<usize>, Fail> {
+    for at in 0..rows.len() {
+        if is_found(alloc, rows[at])? != rows[at].3 {
+            return Ok(Some(at));
+        }
+    }
+    Ok(None)
+}
+
+#[test]
+fn acts_out_what_can_be(rt: HostRuntime) -> Result<(), Fail> {
+    assert_eq!(rt; first_other(rt.alloc(), ROWS)?, None);
+    Ok(())
+}
