@@ -69,17 +69,22 @@ fn are_all_of(air: Air, seats: Vec<Seat>, owns: &[u8]) -> bool
     same && count == 0
 }
 
-// Whether aircraft of these kinds get seats for these indices.
+// Whether the aircraft of an encounter get seats for these indices.
+fn are_seated(alloc: Global, enc: &Encounter, owns: &[u8]) -> Result<bool, Fail> {
+    let (air, seats) = opened(alloc, enc)?;
+    Ok(are_all_of(air, seats, owns))
+}
+
+// The same of aircraft of these kinds.
 fn has_seats(alloc: Global, kinds: &[Kind], owns: &[u8]) -> Result<bool, Fail> {
     let enc = standing(alloc, kinds)?;
-    let (air, seats) = opened(alloc, &enc)?;
-    Ok(are_all_of(air, seats, owns))
+    are_seated(alloc, &enc, owns)
 }
 
 // The kinds of the aircraft of an encounter, and those that have a seat.
 type Seated = (&'static [Kind], &'static [u8]);
 
-const SEATED: [Seated; 4] = [
+const SEATED: &[Seated] = &[
     (&[Kind::Ra, Kind::Ra], &[0, 1]),
     (&[Kind::Xpdr, Kind::Ra, Kind::Xpdr], &[1]),
     (&[Kind::Ta, Kind::Xpdr, Kind::Ta], &[0, 2]),
@@ -103,17 +108,27 @@ fn first_otherwise_seated(alloc: Global, rows: &[Seated]) -> Result<Option<usize
 // Each active aircraft has a seat, in order of index, and a seat that makes no call doesn't hinder the end.
 #[test]
 fn seats(rt: HostRuntime) -> Result<(), Fail> {
-    assert_eq!(rt; first_otherwise_seated(rt.alloc(), &SEATED)?, None);
+    assert_eq!(rt; first_otherwise_seated(rt.alloc(), SEATED)?, None);
     Ok(())
 }
 
-// How many entries come back where the first aircraft of two has committed a cycle, and then the journal is shared.
-fn shared_again(alloc: Global) -> Result<u32, Fail> {
-    let enc = standing(alloc, &[Kind::Ra, Kind::Ra])?;
-    let mut begun = empty_journal(alloc, &enc)?;
-    let _ = steps::commit(&mut begun, 0);
+// How many entries come back where a journal is shared.
+fn shared(alloc: Global, begun: AirState) -> Result<u32, Fail> {
     let (air, seats) = Air::open(alloc, begun)?;
     Ok(air.close(seats).count())
+}
+
+// The same where the first aircraft has committed a cycle before.
+fn begun_shared(alloc: Global, enc: &Encounter) -> Result<u32, Fail> {
+    let mut begun = empty_journal(alloc, enc)?;
+    let _ = steps::commit(&mut begun, 0);
+    shared(alloc, begun)
+}
+
+// The same of two aircraft.
+fn shared_again(alloc: Global) -> Result<u32, Fail> {
+    let enc = standing(alloc, &[Kind::Ra, Kind::Ra])?;
+    begun_shared(alloc, &enc)
 }
 
 #[test]
@@ -249,18 +264,28 @@ fn meeting(alloc: Global, kind: Kind, alt: i32) -> Result<Encounter, Fail> {
 fn played<R: Wait>(
     rt: &R,
     alloc: Global,
+    enc: &Encounter,
     acts: &[(u8, Act)],
 ) -> Result<(Option<usize>, u32), Fail> {
-    let enc = meeting(alloc, Kind::Ra, 35_000)?;
-    let (air, seats) = opened(alloc, &enc)?;
+    let (air, seats) = opened(alloc, enc)?;
     let Some((mut low, mut high)) = both(seats) else {
         return Err("not two seats".into());
     };
-    let wrong = first_wrong(rt, &air, &enc, &mut low, &mut high, acts);
+    let wrong = first_wrong(rt, &air, enc, &mut low, &mut high, acts);
     let mut back = Vec::with_capacity(alloc, 2)?;
     back.push_reserved(high);
     back.push_reserved(low);
     Ok((wrong, air.close(back).count()))
+}
+
+// The same of two aircraft that fly towards each other.
+fn played_in_turn<R: Wait>(
+    rt: &R,
+    alloc: Global,
+    acts: &[(u8, Act)],
+) -> Result<(Option<usize>, u32), Fail> {
+    let enc = meeting(alloc, Kind::Ra, 35_000)?;
+    played(rt, alloc, &enc, acts)
 }
 
 // The second aircraft commits two cycles, and waits for the first one.
@@ -300,12 +325,32 @@ const ALONE: &[(u8, Act)] = &[
     (0, Act::Commits(Commit::Ahead(1, 0))),
 ];
 
+// What both seats do, and how many entries there are in the end.
+const PLAYED: &[(&[(u8, Act)], u32)] = &[
+    (ONE_LEADS, 3),
+    (LEARNS, 3),
+    (LEARNS_NOTHING, 3),
+    (ALONE, 1),
+];
+
+// The place of the first row that is played otherwise.
+fn first_otherwise_played<R: Wait>(
+    rt: &R,
+    alloc: Global,
+    rows: &[(&[(u8, Act)], u32)],
+) -> Result<Option<usize>, Fail> {
+    for place in 0..rows.len() {
+        let (acts, count) = rows[place];
+        if played_in_turn(rt, alloc, acts)? != (None, count) {
+            return Ok(Some(place));
+        }
+    }
+    Ok(None)
+}
+
 #[test]
 fn answers_in_turn(rt: HostRuntime) -> Result<(), Fail> {
-    let rows = [(ONE_LEADS, 3), (LEARNS, 3), (LEARNS_NOTHING, 3), (ALONE, 1)];
-    for (acts, count) in rows {
-        assert_eq!(rt; played(&rt, rt.alloc(), acts)?, (None, count));
-    }
+    assert_eq!(rt; first_otherwise_played(&rt, rt.alloc(), PLAYED)?, None);
     Ok(())
 }
 
@@ -350,10 +395,19 @@ fn committed<R: Threads + Wait + Sync>(
 }
 
 // Whether it has so many entries, and is complete.
+fn ends_in<R: Threads + Wait + Sync>(
+    rt: &R,
+    alloc: Global,
+    enc: &Encounter,
+    entries: u32,
+) -> Result<bool, Fail> {
+    let state = committed(rt, alloc, enc)?;
+    Ok(state.count() == entries && state.complete())
+}
+
 fn ends<R: Threads + Wait + Sync>(rt: &R, alloc: Global, entries: u32) -> Result<bool, Fail> {
     let enc = meeting(alloc, Kind::Ta, 35_300)?;
-    let state = committed(rt, alloc, &enc)?;
-    Ok(state.count() == entries && state.complete())
+    ends_in(rt, alloc, &enc, entries)
 }
 
 // Traffic advisories alone: nothing is sent, so all entries are commits.

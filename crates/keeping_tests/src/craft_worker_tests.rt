@@ -71,7 +71,7 @@ fn sense_in(state: &AirState, own: u8, other: usize, cycle: u16) -> Option<Sense
 // A cycle, and the senses of both aircraft in it.
 type Senses = (u16, Option<Sense>, Option<Sense>);
 
-const SENSES: [Senses; 4] = [
+const SENSES: &[Senses] = &[
     (25, None, None),
     (26, Some(Sense::Up), Some(Sense::Up)),
     (27, Some(Sense::Up), Some(Sense::Down)),
@@ -94,17 +94,27 @@ fn is_right(state: &AirState, entries: u32, senses: &[Senses]) -> bool {
     state.count() == entries && state.complete() && first_other(state, senses).is_none()
 }
 
-// The same of the serial run of two aircraft at one altitude.
+// The same of the serial run of an encounter.
+fn is_played_in(
+    alloc: Global,
+    enc: &Encounter,
+    entries: u32,
+    senses: &[Senses],
+) -> Result<bool, Fail> {
+    let mut state = empty_journal(alloc, enc)?;
+    serial(&mut state, enc);
+    Ok(is_right(&state, entries, senses))
+}
+
+// The same of two aircraft at one altitude.
 fn is_played(alloc: Global, entries: u32, senses: &[Senses]) -> Result<bool, Fail> {
     let enc = meeting(alloc)?;
-    let mut state = empty_journal(alloc, &enc)?;
-    serial(&mut state, &enc);
-    Ok(is_right(&state, entries, senses))
+    is_played_in(alloc, &enc, entries, senses)
 }
 
 // Both choose to climb, and the one of higher address descends after it has taken the other one's message.
 #[test]
 fn higher_address_gives_way(rt: HostRuntime) -> Result<(), Fail> {
-    assert!(rt; is_played(rt.alloc(), 86, &SENSES)?);
+    assert!(rt; is_played(rt.alloc(), 86, SENSES)?);
     Ok(())
 }

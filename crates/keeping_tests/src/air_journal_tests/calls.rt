@@ -37,7 +37,7 @@ fn answers(state: &mut AirState, step: Step) -> bool {
 }
 
 // At the start nothing is owed or due. An aircraft that has committed waits for the other one.
-const AT_THE_START: [Step; 5] = [
+const AT_THE_START: &[Step] = &[
     Step::Sends(0, Sent::Nothing),
     Step::Takes(0, Took::Nothing),
     Step::TakesThis(0, 0, 0, TookThis::NotDue),
@@ -46,7 +46,7 @@ const AT_THE_START: [Step; 5] = [
 ];
 
 // Of two slower aircraft the one of lower index is named.
-const OF_THREE: [Step; 7] = [
+const OF_THREE: &[Step] = &[
     Step::Commits(2, Commit::Done(0)),
     Step::Commits(2, Commit::Ahead(0, 0)),
     Step::Commits(0, Commit::Done(1)),
@@ -58,7 +58,7 @@ const OF_THREE: [Step; 7] = [
 
 // Both have an advisory from the second cycle on. The first message has a spoilt copy and a good one, and the run ends
 // with the third cycle.
-const TO_THE_END: [Step; 30] = [
+const TO_THE_END: &[Step] = &[
     Step::Commits(0, Commit::Done(0)),
     Step::Commits(1, Commit::Done(1)),
     Step::Commits(0, Commit::Done(2)),
@@ -141,7 +141,7 @@ fn first_other_in(
 fn answers_first(state: &mut AirState) -> bool {
     crosses_threads(state)
         && is_empty(state)
-        && first_other(state, &AT_THE_START, 1_000).is_none()
+        && first_other(state, AT_THE_START, 1_000).is_none()
         && has_one_cycle(state)
 }
 
@@ -156,31 +156,57 @@ fn answers_at_the_start(rt: HostRuntime) -> Result<(), Fail> {
     Ok(())
 }
 
-#[test]
-fn names_the_first_slower(rt: HostRuntime) -> Result<(), Fail> {
+// Three aircraft far from each other.
+fn three(alloc: Global) -> Result<Encounter, Fail> {
     let crafts = [
         aircraft(0x40_0A01, 0, 35_000)?,
         aircraft(0x40_0B02, 91_200, 35_000)?,
         aircraft(0x40_0C03, -91_200, 35_000)?,
     ];
-    let enc = encounter(rt.alloc(), 2, None, &crafts, &[], &[], &[])?;
+    encounter(alloc, 2, None, &crafts, &[], &[], &[])
+}
+
+fn first_other_of_three(
+    alloc: Global,
+    steps: &[Step],
+    entries: u32,
+) -> Result<(Option<usize>, Option<u32>), Fail> {
+    let enc = three(alloc)?;
+    first_other_in(alloc, &enc, steps, entries)
+}
+
+#[test]
+fn names_the_first_slower(rt: HostRuntime) -> Result<(), Fail> {
     assert_eq!(rt;
-        first_other_in(rt.alloc(), &enc, &OF_THREE, 1_000)?,
+        first_other_of_three(rt.alloc(), OF_THREE, 1_000)?,
         (None, None)
     );
     Ok(())
 }
 
-#[test]
-fn answers_to_the_end(rt: HostRuntime) -> Result<(), Fail> {
+// Two aircraft at one place. The first message of the first one is spoilt.
+fn spoiling(alloc: Global) -> Result<Encounter, Fail> {
     let crafts = [
         aircraft(0x40_0A01, 0, 35_000)?,
         aircraft(0x40_0B02, 0, 35_000)?,
     ];
     let spoilt = fate(1, 2, CopyPlan { hold: 0, mask: 7 }, PLAIN);
-    let enc = encounter(rt.alloc(), 3, Some(0), &crafts, &[], &[], &[spoilt])?;
+    encounter(alloc, 3, Some(0), &crafts, &[], &[], &[spoilt])
+}
+
+fn first_other_to_the_end(
+    alloc: Global,
+    steps: &[Step],
+    entries: u32,
+) -> Result<(Option<usize>, Option<u32>), Fail> {
+    let enc = spoiling(alloc)?;
+    first_other_in(alloc, &enc, steps, entries)
+}
+
+#[test]
+fn answers_to_the_end(rt: HostRuntime) -> Result<(), Fail> {
     assert_eq!(rt;
-        first_other_in(rt.alloc(), &enc, &TO_THE_END, 14)?,
+        first_other_to_the_end(rt.alloc(), TO_THE_END, 14)?,
         (None, Some(15))
     );
     Ok(())

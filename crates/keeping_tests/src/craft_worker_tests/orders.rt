@@ -172,7 +172,7 @@ fn played(alloc: Global, enc: &Encounter, schedule: Schedule, most: u32) -> Resu
 
 // ---- whole journals
 
-const SCHEDULES: [Schedule; 5] = [
+const SCHEDULES: &[Schedule] = &[
     Schedule::LastFirst,
     Schedule::Ahead(0),
     Schedule::Ahead(1),
@@ -219,7 +219,7 @@ fn is_completed(
 }
 
 // How many entries are left where a journal breaks off.
-const LEFT: [u32; 3] = [25, 15, 5];
+const LEFT: &[u32] = &[25, 15, 5];
 
 // Whether a schedule's journal is completed from three places of its middle.
 fn is_completed_from_each(
@@ -273,7 +273,7 @@ enum Flown {
     Lapsing,
 }
 
-const ENTRIES: [(Flown, u32); 4] = [
+const ENTRIES: &[(Flown, u32)] = &[
     (Flown::Meeting, 86),
     (Flown::Climbing, 86),
     (Flown::Between, 91),
@@ -289,11 +289,16 @@ fn encounter_of(alloc: Global, which: Flown) -> Result<Encounter, Fail> {
     }
 }
 
+fn first_wrong_in(alloc: Global, which: Flown, entries: u32) -> Result<Option<usize>, Fail> {
+    let enc = encounter_of(alloc, which)?;
+    first_wrong(alloc, &enc, entries)
+}
+
 // The first encounter with a schedule whose journal isn't whole, and the place of that schedule.
 fn first_wrong_of(alloc: Global, all: &[(Flown, u32)]) -> Result<Option<(usize, usize)>, Fail> {
     for place in 0..all.len() {
         let (which, entries) = all[place];
-        if let Some(schedule) = first_wrong(alloc, &encounter_of(alloc, which)?, entries)? {
+        if let Some(schedule) = first_wrong_in(alloc, which, entries)? {
             return Ok(Some((place, schedule)));
         }
     }
@@ -305,7 +310,7 @@ fn first_wrong_of(alloc: Global, all: &[(Flown, u32)]) -> Result<Option<(usize, 
 // since here all copies come due.
 #[test]
 fn ends_in_each_order(rt: HostRuntime) -> Result<(), Fail> {
-    assert_eq!(rt; first_wrong_of(rt.alloc(), &ENTRIES)?, None);
+    assert_eq!(rt; first_wrong_of(rt.alloc(), ENTRIES)?, None);
     Ok(())
 }
 
@@ -314,7 +319,7 @@ type Line = (Schedule, u16, Sense, Sense);
 // A schedule, a cycle, and the senses of both aircraft in it. Both advisories start in cycle 26, and go up where no
 // message was taken. An aircraft that has taken a message starts in the other sense. The aircraft of higher address
 // turns as soon as it has taken one.
-const SENSES: [Line; 8] = [
+const SENSES: &[Line] = &[
     (Schedule::LastFirst, 26, Sense::Up, Sense::Up),
     (Schedule::LastFirst, 27, Sense::Up, Sense::Down),
     (Schedule::Ahead(0), 26, Sense::Up, Sense::Down),
@@ -347,9 +352,13 @@ fn first_otherwise(alloc: Global, enc: &Encounter, lines: &[Line]) -> Result<Opt
     Ok(None)
 }
 
+fn first_otherwise_of_meeting(alloc: Global, lines: &[Line]) -> Result<Option<usize>, Fail> {
+    let enc = meeting(alloc)?;
+    first_otherwise(alloc, &enc, lines)
+}
+
 #[test]
 fn decides_by_the_order(rt: HostRuntime) -> Result<(), Fail> {
-    let enc = meeting(rt.alloc())?;
-    assert_eq!(rt; first_otherwise(rt.alloc(), &enc, &SENSES)?, None);
+    assert_eq!(rt; first_otherwise_of_meeting(rt.alloc(), SENSES)?, None);
     Ok(())
 }
