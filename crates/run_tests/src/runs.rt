@@ -79,6 +79,38 @@ struct Outcome {
     sink: MemSink,
 }
 
+// The words of a line.
+fn words_of(alloc: Global, line: &str) -> Result<Vec<String>, AllocError> {
+    let mut words = Vec::new(alloc);
+    for word in line.split_whitespace() {
+        words.push(String::from_str(alloc, word)?)?;
+    }
+    Ok(words)
+}
+
+// A source and a sink in memory. These reads and writes fail.
+fn source_of(alloc: Global, input: &[u8], failing: &[u64]) -> Result<MemSource, AllocError> {
+    let bytes = input.to_vec(alloc)?;
+    Ok(MemSource::new(bytes, 64, failing.to_vec(alloc)?))
+}
+
+fn sink_of(alloc: Global, failing: &[u64]) -> Result<MemSink, AllocError> {
+    let room = Vec::with_capacity(alloc, 2_000_000)?;
+    Ok(MemSink::new(room, 16, failing.to_vec(alloc)?))
+}
+
+// Runs words on a source and a sink.
+fn ended<R: Threads + Wait + Sync + Alloc<A = Global>, P: Pause + Sync>(
+    rt: &R,
+    words: &[String],
+    mut source: MemSource,
+    mut sink: MemSink,
+    pause: &P,
+) -> Outcome {
+    let status = acas(rt, rt.alloc(), words, &mut source, &mut sink, pause);
+    Outcome { status, sink }
+}
+
 // Runs the words of a line on a source and a sink in memory. These reads and writes fail.
 fn run_with<R: Threads + Wait + Sync + Alloc<A = Global>, P: Pause + Sync>(
     rt: &R,
@@ -88,16 +120,10 @@ fn run_with<R: Threads + Wait + Sync + Alloc<A = Global>, P: Pause + Sync>(
     failing_writes: &[u64],
     pause: &P,
 ) -> Result<Outcome, AllocError> {
-    let alloc = rt.alloc();
-    let mut words = Vec::new(alloc);
-    for word in line.split_whitespace() {
-        words.push(String::from_str(alloc, word)?)?;
-    }
-    let mut source = MemSource::new(input.to_vec(alloc)?, 64, failing_reads.to_vec(alloc)?);
-    let room = Vec::with_capacity(alloc, 2_000_000)?;
-    let mut sink = MemSink::new(room, 16, failing_writes.to_vec(alloc)?);
-    let status = acas(rt, alloc, words.as_slice(), &mut source, &mut sink, pause);
-    Ok(Outcome { status, sink })
+    let words = words_of(rt.alloc(), line)?;
+    let source = source_of(rt.alloc(), input, failing_reads)?;
+    let sink = sink_of(rt.alloc(), failing_writes)?;
+    Ok(ended(rt, words.as_slice(), source, sink, pause))
 }
 
 // Runs the words of a line, where nothing fails.
@@ -119,6 +145,55 @@ fn answers<R: Threads + Wait + Sync + Alloc<A = Global>>(
 ) -> Result<bool, AllocError> {
     let done = run(rt, line, input)?;
     Ok(done.status == status && done.sink.bytes() == text)
+}
+
+// The words of a line, what they read, the status, and what they write.
+type Row = (&'static str, &'static [u8], Status, &'static [u8]);
+
+// The place of the first row that is answered otherwise.
+fn first_unlike<R: Threads + Wait + Sync + Alloc<A = Global>>(
+    rt: &R,
+    rows: &[Row],
+) -> Result<Option<usize>, AllocError> {
+    for place in 0..rows.len() {
+        let (line, input, status, text) = rows[place];
+        if !answers(rt, line, input, status, text)? {
+            return Ok(Some(place));
+        }
+    }
+    Ok(None)
+}
+
+// What is read, the status, and what is written.
+type Reading = (&'static [u8], Status, &'static [u8]);
+
+// The place of the first text that a word answers otherwise.
+fn first_misread<R: Threads + Wait + Sync + Alloc<A = Global>>(
+    rt: &R,
+    word: &str,
+    rows: &[Reading],
+) -> Result<Option<usize>, AllocError> {
+    for place in 0..rows.len() {
+        let (input, status, text) = rows[place];
+        if !answers(rt, word, input, status, text)? {
+            return Ok(Some(place));
+        }
+    }
+    Ok(None)
+}
+
+// The place of the first line of words that is a command, or writes something.
+fn first_obeyed<R: Threads + Wait + Sync + Alloc<A = Global>>(
+    rt: &R,
+    lines: &[&str],
+    input: &[u8],
+) -> Result<Option<usize>, AllocError> {
+    for place in 0..lines.len() {
+        if !answers(rt, lines[place], input, Status::Usage, b"")? {
+            return Ok(Some(place));
+        }
+    }
+    Ok(None)
 }
 
 // A text of two parts.
@@ -165,6 +240,13 @@ fn entry_in(text: &[u8], position: usize) -> &[u8] {
     &[]
 }
 
+// Adds a line, with its end.
+fn add_line(text: &mut Vec<u8>, line: &[u8]) -> Result<(), AllocError> {
+    text.extend_from_slice(line)?;
+    text.push(b'\n')?;
+    Ok(())
+}
+
 // The lines of a text from one number, from 1, to another one.
 fn lines_between(alloc: Global, text: &[u8], first: u64, last: u64) -> Result<Vec<u8>, AllocError> {
     let mut lines = Vec::new(alloc);
@@ -172,8 +254,7 @@ fn lines_between(alloc: Global, text: &[u8], first: u64, last: u64) -> Result<Ve
     for line in text.split(|byte| *byte == b'\n') {
         number = number.saturating_add(1);
         if number >= first && number <= last && !line.is_empty() {
-            lines.extend_from_slice(line)?;
-            lines.push(b'\n')?;
+            add_line(&mut lines, line)?;
         }
     }
     Ok(lines)
@@ -193,8 +274,7 @@ fn with_line(
         if number == replaced {
             changed.extend_from_slice(other)?;
         } else if !line.is_empty() {
-            changed.extend_from_slice(line)?;
-            changed.push(b'\n')?;
+            add_line(&mut changed, line)?;
         }
     }
     Ok(changed)

@@ -1,6 +1,9 @@
 // What words write, to the byte. Expected values: by hand from "Refusals", "Recorded tracks", "Explained", "What has no
 // effect" and "Encounters made from a number" in docs/FORMATS.md.
-use super::{APART, LEVEL, ONE_CYCLE, ONE_CYCLE_RECORDING, TRAFFIC, answers, joined, run};
+use super::{
+    APART, LEVEL, ONE_CYCLE, ONE_CYCLE_RECORDING, Reading, TRAFFIC, answers, first_misread, joined,
+    run,
+};
 use acas_top::Status;
 use std::alloc::{AllocError, Global};
 use std::sync::Wait;
@@ -17,7 +20,7 @@ const SEVENTEEN: &[u8] =
 // The beginning of a text, its rest, and the line of its refusal.
 type Refusal = (&'static [u8], &'static [u8], &'static [u8]);
 
-const REFUSED: [Refusal; 12] = [
+const REFUSED: &[Refusal] = &[
     (b"", b"", b"refused,1,1\n"),
     (APART, b"", b"refused,7,11\n"),
     (APART, b"end\nend\n", b"refused,8,12\n"),
@@ -40,6 +43,17 @@ const REFUSED: [Refusal; 12] = [
     (TRAFFIC, b"", b"refused,7,11\n"),
 ];
 
+// Whether a word refuses a text with its line.
+fn is_refused<R: Threads + Wait + Sync + Alloc<A = Global>>(
+    rt: &R,
+    word: &str,
+    row: &Refusal,
+) -> Result<bool, AllocError> {
+    let (open, rest, line) = *row;
+    let text = joined(rt.alloc(), open, rest)?;
+    answers(rt, word, text.as_slice(), Status::Refused, line)
+}
+
 // The place of the first text that a word refuses with another line.
 fn first_other<R: Threads + Wait + Sync + Alloc<A = Global>>(
     rt: &R,
@@ -47,9 +61,7 @@ fn first_other<R: Threads + Wait + Sync + Alloc<A = Global>>(
     refusals: &[Refusal],
 ) -> Result<Option<usize>, AllocError> {
     for place in 0..refusals.len() {
-        let (open, rest, line) = refusals[place];
-        let text = joined(rt.alloc(), open, rest)?;
-        if !answers(rt, word, text.as_slice(), Status::Refused, line)? {
+        if !is_refused(rt, word, &refusals[place])? {
             return Ok(Some(place));
         }
     }
@@ -58,8 +70,8 @@ fn first_other<R: Threads + Wait + Sync + Alloc<A = Global>>(
 
 #[test]
 fn refuses_by_record_and_code(rt: HostRuntime) -> Result<(), Fail> {
-    assert_eq!(rt; first_other(&rt, "serial", &REFUSED)?, None);
-    assert_eq!(rt; first_other(&rt, "play", &REFUSED)?, None);
+    assert_eq!(rt; first_other(&rt, "serial", REFUSED)?, None);
+    assert_eq!(rt; first_other(&rt, "play", REFUSED)?, None);
     Ok(())
 }
 
@@ -70,7 +82,7 @@ const RECORDED: &[u8] =
 const FLOWN: &[u8] =
     b"encounter,2\nrun,3,0\ngains,683,256,512,128\ncraft,400A01,RA,380,0,10000\ncraft,400B02,XPDR,60760,0,10300\nleg,400A01,1,760,0,0\nleg,400B02,1,-760,0,-30\nleg,400B02,2,-760,0,0\nend\n";
 
-const UNFLOWN: [Refusal; 3] = [
+const UNFLOWN: &[Refusal] = &[
     (b"encounter,2\n", b"", b"refused,1,1\n"),
     (
         b"tracks,1\nrun,3,0\ncraft,400A01,RA\n",
@@ -87,22 +99,28 @@ const UNFLOWN: [Refusal; 3] = [
 #[test]
 fn flies_along_recorded_tracks(rt: HostRuntime) -> Result<(), Fail> {
     assert!(rt; answers(&rt, "tracks", RECORDED, Status::Done, FLOWN)?);
-    assert_eq!(rt; first_other(&rt, "tracks", &UNFLOWN)?, None);
+    assert_eq!(rt; first_other(&rt, "tracks", UNFLOWN)?, None);
     Ok(())
+}
+
+// Whether a word that reads nothing is done.
+fn is_done<R: Threads + Wait + Sync + Alloc<A = Global>>(
+    rt: &R,
+    line: &str,
+) -> Result<bool, AllocError> {
+    let done = run(rt, line, b"")?;
+    Ok(done.status == Status::Done)
 }
 
 #[test]
 fn makes_and_plays_encounters(rt: HostRuntime) -> Result<(), Fail> {
     assert!(rt; answers(&rt, "gen 7 1 1", b"", Status::Done, ONE_CYCLE)?);
     assert!(rt; answers(&rt, "serial", ONE_CYCLE, Status::Done, ONE_CYCLE_RECORDING)?);
-    assert!(rt; run(&rt, "gen 4294967295 16 600", b"")?.status == Status::Done);
+    assert!(rt; is_done(&rt, "gen 4294967295 16 600")?);
     Ok(())
 }
 
-// What is read, the status, and what `explain` writes.
-type Explained = (&'static [u8], Status, &'static [u8]);
-
-const EXPLAINED: [Explained; 8] = [
+const EXPLAINED: &[Reading] = &[
     (
         b"",
         Status::Refused,
@@ -151,8 +169,6 @@ const OTHER_CYCLE: &[u8] =
 
 #[test]
 fn explains_what_it_reads(rt: HostRuntime) -> Result<(), Fail> {
-    for (input, status, text) in EXPLAINED {
-        assert!(rt; answers(&rt, "explain", input, status, text)?);
-    }
+    assert_eq!(rt; first_misread(&rt, "explain", EXPLAINED)?, None);
     Ok(())
 }

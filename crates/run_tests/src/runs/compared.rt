@@ -1,16 +1,13 @@
 // Two recordings compared, tables, and words decoded. Expected values: by hand from docs/FORMATS.md.
-use super::{ONE_CYCLE, ONE_CYCLE_RECORDING, answers, joined, recording};
+use super::{ONE_CYCLE, ONE_CYCLE_RECORDING, Row, answers, first_unlike, joined, recording};
 use acas_top::Status;
 use std::alloc::{AllocError, Global};
 use std::sync::Wait;
 use std::test::Fail;
 use std::thread::Threads;
 
-// The words of a line, what they read, the status, and what they write.
-type Row = (&'static str, &'static [u8], Status, &'static [u8]);
-
 // A recording of 11 lines has no second one behind it: line 12 isn't the first line of a recording.
-const ROWS: [Row; 4] = [
+const ROWS: &[Row] = &[
     (
         "compare",
         ONE_CYCLE_RECORDING,
@@ -37,33 +34,18 @@ const ROWS: [Row; 4] = [
     ),
 ];
 
-// The place of the first row that is answered otherwise.
-fn first_other<R: Threads + Wait + Sync + Alloc<A = Global>>(
-    rt: &R,
-    rows: &[Row],
-) -> Result<Option<usize>, AllocError> {
-    for place in 0..rows.len() {
-        let (line, input, status, text) = rows[place];
-        if !answers(rt, line, input, status, text)? {
-            return Ok(Some(place));
-        }
-    }
-    Ok(None)
-}
-
 #[test]
 fn answers_of_one_cycle(rt: HostRuntime) -> Result<(), Fail> {
-    assert_eq!(rt; first_other(&rt, &ROWS)?, None);
+    assert_eq!(rt; first_unlike(&rt, ROWS)?, None);
     Ok(())
 }
 
-// Whether a recording and another one of the same encounter are equal.
-fn is_equal_to_itself<R: Threads + Wait + Sync + Alloc<A = Global>>(
+// Whether a recording and the same one behind it are equal.
+fn is_equal<R: Threads + Wait + Sync + Alloc<A = Global>>(
     rt: &R,
-    encounter: &[u8],
+    one: &[u8],
 ) -> Result<bool, AllocError> {
-    let one = recording(rt, encounter, b"")?;
-    let two = joined(rt.alloc(), one.as_slice(), one.as_slice())?;
+    let two = joined(rt.alloc(), one, one)?;
     answers(
         rt,
         "compare",
@@ -71,6 +53,14 @@ fn is_equal_to_itself<R: Threads + Wait + Sync + Alloc<A = Global>>(
         Status::Done,
         b"compare,equal\n",
     )
+}
+
+fn is_equal_to_itself<R: Threads + Wait + Sync + Alloc<A = Global>>(
+    rt: &R,
+    encounter: &[u8],
+) -> Result<bool, AllocError> {
+    let one = recording(rt, encounter, b"")?;
+    is_equal(rt, one.as_slice())
 }
 
 #[test]

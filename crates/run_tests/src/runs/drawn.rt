@@ -1,10 +1,13 @@
 // What `picture` writes with labels. Expected values: by hand from "The picture" in docs/FORMATS.md.
-use super::{APART, ONE_CYCLE, answers, lines_with, recording, run};
+use super::{APART, ONE_CYCLE, Outcome, answers, first_obeyed, lines_with, recording, run};
 use acas_top::Status;
+use std::alloc::{AllocError, Global};
+use std::sync::Wait;
 use std::test::Fail;
+use std::thread::Threads;
 
 // Words that say no labels: no word has this form, an address has two names, or a mark tells the time without a clock.
-const NO_LABELS: [&str; 5] = [
+const NO_LABELS: &[&str] = &[
     "picture now",
     "picture 24:00:00",
     "picture 400A01=ONE 400A01=TWO",
@@ -14,9 +17,7 @@ const NO_LABELS: [&str; 5] = [
 
 #[test]
 fn refuses_other_words(rt: HostRuntime) -> Result<(), Fail> {
-    for words in NO_LABELS {
-        assert!(rt; answers(&rt, words, ONE_CYCLE, Status::Usage, b"")?);
-    }
+    assert_eq!(rt; first_obeyed(&rt, NO_LABELS, ONE_CYCLE)?, None);
     assert!(rt;
         answers(
             &rt,
@@ -30,17 +31,31 @@ fn refuses_other_words(rt: HostRuntime) -> Result<(), Fail> {
 }
 
 // The name stands in place of the address, the clock runs past midnight, and the mark is in the list.
+fn is_labelled(text: &[u8]) -> bool {
+    lines_with(text, b"BTC-2937") > 0
+        && lines_with(text, b"400A01") == 0
+        && lines_with(text, b"400B02") > 0
+        && lines_with(text, b"00:00:00") > 0
+        && lines_with(text, b"CONTACT") == 1
+}
+
+// The picture of a recording with labels.
+fn drawn<R: Threads + Wait + Sync + Alloc<A = Global>>(rt: &R) -> Result<Outcome, AllocError> {
+    let played = recording(rt, APART, b"end\n")?;
+    run(
+        rt,
+        "picture 23:59:50 400A01=BTC-2937 00:00:05=CONTACT",
+        played.as_slice(),
+    )
+}
+
+fn is_drawn<R: Threads + Wait + Sync + Alloc<A = Global>>(rt: &R) -> Result<bool, AllocError> {
+    let done = drawn(rt)?;
+    Ok(done.status == Status::Done && is_labelled(done.sink.bytes()))
+}
+
 #[test]
 fn labels_stand_in_the_picture(rt: HostRuntime) -> Result<(), Fail> {
-    let played = recording(&rt, APART, b"end\n")?;
-    let words = "picture 23:59:50 400A01=BTC-2937 00:00:05=CONTACT";
-    let drawn = run(&rt, words, played.as_slice())?;
-    let text = drawn.sink.bytes();
-    assert!(rt; drawn.status == Status::Done);
-    assert!(rt; lines_with(text, b"BTC-2937") > 0);
-    assert!(rt; lines_with(text, b"400A01") == 0);
-    assert!(rt; lines_with(text, b"400B02") > 0);
-    assert!(rt; lines_with(text, b"00:00:00") > 0);
-    assert!(rt; lines_with(text, b"CONTACT") == 1);
+    assert!(rt; is_drawn(&rt)?);
     Ok(())
 }

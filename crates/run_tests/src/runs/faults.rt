@@ -2,7 +2,7 @@
 // README.md, and the limits in docs/FORMATS.md.
 use super::{
     APART, LEVEL, NoPause, ONE_CYCLE, ONE_CYCLE_RECORDING, Outcome, answers, joined, lines_between,
-    recording, run, run_with,
+    recording, run, run_with, words_of,
 };
 use acas_io::{SureSink, SureSource};
 use acas_top::{Status, acas_plain};
@@ -33,24 +33,54 @@ fn tells_each_fault<R: Threads + Wait + Sync + Alloc<A = Global>>(
     writes: u64,
 ) -> Result<bool, AllocError> {
     for read in 0..reads {
-        let unread = failing(rt, line, input, &[read + 1], &[])?;
-        if unread.status != Status::ReadFault || !unread.sink.bytes().is_empty() {
+        if !is_unread(rt, line, input, read + 1)? {
             return Ok(false);
         }
     }
     let whole = run(rt, line, input)?;
-    let text = whole.sink.bytes();
+    tells_each_write(rt, line, input, whole.sink.bytes(), writes)
+}
+
+fn tells_each_write<R: Threads + Wait + Sync + Alloc<A = Global>>(
+    rt: &R,
+    line: &str,
+    input: &[u8],
+    text: &[u8],
+    writes: u64,
+) -> Result<bool, AllocError> {
     for write in 0..writes.min(text.len() as u64 / 16) {
-        let unwritten = failing(rt, line, input, &[], &[write + 1])?;
-        let front = unwritten.sink.bytes();
-        if unwritten.status != Status::WriteFault
-            || !text.starts_with(front)
-            || front.len() as u64 != write.saturating_mul(16)
-        {
+        if !is_unwritten(rt, line, input, text, write + 1)? {
             return Ok(false);
         }
     }
     Ok(true)
+}
+
+// Whether nothing is written where this read fails.
+fn is_unread<R: Threads + Wait + Sync + Alloc<A = Global>>(
+    rt: &R,
+    line: &str,
+    input: &[u8],
+    read: u64,
+) -> Result<bool, AllocError> {
+    let unread = failing(rt, line, input, &[read], &[])?;
+    Ok(unread.status == Status::ReadFault && unread.sink.bytes().is_empty())
+}
+
+// Whether just the writes before this one are made where it fails.
+fn is_unwritten<R: Threads + Wait + Sync + Alloc<A = Global>>(
+    rt: &R,
+    line: &str,
+    input: &[u8],
+    text: &[u8],
+    write: u64,
+) -> Result<bool, AllocError> {
+    let unwritten = failing(rt, line, input, &[], &[write])?;
+    Ok(unwritten.status == Status::WriteFault && is_front(unwritten.sink.bytes(), text, write))
+}
+
+fn is_front(front: &[u8], text: &[u8], write: u64) -> bool {
+    text.starts_with(front) && front.len() as u64 == write.saturating_sub(1).saturating_mul(16)
 }
 
 // What a word reads, how many of its reads fail in turn, and how many of its writes at most.
@@ -64,7 +94,7 @@ enum Reads {
     Beginning,
 }
 
-const FAILING: [Failing; 11] = [
+const FAILING: &[Failing] = &[
     ("serial", Reads::Encounter, 3, 1000),
     ("play", Reads::Encounter, 3, 9),
     ("audit", Reads::Recording, 3, 1000),
@@ -94,15 +124,23 @@ fn input_of<R: Threads + Wait + Sync + Alloc<A = Global>>(
     }
 }
 
+// Whether a word answers each fault.
+fn is_told<R: Threads + Wait + Sync + Alloc<A = Global>>(
+    rt: &R,
+    row: Failing,
+) -> Result<bool, AllocError> {
+    let (line, reading, reads, writes) = row;
+    let input = input_of(rt, reading)?;
+    tells_each_fault(rt, line, input.as_slice(), reads, writes)
+}
+
 // The place of the first word that answers a fault otherwise.
 fn first_other<R: Threads + Wait + Sync + Alloc<A = Global>>(
     rt: &R,
     words: &[Failing],
 ) -> Result<Option<usize>, AllocError> {
     for place in 0..words.len() {
-        let (line, input, reads, writes) = words[place];
-        let input = input_of(rt, input)?;
-        if !tells_each_fault(rt, line, input.as_slice(), reads, writes)? {
+        if !is_told(rt, words[place])? {
             return Ok(Some(place));
         }
     }
@@ -111,12 +149,12 @@ fn first_other<R: Threads + Wait + Sync + Alloc<A = Global>>(
 
 #[test]
 fn tells_faults(rt: HostRuntime) -> Result<(), Fail> {
-    assert_eq!(rt; first_other(&rt, &FAILING)?, None);
+    assert_eq!(rt; first_other(&rt, FAILING)?, None);
     Ok(())
 }
 
 // Words that are no command, by their number, by a word, or by a number out of its range.
-const NO_COMMANDS: [&str; 25] = [
+const NO_COMMANDS: &[&str] = &[
     "",
     "serial now",
     "play 1",
@@ -144,14 +182,22 @@ const NO_COMMANDS: [&str; 25] = [
     "--versions",
 ];
 
+// Whether a line's status is Usage, where the first read and the first write would fail.
+fn is_no_command<R: Threads + Wait + Sync + Alloc<A = Global>>(
+    rt: &R,
+    line: &str,
+) -> Result<bool, AllocError> {
+    let none = failing(rt, line, ONE_CYCLE, &[1], &[1])?;
+    Ok(none.status == Status::Usage && none.sink.bytes().is_empty())
+}
+
 // The place of the first line whose status isn't Usage.
 fn first_command<R: Threads + Wait + Sync + Alloc<A = Global>>(
     rt: &R,
     lines: &[&str],
 ) -> Result<Option<usize>, AllocError> {
     for place in 0..lines.len() {
-        let none = failing(rt, lines[place], ONE_CYCLE, &[1], &[1])?;
-        if none.status != Status::Usage || !none.sink.bytes().is_empty() {
+        if !is_no_command(rt, lines[place])? {
             return Ok(Some(place));
         }
     }
@@ -164,8 +210,7 @@ fn plain_status<R: Threads + Sync + Alloc<A = Global>>(
     word: &str,
 ) -> Result<Status, AllocError> {
     let alloc = rt.alloc();
-    let mut words = Vec::new(alloc);
-    words.push(String::from_str(alloc, word)?)?;
+    let words = words_of(alloc, word)?;
     let mut source = SureSource::new(Vec::new(alloc));
     let mut sink = SureSink::new(Vec::new(alloc));
     Ok(acas_plain(rt, alloc, words.as_slice(), &mut source, &mut sink))
@@ -173,36 +218,56 @@ fn plain_status<R: Threads + Sync + Alloc<A = Global>>(
 
 #[test]
 fn reads_nothing_without_a_command(rt: HostRuntime) -> Result<(), Fail> {
-    assert_eq!(rt; first_command(&rt, &NO_COMMANDS)?, None);
+    assert_eq!(rt; first_command(&rt, NO_COMMANDS)?, None);
     // Words that run threads aren't among those that wait for nobody.
     assert_eq!(rt; plain_status(&rt, "play")?, Status::Usage);
     assert_eq!(rt; plain_status(&rt, "sum")?, Status::Usage);
     Ok(())
 }
 
+// The longest input: blank lines, and an encounter of one cycle behind them.
+fn filled(alloc: Global) -> Result<Vec<u8>, AllocError> {
+    let mut text = vec![in alloc; b'\n'; 16_777_216 - ONE_CYCLE.len()]?;
+    text.extend_from_slice(ONE_CYCLE)?;
+    Ok(text)
+}
+
+// Whether a text with one more blank line is too long for a word.
+fn is_too_long<R: Threads + Wait + Sync + Alloc<A = Global>>(
+    rt: &R,
+    word: &str,
+    mut text: Vec<u8>,
+) -> Result<bool, AllocError> {
+    text.push(b'\n')?;
+    answers(rt, word, text.as_slice(), Status::TooLong, b"")
+}
+
+fn is_read_to_the_limit<R: Threads + Wait + Sync + Alloc<A = Global>>(
+    rt: &R,
+) -> Result<bool, AllocError> {
+    let text = filled(rt.alloc())?;
+    if !answers(
+        rt,
+        "serial",
+        text.as_slice(),
+        Status::Done,
+        ONE_CYCLE_RECORDING,
+    )? {
+        return Ok(false);
+    }
+    is_too_long(rt, "serial", text)
+}
+
 // Blank lines are no records, so a text with many of them says the same.
 #[test]
 fn reads_texts_up_to_the_limit(rt: HostRuntime) -> Result<(), Fail> {
-    let alloc = rt.alloc();
-    let mut text = vec![in alloc; b'\n'; 16_777_216 - ONE_CYCLE.len()]?;
-    text.extend_from_slice(ONE_CYCLE)?;
-    assert!(rt;
-        answers(
-            &rt,
-            "serial",
-            text.as_slice(),
-            Status::Done,
-            ONE_CYCLE_RECORDING
-        )?
-    );
-    text.push(b'\n')?;
-    assert!(rt; answers(&rt, "serial", text.as_slice(), Status::TooLong, b"")?);
+    assert!(rt; is_read_to_the_limit(&rt)?);
     Ok(())
 }
 
 // Words that read a recording, and what they write where empty lines follow a whole recording of 102 lines. Its report
 // begins in line 97.
-const PADDED: [(&str, &[u8]); 3] = [
+const PADDED: &[(&str, &[u8])] = &[
     ("audit", b"wrong,103,6\n"),
     ("watch", b"wrong,103,6\n"),
     ("resume", b"wrong,97,6\n"),
@@ -230,11 +295,20 @@ fn first_other_end<R: Threads + Wait + Sync + Alloc<A = Global>>(
     Ok(None)
 }
 
+// Whether all words answer so, and with one more empty line the recording is too long.
+fn is_ended_so<R: Threads + Wait + Sync + Alloc<A = Global>>(
+    rt: &R,
+    words: &[(&str, &[u8])],
+) -> Result<bool, AllocError> {
+    let text = padded(rt)?;
+    if first_other_end(rt, text.as_slice(), words)?.is_some() {
+        return Ok(false);
+    }
+    is_too_long(rt, "audit", text)
+}
+
 #[test]
 fn reads_recordings_up_to_the_limit(rt: HostRuntime) -> Result<(), Fail> {
-    let mut text = padded(&rt)?;
-    assert_eq!(rt; first_other_end(&rt, text.as_slice(), &PADDED)?, None);
-    text.push(b'\n')?;
-    assert!(rt; answers(&rt, "audit", text.as_slice(), Status::TooLong, b"")?);
+    assert!(rt; is_ended_so(&rt, PADDED)?);
     Ok(())
 }

@@ -20,25 +20,60 @@ fn is_wrong<R: Threads + Wait + Sync + Alloc<A = Global>>(
 // The number of a line, what stands there instead, and the line of the verdict.
 type Fault = (u64, &'static [u8], &'static [u8]);
 
+// Whether a word finds a fault in a recording that is right without it.
+fn is_found<R: Threads + Wait + Sync + Alloc<A = Global>>(
+    rt: &R,
+    word: &str,
+    right: &[u8],
+    fault: &Fault,
+) -> Result<bool, AllocError> {
+    let (number, other, verdict) = *fault;
+    let text = with_line(rt.alloc(), right, number, other)?;
+    is_wrong(rt, word, text.as_slice(), verdict)
+}
+
 // The place of the first fault that a word finds otherwise.
 fn first_other<R: Threads + Wait + Sync + Alloc<A = Global>>(
     rt: &R,
     word: &str,
+    right: &[u8],
     faults: &[Fault],
 ) -> Result<Option<usize>, AllocError> {
-    let right = recording(rt, APART, b"end\n")?;
     for place in 0..faults.len() {
-        let (number, other, verdict) = faults[place];
-        let text = with_line(rt.alloc(), right.as_slice(), number, other)?;
-        if !is_wrong(rt, word, text.as_slice(), verdict)? {
+        if !is_found(rt, word, right, &faults[place])? {
             return Ok(Some(place));
         }
     }
     Ok(None)
 }
 
+// The first table with a fault that a word finds otherwise, and the place of that fault.
+fn first_otherwise<R: Threads + Wait + Sync + Alloc<A = Global>>(
+    rt: &R,
+    word: &str,
+    right: &[u8],
+    tables: &[&[Fault]],
+) -> Result<Option<(usize, usize)>, AllocError> {
+    for number in 0..tables.len() {
+        if let Some(place) = first_other(rt, word, right, tables[number])? {
+            return Ok(Some((number, place)));
+        }
+    }
+    Ok(None)
+}
+
+// The same in the recording of the two at different altitudes.
+fn first_misjudged<R: Threads + Wait + Sync + Alloc<A = Global>>(
+    rt: &R,
+    word: &str,
+    tables: &[&[Fault]],
+) -> Result<Option<(usize, usize)>, AllocError> {
+    let right = recording(rt, APART, b"end\n")?;
+    first_otherwise(rt, word, right.as_slice(), tables)
+}
+
 // The first line and the end of the encounter.
-const HEADS: [Fault; 12] = [
+const HEADS: &[Fault] = &[
     (1, b"recording,2\n", b"wrong,1,2\n"),
     (1, b"Recording,1\n", b"wrong,1,2\n"),
     (1, b"recording,1,\n", b"wrong,1,2\n"),
@@ -54,7 +89,7 @@ const HEADS: [Fault; 12] = [
 ];
 
 // The encounter, which is refused or isn't in its canonical text.
-const ENCOUNTERS: [Fault; 17] = [
+const ENCOUNTERS: &[Fault] = &[
     (2, b"encounter,3\n", b"wrong,2,1,1\n"),
     (7, b"Leg,400A01,1,760,0,0\n", b"wrong,2,1,2\n"),
     (3, b"run,31\n", b"wrong,2,1,3\n"),
@@ -83,7 +118,7 @@ const ENCOUNTERS: [Fault; 17] = [
 ];
 
 // The number of entries.
-const COUNTS: [Fault; 14] = [
+const COUNTS: &[Fault] = &[
     (10, b"journal,086\n", b"wrong,10,2\n"),
     (10, b"journal,-1\n", b"wrong,10,2\n"),
     (10, b"journal,1000000000\n", b"wrong,10,2\n"),
@@ -101,7 +136,7 @@ const COUNTS: [Fault; 14] = [
 ];
 
 // Lines that no entry has.
-const MISSPELLED: [Fault; 20] = [
+const MISSPELLED: &[Fault] = &[
     (11, b"\n", b"wrong,11,2\n"),
     (11, b"x,0,1,-,-\n", b"wrong,11,2\n"),
     (11, b"c,2,1,-,-\n", b"wrong,11,2\n"),
@@ -125,7 +160,7 @@ const MISSPELLED: [Fault; 20] = [
 ];
 
 // Entries that aren't allowed, and allowed ones with another content.
-const FORBIDDEN: [Fault; 20] = [
+const FORBIDDEN: &[Fault] = &[
     (11, b"c,0,2,-,-\n", b"wrong,11,3\n"),
     (11, b"c,0,600,-,-\n", b"wrong,11,3\n"),
     (11, b"s,0,0,1,00000000000000\n", b"wrong,11,3\n"),
@@ -149,7 +184,7 @@ const FORBIDDEN: [Fault; 20] = [
 ];
 
 // The report and the close.
-const ENDS: [Fault; 14] = [
+const ENDS: &[Fault] = &[
     (97, b"report,5\n", b"wrong,97,6\n"),
     (97, b"report,04\n", b"wrong,97,6\n"),
     (97, b"", b"wrong,97,6\n"),
@@ -170,6 +205,11 @@ const ENDS: [Fault; 14] = [
     (102, b"close\nclose\n", b"wrong,103,6\n"),
 ];
 
+// The tables of the judge, and those of the tools.
+const OF_THE_JUDGE: &[&[Fault]] = &[HEADS, ENCOUNTERS, COUNTS, MISSPELLED, FORBIDDEN, ENDS];
+
+const OF_THE_TOOLS: &[&[Fault]] = &[ENCOUNTERS, COUNTS, FORBIDDEN];
+
 // The recording in which the faults are put is right.
 fn is_legal<R: Threads + Wait + Sync + Alloc<A = Global>>(rt: &R) -> Result<bool, AllocError> {
     let right = recording(rt, APART, b"end\n")?;
@@ -179,38 +219,38 @@ fn is_legal<R: Threads + Wait + Sync + Alloc<A = Global>>(rt: &R) -> Result<bool
 #[test]
 fn judges_recordings(rt: HostRuntime) -> Result<(), Fail> {
     assert!(rt; is_legal(&rt)?);
-    for faults in [
-        HEADS.as_slice(),
-        ENCOUNTERS.as_slice(),
-        COUNTS.as_slice(),
-        MISSPELLED.as_slice(),
-        FORBIDDEN.as_slice(),
-        ENDS.as_slice(),
-    ] {
-        assert_eq!(rt; first_other(&rt, "audit", faults)?, None);
-    }
+    assert_eq!(rt; first_misjudged(&rt, "audit", OF_THE_JUDGE)?, None);
     Ok(())
+}
+
+// Words that read a recording.
+const TOOLS: &[&str] = &["reports", "response", "watch", "why"];
+
+// The place of the first tool that finds some fault otherwise.
+fn first_tool<R: Threads + Wait + Sync + Alloc<A = Global>>(
+    rt: &R,
+    tools: &[&str],
+    tables: &[&[Fault]],
+) -> Result<Option<usize>, AllocError> {
+    for place in 0..tools.len() {
+        if first_misjudged(rt, tools[place], tables)?.is_some() {
+            return Ok(Some(place));
+        }
+    }
+    Ok(None)
 }
 
 // Each tool finds wrong what the judge does.
 #[test]
 fn tells_nothing_of_wrong_recordings(rt: HostRuntime) -> Result<(), Fail> {
-    for tool in ["reports", "response", "watch", "why"] {
-        for faults in [
-            ENCOUNTERS.as_slice(),
-            COUNTS.as_slice(),
-            FORBIDDEN.as_slice(),
-        ] {
-            assert_eq!(rt; first_other(&rt, tool, faults)?, None);
-        }
-    }
+    assert_eq!(rt; first_tool(&rt, TOOLS, OF_THE_TOOLS)?, None);
     Ok(())
 }
 
 // Two faults. The one of the earlier step is reported, whichever line it is in.
 type Pair = (Fault, u64, &'static [u8]);
 
-const PAIRS: [Pair; 11] = [
+const PAIRS: &[Pair] = &[
     ((1, b"recording,2\n", b"wrong,1,2\n"), 9, b""),
     ((2, b"encounter,3\n", b"wrong,102,2\n"), 9, b""),
     ((3, b"run,031,0\n", b"wrong,2,1,4\n"), 4, b""),
@@ -232,41 +272,66 @@ const PAIRS: [Pair; 11] = [
     ((98, b"r,13,400A01,TRAFFIC,-\n", b"wrong,98,6\n"), 102, b""),
 ];
 
+// Whether the judge finds a pair of faults in a recording that is right without them.
+fn is_pair_found<R: Threads + Wait + Sync + Alloc<A = Global>>(
+    rt: &R,
+    right: &[u8],
+    pair: &Pair,
+) -> Result<bool, AllocError> {
+    let (fault, later, last) = *pair;
+    let once = with_line(rt.alloc(), right, later, last)?;
+    is_found(rt, "audit", once.as_slice(), &fault)
+}
+
 // The place of the first pair with another verdict.
 fn first_other_pair<R: Threads + Wait + Sync + Alloc<A = Global>>(
     rt: &R,
+    right: &[u8],
     pairs: &[Pair],
 ) -> Result<Option<usize>, AllocError> {
-    let alloc = rt.alloc();
-    let right = recording(rt, APART, b"end\n")?;
     for place in 0..pairs.len() {
-        let ((number, other, verdict), later, last) = pairs[place];
-        let once = with_line(alloc, right.as_slice(), later, last)?;
-        let twice = with_line(alloc, once.as_slice(), number, other)?;
-        if !is_wrong(rt, "audit", twice.as_slice(), verdict)? {
+        if !is_pair_found(rt, right, &pairs[place])? {
             return Ok(Some(place));
         }
     }
     Ok(None)
 }
 
-// The recording without its entries.
+fn first_misjudged_pair<R: Threads + Wait + Sync + Alloc<A = Global>>(
+    rt: &R,
+    pairs: &[Pair],
+) -> Result<Option<usize>, AllocError> {
+    let right = recording(rt, APART, b"end\n")?;
+    first_other_pair(rt, right.as_slice(), pairs)
+}
+
+// A text without its lines 11 to 96.
+fn without_lines(alloc: Global, text: &[u8]) -> Result<Vec<u8>, AllocError> {
+    let open = lines_between(alloc, text, 1, 10)?;
+    let rest = lines_between(alloc, text, 97, 102)?;
+    joined(alloc, open.as_slice(), rest.as_slice())
+}
+
+// The recording without its entries, which stand in these lines.
 fn without_entries<R: Threads + Wait + Sync + Alloc<A = Global>>(
     rt: &R,
 ) -> Result<Vec<u8>, AllocError> {
-    let alloc = rt.alloc();
     let right = recording(rt, APART, b"end\n")?;
-    let none = with_line(alloc, right.as_slice(), 10, b"journal,0\n")?;
-    let open = lines_between(alloc, none.as_slice(), 1, 10)?;
-    let rest = lines_between(alloc, none.as_slice(), 97, 102)?;
-    joined(alloc, open.as_slice(), rest.as_slice())
+    let none = with_line(rt.alloc(), right.as_slice(), 10, b"journal,0\n")?;
+    without_lines(rt.alloc(), none.as_slice())
+}
+
+fn is_found_without_entries<R: Threads + Wait + Sync + Alloc<A = Global>>(
+    rt: &R,
+) -> Result<bool, AllocError> {
+    let none = without_entries(rt)?;
+    is_wrong(rt, "audit", none.as_slice(), b"wrong,11,5\n")
 }
 
 #[test]
 fn tells_the_step_that_fails_first(rt: HostRuntime) -> Result<(), Fail> {
-    assert_eq!(rt; first_other_pair(&rt, &PAIRS)?, None);
-    let none = without_entries(&rt)?;
-    assert!(rt; is_wrong(&rt, "audit", none.as_slice(), b"wrong,11,5\n")?);
+    assert_eq!(rt; first_misjudged_pair(&rt, PAIRS)?, None);
+    assert!(rt; is_found_without_entries(&rt)?);
     Ok(())
 }
 
@@ -282,24 +347,47 @@ fn fault_of_cut(lines: u64, is_within: bool) -> (u64, u64) {
     }
 }
 
-// Each front of a recording is wrong.
-#[test]
-fn judges_recordings_that_are_cut(rt: HostRuntime) -> Result<(), Fail> {
-    let alloc = rt.alloc();
-    let right = recording(&rt, APART, b"end\n")?;
+// Whether the judge finds a text wrong in this line and for this reason.
+fn is_wrong_at<R: Threads + Wait + Sync + Alloc<A = Global>>(
+    rt: &R,
+    text: &[u8],
+    line: u64,
+    reason: u64,
+) -> Result<bool, AllocError> {
+    let verdict = format!(in rt.alloc(); "wrong,{line},{reason}\n")?;
+    is_wrong(rt, "audit", text, verdict.as_bytes())
+}
+
+// The first length of a front of a recording that the judge finds otherwise.
+fn first_other_front<R: Threads + Wait + Sync + Alloc<A = Global>>(
+    rt: &R,
+    right: &[u8],
+) -> Result<Option<usize>, AllocError> {
     let mut lines = 0u64;
     let mut is_within = false;
     for end in 0..right.len() {
         let (line, reason) = fault_of_cut(lines, is_within);
-        let verdict = format!(in alloc; "wrong,{line},{reason}\n")?;
-        assert!(rt;
-            is_wrong(&rt, "audit", &right[..end], verdict.as_bytes())?,
-            "at {end}"
-        );
+        if !is_wrong_at(rt, &right[..end], line, reason)? {
+            return Ok(Some(end));
+        }
         is_within = right[end] != b'\n';
         if !is_within {
             lines = lines.saturating_add(1);
         }
     }
+    Ok(None)
+}
+
+fn first_misjudged_front<R: Threads + Wait + Sync + Alloc<A = Global>>(
+    rt: &R,
+) -> Result<Option<usize>, AllocError> {
+    let right = recording(rt, APART, b"end\n")?;
+    first_other_front(rt, right.as_slice())
+}
+
+// Each front of a recording is wrong.
+#[test]
+fn judges_recordings_that_are_cut(rt: HostRuntime) -> Result<(), Fail> {
+    assert_eq!(rt; first_misjudged_front(&rt)?, None);
     Ok(())
 }

@@ -1,13 +1,13 @@
 // What `many` writes, to the byte. Expected values: by hand from "Many encounters", "Outcomes" and "Refusals" in
 // docs/FORMATS.md, and from the rules of docs/RULES.md, as each row says.
-use super::{answers, joined, run};
+use super::{Outcome, Reading, answers, first_misread, run};
 use acas_top::Status;
+use std::alloc::{AllocError, Global};
+use std::sync::Wait;
 use std::test::Fail;
+use std::thread::Threads;
 
-// What is read, the status, and what is written.
-type Row = (&'static [u8], Status, &'static [u8]);
-
-const MANY: [Row; 6] = [
+const MANY: &[Reading] = &[
     // No record, so no piece.
     (b"", Status::Done, b"many,0\ntotal,0,0,0,0,0,0\n"),
     (b"\n\r\n", Status::Done, b"many,0\ntotal,0,0,0,0,0,0\n"),
@@ -43,47 +43,69 @@ const MANY: [Row; 6] = [
 
 #[test]
 fn plays_many(rt: HostRuntime) -> Result<(), Fail> {
-    for (number, (input, status, text)) in MANY.iter().enumerate() {
-        assert!(rt; answers(&rt, "many", input, *status, text)?, "row {number}");
-    }
+    assert_eq!(rt; first_misread(&rt, "many", MANY)?, None);
     Ok(())
+}
+
+// 4,096 pieces, and a rest.
+fn pieces(alloc: Global, rest: &[u8]) -> Result<Vec<u8>, AllocError> {
+    let mut text = Vec::new(alloc);
+    for _piece in 0..4_096u32 {
+        text.extend_from_slice(b"end\n")?;
+    }
+    text.extend_from_slice(rest)?;
+    Ok(text)
+}
+
+// What `many` writes of them.
+fn played<R: Threads + Wait + Sync + Alloc<A = Global>>(
+    rt: &R,
+    rest: &[u8],
+) -> Result<Outcome, AllocError> {
+    let text = pieces(rt.alloc(), rest)?;
+    run(rt, "many", text.as_slice())
+}
+
+fn are_all_refused(done: &Outcome) -> bool {
+    let text = done.sink.bytes();
+    done.status == Status::Done
+        && text.starts_with(b"many,4096\nr,1,1,1\nr,2,1,1\n")
+        && text.ends_with(b"r,4096,1,1\ntotal,4096,4096,0,0,0,0\n")
+}
+
+// Whether `many` writes this text of the pieces and a rest.
+fn is_written<R: Threads + Wait + Sync + Alloc<A = Global>>(
+    rt: &R,
+    rest: &[u8],
+    text: &[u8],
+) -> Result<bool, AllocError> {
+    let done = played(rt, rest)?;
+    Ok(done.sink.bytes() == text)
+}
+
+// A rest without a record is no piece.
+fn are_played<R: Threads + Wait + Sync + Alloc<A = Global>>(rt: &R) -> Result<bool, AllocError> {
+    let done = played(rt, b"")?;
+    Ok(are_all_refused(&done) && is_written(rt, b"\r\n", done.sink.bytes())?)
+}
+
+fn is_one_too_many<R: Threads + Wait + Sync + Alloc<A = Global>>(
+    rt: &R,
+) -> Result<bool, AllocError> {
+    let text = pieces(rt.alloc(), b"end")?;
+    answers(
+        rt,
+        "many",
+        text.as_slice(),
+        Status::Refused,
+        b"pieces,4097\n",
+    )
 }
 
 // 4,096 pieces are played, and one more isn't.
 #[test]
 fn plays_no_more_than_it_says(rt: HostRuntime) -> Result<(), Fail> {
-    let alloc = rt.alloc();
-    let mut text = Vec::new(alloc);
-    for _piece in 0..4_096u32 {
-        text.extend_from_slice(b"end\n")?;
-    }
-    let played = run(&rt, "many", text.as_slice())?;
-    assert!(rt; played.status == Status::Done);
-    assert!(rt;
-        played
-            .sink
-            .bytes()
-            .starts_with(b"many,4096\nr,1,1,1\nr,2,1,1\n")
-    );
-    assert!(rt;
-        played
-            .sink
-            .bytes()
-            .ends_with(b"r,4096,1,1\ntotal,4096,4096,0,0,0,0\n")
-    );
-    // A rest without a record is no piece.
-    let blank = joined(alloc, text.as_slice(), b"\r\n")?;
-    let still = run(&rt, "many", blank.as_slice())?;
-    assert!(rt; still.sink.bytes() == played.sink.bytes());
-    let more = joined(alloc, text.as_slice(), b"end")?;
-    assert!(rt;
-        answers(
-            &rt,
-            "many",
-            more.as_slice(),
-            Status::Refused,
-            b"pieces,4097\n"
-        )?
-    );
+    assert!(rt; are_played(&rt)?);
+    assert!(rt; is_one_too_many(&rt)?);
     Ok(())
 }

@@ -17,7 +17,7 @@ pub type Row = (&'static [u8], &'static [u8], [u64; 3], &'static [u8]);
 const TURNED: &[u8] =
     b"report,5\nr,13,400A01,TRAFFIC,Traffic traffic\nr,13,400B02,TRAFFIC,Traffic traffic\nr,26,400A01,UP-CLIMB,Climb climb\nr,26,400B02,UP-CLIMB,Climb climb\nr,27,400B02,DOWN-DESCEND,Descend descend NOW\nclose\n";
 
-pub const PLAYED: [Row; 17] = [
+pub const PLAYED: &[Row] = &[
     (
         APART,
         b"end\n",
@@ -123,19 +123,22 @@ pub const PLAYED: [Row; 17] = [
     ),
 ];
 
-// Whether the recording of an encounter has these counts and this end.
+// Whether a recording has the counts and the end of a row.
+fn is_so(text: &[u8], row: &Row) -> bool {
+    let (_, _, [commits, sends, takes], end) = *row;
+    lines_with(text, b"c,") == commits
+        && lines_with(text, b"s,") == sends
+        && lines_with(text, b"t,") == takes
+        && text.ends_with(end)
+}
+
+// The same of the recording of its encounter.
 fn is_played<R: Threads + Wait + Sync + Alloc<A = Global>>(
     rt: &R,
     row: &Row,
 ) -> Result<bool, AllocError> {
-    let (open, rest, [commits, sends, takes], end) = *row;
-    let text = recording(rt, open, rest)?;
-    Ok(
-        lines_with(text.as_slice(), b"c,") == commits
-            && lines_with(text.as_slice(), b"s,") == sends
-            && lines_with(text.as_slice(), b"t,") == takes
-            && text.ends_with(end),
-    )
+    let text = recording(rt, row.0, row.1)?;
+    Ok(is_so(text.as_slice(), row))
 }
 
 // The place of the first row with another recording.
@@ -153,7 +156,7 @@ fn first_other<R: Threads + Wait + Sync + Alloc<A = Global>>(
 
 #[test]
 fn plays_encounters(rt: HostRuntime) -> Result<(), Fail> {
-    assert_eq!(rt; first_other(&rt, &PLAYED)?, None);
+    assert_eq!(rt; first_other(&rt, PLAYED)?, None);
     Ok(())
 }
 
@@ -162,7 +165,7 @@ type Entry = (&'static [u8], &'static [u8], usize, &'static [u8]);
 
 const HELD: &[u8] = b"fate,400A01,400B02,1,2,00,0,00\nend\n";
 
-const TOLD: [Entry; 18] = [
+const TOLD: &[Entry] = &[
     (LEVEL, b"end\n", 50, b"c,0,26,-,U5.1c"),
     (LEVEL, b"end\n", 51, b"c,1,26,U5.1c,-"),
     (LEVEL, b"end\n", 52, b"s,0,1,1,30080007400A01"),
@@ -193,15 +196,23 @@ const TOLD: [Entry; 18] = [
     ),
 ];
 
+// Whether an entry is in the recording at its position.
+fn is_told<R: Threads + Wait + Sync + Alloc<A = Global>>(
+    rt: &R,
+    entry: &Entry,
+) -> Result<bool, AllocError> {
+    let (open, rest, position, line) = *entry;
+    let text = recording(rt, open, rest)?;
+    Ok(entry_in(text.as_slice(), position) == line)
+}
+
 // The place of the first entry that isn't in the recording at its position.
 fn first_missing<R: Threads + Wait + Sync + Alloc<A = Global>>(
     rt: &R,
     entries: &[Entry],
 ) -> Result<Option<usize>, AllocError> {
     for place in 0..entries.len() {
-        let (open, rest, position, line) = entries[place];
-        let text = recording(rt, open, rest)?;
-        if entry_in(text.as_slice(), position) != line {
+        if !is_told(rt, &entries[place])? {
             return Ok(Some(place));
         }
     }
@@ -210,8 +221,20 @@ fn first_missing<R: Threads + Wait + Sync + Alloc<A = Global>>(
 
 #[test]
 fn tells_each_entry(rt: HostRuntime) -> Result<(), Fail> {
-    assert_eq!(rt; first_missing(&rt, &TOLD)?, None);
+    assert_eq!(rt; first_missing(&rt, TOLD)?, None);
     Ok(())
+}
+
+// Adds the commit of an aircraft.
+fn add_commit(
+    alloc: Global,
+    text: &mut Vec<u8>,
+    own: u8,
+    cycle: u16,
+    cells: &str,
+) -> Result<(), AllocError> {
+    let line = format!(in alloc; "c,{own},{cycle},{cells}\n")?;
+    text.extend_from_slice(line.as_bytes())
 }
 
 // The recording of the two with traffic advisories. Their tests hold from cycle 13 on.
@@ -221,11 +244,21 @@ fn traffic_recording(alloc: Global) -> Result<Vec<u8>, AllocError> {
             alloc,
         )?;
     for cycle in 1..32u16 {
-        for (own, clear, traffic) in [(0u8, "-,-", "-,t"), (1, "-,-", "t,-")] {
-            let cells = if cycle < 13 { clear } else { traffic };
-            let line = format!(in alloc; "c,{own},{cycle},{cells}\n")?;
-            text.extend_from_slice(line.as_bytes())?;
-        }
+        let is_clear = cycle < 13;
+        add_commit(
+            alloc,
+            &mut text,
+            0,
+            cycle,
+            if is_clear { "-,-" } else { "-,t" },
+        )?;
+        add_commit(
+            alloc,
+            &mut text,
+            1,
+            cycle,
+            if is_clear { "-,-" } else { "t,-" },
+        )?;
     }
     text.extend_from_slice(
         b"report,2\nr,13,400A01,TRAFFIC,Traffic traffic\nr,13,400B02,TRAFFIC,Traffic traffic\nclose\n",
@@ -233,27 +266,56 @@ fn traffic_recording(alloc: Global) -> Result<Vec<u8>, AllocError> {
     Ok(text)
 }
 
+fn is_traffic(alloc: Global, text: &[u8]) -> Result<bool, AllocError> {
+    let want = traffic_recording(alloc)?;
+    Ok(text == want.as_slice())
+}
+
+fn is_traffic_written<R: Threads + Wait + Sync + Alloc<A = Global>>(
+    rt: &R,
+) -> Result<bool, AllocError> {
+    let written = recording(rt, TRAFFIC, b"end\n")?;
+    is_traffic(rt.alloc(), written.as_slice())
+}
+
 #[test]
 fn writes_a_whole_recording(rt: HostRuntime) -> Result<(), Fail> {
-    let written = recording(&rt, TRAFFIC, b"end\n")?;
-    assert!(rt; written == traffic_recording(rt.alloc())?);
+    assert!(rt; is_traffic_written(&rt)?);
     Ok(())
+}
+
+fn add_craft(alloc: Global, text: &mut Vec<u8>, craft: u32) -> Result<(), AllocError> {
+    let line = format!(in alloc; "craft,0000{craft},TA,{craft}00,0,{craft}000\n")?;
+    text.extend_from_slice(line.as_bytes())
+}
+
+fn add_leg(alloc: Global, text: &mut Vec<u8>, craft: u32, cycle: u32) -> Result<(), AllocError> {
+    let line = format!(in alloc; "leg,0000{craft},{cycle},100,0,0\n")?;
+    text.extend_from_slice(line.as_bytes())
 }
 
 // Sixteen aircraft of format 2, with a leg of each in each of 600 cycles, without the end of the text.
 fn sixteen_aircraft(alloc: Global) -> Result<Vec<u8>, AllocError> {
     let mut text = b"encounter,2\nrun,600,0\n".to_vec(alloc)?;
     for craft in 10..26u32 {
-        let line = format!(in alloc; "craft,0000{craft},TA,{craft}00,0,{craft}000\n")?;
-        text.extend_from_slice(line.as_bytes())?;
+        add_craft(alloc, &mut text, craft)?;
     }
     for craft in 10..26u32 {
         for cycle in 1..601u32 {
-            let line = format!(in alloc; "leg,0000{craft},{cycle},100,0,0\n")?;
-            text.extend_from_slice(line.as_bytes())?;
+            add_leg(alloc, &mut text, craft, cycle)?;
         }
     }
     Ok(text)
+}
+
+// Whether a recording is resumed from this line on.
+fn is_resumed<R: Threads + Wait + Sync + Alloc<A = Global>>(
+    rt: &R,
+    text: &[u8],
+    entries_end: u64,
+) -> Result<bool, AllocError> {
+    let begun = lines_between(rt.alloc(), text, 1, entries_end)?;
+    answers(rt, "resume", begun.as_slice(), Status::Done, text)
 }
 
 // Whether their recording has this many commits, is legal, and is resumed from the line before its report. Nothing is
@@ -264,20 +326,32 @@ fn is_read<R: Threads + Wait + Sync + Alloc<A = Global>>(
     commits: u64,
     entries_end: u64,
 ) -> Result<bool, AllocError> {
-    let begun = lines_between(rt.alloc(), text, 1, entries_end)?;
     Ok(
         lines_with(text, b"c,") == commits
             && answers(rt, "audit", text, Status::Done, b"legal,9600\n")?
             && answers(rt, "watch", text, Status::Done, b"watch,0\n")?
-            && answers(rt, "resume", begun.as_slice(), Status::Done, text)?,
+            && is_resumed(rt, text, entries_end)?,
     )
+}
+
+fn is_recorded<R: Threads + Wait + Sync + Alloc<A = Global>>(
+    rt: &R,
+    encounter: &[u8],
+) -> Result<bool, AllocError> {
+    let whole = recording(rt, encounter, b"end\n")?;
+    is_read(rt, whole.as_slice(), 9_600, 19_222)
+}
+
+fn are_sixteen_recorded<R: Threads + Wait + Sync + Alloc<A = Global>>(
+    rt: &R,
+) -> Result<bool, AllocError> {
+    let text = sixteen_aircraft(rt.alloc())?;
+    is_recorded(rt, text.as_slice())
 }
 
 // The most aircraft and cycles, and the most legs of each: `end` is line 9,621.
 #[test]
 fn plays_sixteen_aircraft(rt: HostRuntime) -> Result<(), Fail> {
-    let text = sixteen_aircraft(rt.alloc())?;
-    let whole = recording(&rt, text.as_slice(), b"end\n")?;
-    assert!(rt; is_read(&rt, whole.as_slice(), 9_600, 19_222)?);
+    assert!(rt; are_sixteen_recorded(&rt)?);
     Ok(())
 }

@@ -53,6 +53,16 @@ fn answer(
     }
 }
 
+// Whether `resume` writes this of a text.
+fn is_resumed<R: Threads + Wait + Sync + Alloc<A = Global>>(
+    rt: &R,
+    text: &[u8],
+    want: &[u8],
+) -> Result<bool, AllocError> {
+    let resumed = run(rt, "resume", text)?;
+    Ok(resumed.sink.bytes() == want)
+}
+
 // Whether a recording that was cut behind `lines` lines, or within the next one, has this answer.
 fn is_answered<R: Threads + Wait + Sync + Alloc<A = Global>>(
     rt: &R,
@@ -61,11 +71,9 @@ fn is_answered<R: Threads + Wait + Sync + Alloc<A = Global>>(
     is_within: bool,
     wrong: Option<(u64, u8)>,
 ) -> Result<bool, AllocError> {
-    let alloc = rt.alloc();
-    let text = cut(alloc, whole, lines, if is_within { 3 } else { 0 })?;
-    let resumed = run(rt, "resume", text.as_slice())?;
-    let want = answer(alloc, whole, wrong)?;
-    Ok(resumed.sink.bytes() == want.as_slice())
+    let text = cut(rt.alloc(), whole, lines, if is_within { 3 } else { 0 })?;
+    let want = answer(rt.alloc(), whole, wrong)?;
+    is_resumed(rt, text.as_slice(), want.as_slice())
 }
 
 // The first cut with another answer: behind some lines, or within the next one.
@@ -86,13 +94,22 @@ fn first_other<R: Threads + Wait + Sync + Alloc<A = Global>>(
     Ok(None)
 }
 
+// The same of the recording of the two at one altitude, whose text goes on so.
+fn first_other_of<R: Threads + Wait + Sync + Alloc<A = Global>>(
+    rt: &R,
+    rest: &[u8],
+    journal: u64,
+    entries: u64,
+) -> Result<Option<(u64, bool)>, AllocError> {
+    let whole = recording(rt, LEVEL, rest)?;
+    first_other(rt, whole.as_slice(), journal, entries)
+}
+
 // Each cut of a recording. In the second one a copy is held back and taken last; its `journal` is three lines later.
 #[test]
 fn answers_each_cut(rt: HostRuntime) -> Result<(), Fail> {
-    let level = recording(&rt, LEVEL, b"end\n")?;
-    assert_eq!(rt; first_other(&rt, level.as_slice(), 10, 86)?, None);
-    let held = recording(&rt, LEVEL, HELD_LONG)?;
-    assert_eq!(rt; first_other(&rt, held.as_slice(), 13, 86)?, None);
+    assert_eq!(rt; first_other_of(&rt, b"end\n", 10, 86)?, None);
+    assert_eq!(rt; first_other_of(&rt, HELD_LONG, 13, 86)?, None);
     Ok(())
 }
 
@@ -108,27 +125,32 @@ fn begun(
     joined(alloc, open.as_slice(), entries)
 }
 
+// The recording with its first two entries exchanged.
+fn exchanged(alloc: Global, whole: &[u8]) -> Result<Vec<u8>, AllocError> {
+    let open = begun(alloc, whole, b"journal,86\n", b"c,1,1,-,-\nc,0,1,-,-\n")?;
+    let rest = lines_between(alloc, whole, 13, 200)?;
+    joined(alloc, open.as_slice(), rest.as_slice())
+}
+
+// Whether it is what is written where only the second entry stands.
+fn goes_on<R: Threads + Wait + Sync + Alloc<A = Global>>(
+    rt: &R,
+    whole: &[u8],
+) -> Result<bool, AllocError> {
+    let text = begun(rt.alloc(), whole, b"journal,1\n", b"c,1,1,-,-\n")?;
+    let want = exchanged(rt.alloc(), whole)?;
+    answers(rt, "resume", text.as_slice(), Status::Done, want.as_slice())
+}
+
+fn goes_on_of_level<R: Threads + Wait + Sync + Alloc<A = Global>>(
+    rt: &R,
+) -> Result<bool, AllocError> {
+    let whole = recording(rt, LEVEL, b"end\n")?;
+    goes_on(rt, whole.as_slice())
+}
+
 #[test]
 fn goes_on_from_another_order(rt: HostRuntime) -> Result<(), Fail> {
-    let alloc = rt.alloc();
-    let whole = recording(&rt, LEVEL, b"end\n")?;
-    let text = begun(alloc, whole.as_slice(), b"journal,1\n", b"c,1,1,-,-\n")?;
-    let open = begun(
-        alloc,
-        whole.as_slice(),
-        b"journal,86\n",
-        b"c,1,1,-,-\nc,0,1,-,-\n",
-    )?;
-    let rest = lines_between(alloc, whole.as_slice(), 13, 200)?;
-    let want = joined(alloc, open.as_slice(), rest.as_slice())?;
-    assert!(rt;
-        answers(
-            &rt,
-            "resume",
-            text.as_slice(),
-            Status::Done,
-            want.as_slice()
-        )?
-    );
+    assert!(rt; goes_on_of_level(&rt)?);
     Ok(())
 }

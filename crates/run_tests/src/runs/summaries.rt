@@ -1,6 +1,6 @@
 // The pages about recordings that are read first. Expected values: from two other programs, which were written from
 // "Summaries" in docs/FORMATS.md alone; that of the run in threads by hand.
-use super::told::{LATE_COMMIT_RECORDING, told};
+use super::told::{LATE_COMMIT_RECORDING, tells, told};
 use super::{BETWEEN, HELD_LONG, LEVEL, TRAFFIC, answers, lines_with, run};
 use acas_top::Status;
 use std::alloc::{AllocError, Global};
@@ -149,7 +149,7 @@ MESSAGES 2 sent, 1 lost, 0 spoilt, 0 held back, 0 repeated, 0 not taken by the e
 // The beginning of an encounter's text, its rest, and the page.
 type Page = (&'static [u8], &'static [u8], &'static [u8]);
 
-const PAGES: [Page; 4] = [
+const PAGES: &[Page] = &[
     (BLIND, b"end\n", BLIND_PAGE),
     (BETWEEN, b"end\n", BETWEEN_PAGE),
     (LEVEL, HELD_LONG, HELD_LONG_PAGE),
@@ -159,11 +159,11 @@ const PAGES: [Page; 4] = [
 // The place of the first row with another page.
 fn first_other<R: Threads + Wait + Sync + Alloc<A = Global>>(
     rt: &R,
+    pages: &[Page],
 ) -> Result<Option<usize>, AllocError> {
-    for place in 0..PAGES.len() {
-        let (encounter, rest, page) = PAGES[place];
-        let done = told(rt, "summary", encounter, rest)?;
-        if done.status != Status::Done || done.sink.bytes() != page {
+    for place in 0..pages.len() {
+        let (encounter, rest, page) = pages[place];
+        if !tells(rt, "summary", encounter, rest, page)? {
             return Ok(Some(place));
         }
     }
@@ -172,7 +172,7 @@ fn first_other<R: Threads + Wait + Sync + Alloc<A = Global>>(
 
 #[test]
 fn writes_whole_pages(rt: HostRuntime) -> Result<(), Fail> {
-    assert_eq!(rt; first_other(&rt)?, None);
+    assert_eq!(rt; first_other(&rt, PAGES)?, None);
     assert!(rt;
         answers(
             &rt,
@@ -195,20 +195,24 @@ fn page_of<R: Threads + Wait + Sync + Alloc<A = Global>>(
 }
 
 // Of 40 and 55 stretches of two aircraft against each other sixteen are told.
+fn is_cut_short(text: &[u8]) -> bool {
+    lines_with(text, b"PAIR ") == 1
+        && lines_with(text, b"    and 24 more") == 1
+        && lines_with(text, b"    and 39 more") == 1
+        && lines_with(text, b"    ") == 35
+        && lines_with(
+            text,
+            b"MESSAGES 246 sent, 30 lost, 24 spoilt, 32 held back, 26 repeated, 0 not taken by the end",
+        ) == 1
+}
+
+fn is_short<R: Threads + Wait + Sync + Alloc<A = Global>>(rt: &R) -> Result<bool, AllocError> {
+    let done = page_of(rt, "gen 38 4 600")?;
+    Ok(done.status == Status::Done && is_cut_short(done.sink.bytes()))
+}
+
 #[test]
 fn cuts_long_rows_short(rt: HostRuntime) -> Result<(), Fail> {
-    let done = page_of(&rt, "gen 38 4 600")?;
-    let text = done.sink.bytes();
-    assert!(rt;
-        done.status == Status::Done
-            && lines_with(text, b"PAIR ") == 1
-            && lines_with(text, b"    and 24 more") == 1
-            && lines_with(text, b"    and 39 more") == 1
-            && lines_with(text, b"    ") == 35
-            && lines_with(
-                text,
-                b"MESSAGES 246 sent, 30 lost, 24 spoilt, 32 held back, 26 repeated, 0 not taken by the end"
-            ) == 1
-    );
+    assert!(rt; is_short(&rt)?);
     Ok(())
 }

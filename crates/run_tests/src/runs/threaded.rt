@@ -1,7 +1,9 @@
 // Runs in threads: `play` and `sum`. Expected values: the counts of the worked encounters, and by hand from
 // docs/RULES.md.
 use super::played::{PLAYED, Row};
-use super::{BETWEEN, LEVEL, answers, entry_in, joined, lines_with, recording, run, run_with};
+use super::{
+    BETWEEN, LEVEL, Outcome, answers, entry_in, joined, lines_with, recording, run, run_with,
+};
 use acas_top::Status;
 use craft_worker::Pause;
 use std::alloc::{AllocError, Global};
@@ -10,6 +12,16 @@ use std::sync::atomic::{AtomicU64, Ordering};
 use std::test::Fail;
 use std::thread::{Threads, yield_now};
 
+// Whether a recording is legal, and has this many commits.
+fn is_judged_legal<R: Threads + Wait + Sync + Alloc<A = Global>>(
+    rt: &R,
+    recorded: &[u8],
+    commits: u64,
+) -> Result<bool, AllocError> {
+    let judged = run(rt, "audit", recorded)?;
+    Ok(judged.status == Status::Done && lines_with(recorded, b"c,") == commits)
+}
+
 // Whether `play` writes a legal recording with this many commits, whatever the order is.
 fn is_legal<R: Threads + Wait + Sync + Alloc<A = Global>>(
     rt: &R,
@@ -17,8 +29,17 @@ fn is_legal<R: Threads + Wait + Sync + Alloc<A = Global>>(
     commits: u64,
 ) -> Result<bool, AllocError> {
     let played = run(rt, "play", text)?;
-    let judged = run(rt, "audit", played.sink.bytes())?;
-    Ok(judged.status == Status::Done && lines_with(played.sink.bytes(), b"c,") == commits)
+    is_judged_legal(rt, played.sink.bytes(), commits)
+}
+
+// How many lines the report of an encounter's serial run has.
+fn report_lines<R: Threads + Wait + Sync + Alloc<A = Global>>(
+    rt: &R,
+    open: &[u8],
+    rest: &[u8],
+) -> Result<u64, AllocError> {
+    let serial = recording(rt, open, rest)?;
+    Ok(lines_with(serial.as_slice(), b"r,"))
 }
 
 // What `sum` always writes of an encounter with these counts.
@@ -27,9 +48,29 @@ fn sums_of<R: Threads + Wait + Sync + Alloc<A = Global>>(
     row: &Row,
 ) -> Result<String, AllocError> {
     let (open, rest, [commits, sends, takes], _) = *row;
-    let serial = recording(rt, open, rest)?;
-    let lines = lines_with(serial.as_slice(), b"r,");
+    let lines = report_lines(rt, open, rest)?;
     format!(in rt.alloc(); "play,{commits}\nserial,{commits},{sends},{takes},{lines}\n")
+}
+
+// Whether a text is played and summed as the row of its encounter says.
+fn is_right<R: Threads + Wait + Sync + Alloc<A = Global>>(
+    rt: &R,
+    text: &[u8],
+    row: &Row,
+) -> Result<bool, AllocError> {
+    if !is_legal(rt, text, row.2[0])? {
+        return Ok(false);
+    }
+    let sums = sums_of(rt, row)?;
+    answers(rt, "sum", text, Status::Done, sums.as_bytes())
+}
+
+fn is_right_of_row<R: Threads + Wait + Sync + Alloc<A = Global>>(
+    rt: &R,
+    row: &Row,
+) -> Result<bool, AllocError> {
+    let text = joined(rt.alloc(), row.0, row.1)?;
+    is_right(rt, text.as_slice(), row)
 }
 
 // The place of the first row that isn't right.
@@ -38,12 +79,7 @@ fn first_other<R: Threads + Wait + Sync + Alloc<A = Global>>(
     rows: &[Row],
 ) -> Result<Option<usize>, AllocError> {
     for place in 0..rows.len() {
-        let (open, rest, counts, _) = rows[place];
-        let text = joined(rt.alloc(), open, rest)?;
-        let sums = sums_of(rt, &rows[place])?;
-        if !is_legal(rt, text.as_slice(), counts[0])?
-            || !answers(rt, "sum", text.as_slice(), Status::Done, sums.as_bytes())?
-        {
+        if !is_right_of_row(rt, &rows[place])? {
             return Ok(Some(place));
         }
     }
@@ -173,7 +209,7 @@ const CROWD: &[u8] =
 
 // In the first cycle the aircraft of index 1 commits last. In the second cycle it is the one of index 0, or of index 2
 // where there is one. In the serial run it is always the one of the highest index.
-const TOGETHER: [Together; 3] = [
+const TOGETHER: &[Together] = &[
     Together {
         open: LEVEL,
         rest: b"end\n",
@@ -206,6 +242,15 @@ const TOGETHER: [Together; 3] = [
     },
 ];
 
+// Whether a run ended with status Done, and wrote the entry, or the sums, of a row.
+fn has_entry(met: &Outcome, row: &Together) -> bool {
+    met.status == Status::Done && entry_in(met.sink.bytes(), row.position) == row.entry
+}
+
+fn has_sums(met: &Outcome, row: &Together) -> bool {
+    met.status == Status::Done && met.sink.bytes() == row.sums
+}
+
 // Whether `play` and `sum` give this, where the aircraft wait for each other.
 fn is_played<R: Threads + Wait + Sync + Alloc<A = Global>>(
     rt: &R,
@@ -214,11 +259,7 @@ fn is_played<R: Threads + Wait + Sync + Alloc<A = Global>>(
 ) -> Result<bool, AllocError> {
     let meeting = Meeting::of(rt.alloc(), row.crafts, row.waiting)?;
     let met = run_with(rt, "play", text, &[], &[], &meeting)?;
-    Ok(
-        met.status == Status::Done
-            && meeting.has_ended(row.cycles)
-            && entry_in(met.sink.bytes(), row.position) == row.entry,
-    )
+    Ok(has_entry(&met, row) && meeting.has_ended(row.cycles))
 }
 
 fn is_summed<R: Threads + Wait + Sync + Alloc<A = Global>>(
@@ -228,7 +269,27 @@ fn is_summed<R: Threads + Wait + Sync + Alloc<A = Global>>(
 ) -> Result<bool, AllocError> {
     let meeting = Meeting::of(rt.alloc(), row.crafts, row.waiting)?;
     let met = run_with(rt, "sum", text, &[], &[], &meeting)?;
-    Ok(met.status == Status::Done && meeting.has_ended(row.cycles) && met.sink.bytes() == row.sums)
+    Ok(has_sums(&met, row) && meeting.has_ended(row.cycles))
+}
+
+// Both, of the encounter of a row.
+fn is_both<R: Threads + Wait + Sync + Alloc<A = Global>>(
+    rt: &R,
+    row: &Together,
+    text: &[u8],
+) -> Result<bool, AllocError> {
+    if !is_played(rt, row, text)? {
+        return Ok(false);
+    }
+    is_summed(rt, row, text)
+}
+
+fn is_met<R: Threads + Wait + Sync + Alloc<A = Global>>(
+    rt: &R,
+    row: &Together,
+) -> Result<bool, AllocError> {
+    let text = joined(rt.alloc(), row.open, row.rest)?;
+    is_both(rt, row, text.as_slice())
 }
 
 // The place of the first row that ends otherwise.
@@ -237,10 +298,7 @@ fn first_unmet<R: Threads + Wait + Sync + Alloc<A = Global>>(
     rows: &[Together],
 ) -> Result<Option<usize>, AllocError> {
     for place in 0..rows.len() {
-        let text = joined(rt.alloc(), rows[place].open, rows[place].rest)?;
-        if !is_played(rt, &rows[place], text.as_slice())?
-            || !is_summed(rt, &rows[place], text.as_slice())?
-        {
+        if !is_met(rt, &rows[place])? {
             return Ok(Some(place));
         }
     }
@@ -253,6 +311,6 @@ fn first_unmet<R: Threads + Wait + Sync + Alloc<A = Global>>(
 // first of several tries, or where another cycle is named.
 #[test]
 fn meet(rt: HostRuntime) -> Result<(), Fail> {
-    assert_eq!(rt; first_unmet(&rt, &TOGETHER)?, None);
+    assert_eq!(rt; first_unmet(&rt, TOGETHER)?, None);
     Ok(())
 }

@@ -81,7 +81,7 @@ const ABOVE: &[u8] =
 const BESIDE: &[u8] =
     b"encounter,1\nrun,2,0\ngains,1024,1024,1024,1024\ncraft,400A01,RA,0,0,35000\ncraft,400B02,RA,12000,0,35000\n";
 
-const REASONS: [Reason; 28] = [
+const REASONS: &[Reason] = &[
     // Each measures, tracks and tests the other one alike. The separations of both senses are there, once for each of
     // the two.
     (
@@ -283,6 +283,6 @@ fn first_missing<R: Threads + Wait + Sync + Alloc<A = Global>>(
 
 #[test]
 fn tells_reasons(rt: HostRuntime) -> Result<(), Fail> {
-    assert_eq!(rt; first_missing(&rt, &REASONS)?, None);
+    assert_eq!(rt; first_missing(&rt, REASONS)?, None);
     Ok(())
 }
