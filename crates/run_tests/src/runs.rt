@@ -4,6 +4,7 @@ mod compared;
 mod drawn;
 mod faults;
 mod followed;
+mod instances;
 mod judged;
 mod many;
 mod pages;
