@@ -11,32 +11,77 @@ use std::test::Fail;
 // What is asked, and whether a run is found that has it.
 type Row = (&'static Meeting, Scope, Sought, bool);
 
-// Equal senses in so many cycles.
-const fn row(cycles: u16) -> Sought {
-    Sought::Equal {
-        one: 1,
-        other: 0,
-        cycles,
-    }
-}
-
-// The word of an aircraft.
-const fn climbs(own: u8, cycle: u16) -> Sought {
-    Sought::Word {
-        own,
-        cycle,
-        word: Word::Up(Strength::Positive),
-    }
-}
-
 const ROWS: &[Row] = &[
-    (&REVERSAL, Scope::Orders, row(6), true),
-    (&REVERSAL, Scope::Orders, row(7), false),
-    (&LEVEL, Scope::Orders, row(2), true),
-    (&LEVEL, Scope::Orders, row(3), false),
-    (&LEVEL, Scope::Losses, row(6), true),
-    (&LEVEL, Scope::Orders, climbs(1, 31), true),
-    (&LEVEL, Scope::Orders, climbs(1, 25), false),
+    (
+        &REVERSAL,
+        Scope::Orders,
+        Sought::Equal {
+            one: 1,
+            other: 0,
+            cycles: 6,
+        },
+        true,
+    ),
+    (
+        &REVERSAL,
+        Scope::Orders,
+        Sought::Equal {
+            one: 0,
+            other: 1,
+            cycles: 7,
+        },
+        false,
+    ),
+    (
+        &LEVEL,
+        Scope::Orders,
+        Sought::Equal {
+            one: 0,
+            other: 1,
+            cycles: 2,
+        },
+        true,
+    ),
+    (
+        &LEVEL,
+        Scope::Orders,
+        Sought::Equal {
+            one: 0,
+            other: 1,
+            cycles: 3,
+        },
+        false,
+    ),
+    (
+        &LEVEL,
+        Scope::Losses,
+        Sought::Equal {
+            one: 0,
+            other: 1,
+            cycles: 6,
+        },
+        true,
+    ),
+    (
+        &LEVEL,
+        Scope::Orders,
+        Sought::Word {
+            own: 1,
+            cycle: 31,
+            word: Word::Up(Strength::Positive),
+        },
+        true,
+    ),
+    (
+        &LEVEL,
+        Scope::Orders,
+        Sought::Word {
+            own: 1,
+            cycle: 25,
+            word: Word::Up(Strength::Positive),
+        },
+        false,
+    ),
 ];
 
 fn is_found(alloc: Global, row: Row) -> Result<bool, Fail> {
