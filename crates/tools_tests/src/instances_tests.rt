@@ -2,10 +2,11 @@
 // row have equal senses; of two that fly level at one altitude two, and six where messages are lost.
 use crate::serial_runs::{LEVEL, Meeting, REVERSAL, met};
 use acas_base::Strength;
+use air_journal::AirState;
 use instances::{Sought, find};
 use pair_ways::Scope;
 use report_words::Word;
-use std::alloc::Global;
+use std::alloc::{AllocError, Global};
 use std::test::Fail;
 
 // What is asked, and whether a run is found that has it.
@@ -84,16 +85,36 @@ const ROWS: &[Row] = &[
     ),
 ];
 
-fn is_found(alloc: Global, row: Row) -> Result<bool, Fail> {
-    let (meeting, scope, sought, _) = row;
+// Whether there is a run.
+fn is_there(run: Option<AirState>) -> bool {
+    let there = run.is_some();
+    drop(run);
+    there
+}
+
+// A run of the encounter of this one that has what is sought.
+fn found(
+    alloc: Global,
+    state: AirState,
+    scope: Scope,
+    sought: Sought,
+) -> Result<Option<AirState>, AllocError> {
+    let run = find(alloc, &state, scope, sought);
+    drop(state);
+    run
+}
+
+fn is_found(alloc: Global, row: &Row) -> Result<bool, Fail> {
+    let (meeting, scope, sought, _) = *row;
     let state = met(alloc, meeting, &[], &[])?;
-    Ok(find(alloc, &state, scope, sought)?.is_some())
+    let run = found(alloc, state, scope, sought)?;
+    Ok(is_there(run))
 }
 
 // The first row of which a run is found where none is, or the other way round.
 fn first_other(alloc: Global, rows: &[Row]) -> Result<Option<usize>, Fail> {
     for at in 0..rows.len() {
-        if is_found(alloc, rows[at])? != rows[at].3 {
+        if is_found(alloc, &rows[at])? != rows[at].3 {
             return Ok(Some(at));
         }
     }
