@@ -28,8 +28,8 @@ fn cell_at(cells: &Cells, other: u8) -> Cell
     }
 }
 
-// Whether an aircraft has a word in a cycle.
-fn has_word(state: &AirState, own: u8, cycle: u16, word: Word) -> bool
+/// Whether an aircraft has a word in a cycle.
+pub(crate) fn has_word(state: &AirState, own: u8, cycle: u16, word: Word) -> bool
     ensures { result ≡ true → HasWord state.now.journal own cycle word }
 {
     match state.cells(own, cycle) {
@@ -38,8 +38,8 @@ fn has_word(state: &AirState, own: u8, cycle: u16, word: Word) -> bool
     }
 }
 
-// Whether two aircraft have equal senses in a cycle.
-fn has_equal(state: &AirState, one: u8, other: u8, cycle: u16) -> bool
+/// Whether two aircraft have equal senses in a cycle.
+pub(crate) fn has_equal(state: &AirState, one: u8, other: u8, cycle: u16) -> bool
     ensures { result ≡ true → AreEqualIn state.now.journal one other cycle }
 {
     let Some(first) = state.cells(one, cycle) else {
