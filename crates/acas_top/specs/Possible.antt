@@ -15,20 +15,29 @@ use Rattle.possibilities.specs.Listed.{IsListed, Listed}
 use Rattle.possibilities.specs.Listing.{listing_lines}
 use Rattle.possibilities.specs.Rows.{Found, IsPastBound}
 
--- An encounter with its serial journal, and what is found.
-abbrev pub listed_of : Scope → Parts → List Entry → Found → Listed
-listed_of scope e journal found = record { encounter = e; journal = journal; scope = scope; found = found }
+-- An encounter with its serial journal, what is found, and what runs show.
+abbrev pub listed_of : Scope → Parts → List Entry → Found → Found → Listed
+listed_of scope e journal found shown = record { encounter = e; journal = journal; scope = scope; found = found; shown = shown }
+
+-- The same was found of the same run. More of it may be shown.
+pub record StaysFound (old new : Listed) : Type 0 where
+  pub encounter : new.encounter ≡ old.encounter
+  pub journal : new.journal ≡ old.journal
+  pub scope : new.scope ≡ old.scope
+  pub found : new.found ≡ old.found
 
 -- The bytes say an encounter. The text lists what each of its aircraft can advise in each cycle, and in which cycles two
--- can have equal senses. Nothing else ever occurs (`possibilities`, `never_law`).
+-- can have equal senses. Nothing else ever occurs (`possibilities`, `never_law`). What is marked as shown occurs in some
+-- run.
 pub record Lists (scope : Scope) (bytes text : List ℕ) : Type 0 where
   pub encounter : Parts
   pub journal : List Entry
   pub found : Found
+  pub shown : Found
   pub says : Says bytes encounter
   pub serial : IsSerial (air_of encounter) journal
-  pub listed : IsListed (listed_of scope encounter journal found)
-  pub text_is : text ≡ joined (listing_lines scope encounter journal found)
+  pub listed : IsListed (listed_of scope encounter journal found shown)
+  pub text_is : text ≡ joined (listing_lines (listed_of scope encounter journal found shown))
 
 -- The line that says for which two aircraft, and after which cycle, there are more states than the search keeps.
 abbrev pub bound_line : Parts → TooMany → List ℕ

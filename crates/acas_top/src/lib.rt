@@ -2,6 +2,7 @@
 //! writes bytes to the sink, and ends with one status.
 #![tactic(auto)]
 
+mod acting;
 mod answers;
 mod counts;
 mod drawing;

@@ -8,6 +8,7 @@ ghost use Rattle.enc_file.specs.Reading.{Says};
 ghost use Rattle.flight.specs.Inside.{IsInside};
 
 use crate::ENCOUNTER_BYTES;
+use crate::acting::acted_out;
 use crate::answers::Answer;
 use crate::runs::serial_state;
 use acas_base::Encounter;
@@ -42,6 +43,7 @@ fn answer_for(alloc: Global, scope: Scope, encounter: &Encounter) -> Result<Answ
     let state = serial_state(alloc, encounter)?;
     match Possibilities::of(alloc, state, scope) {
         Ok(possible) => {
+            let possible = acted_out(alloc, scope, possible)?;
             possible.found_law();
             Ok(Answer::Listed(possible))
         }
