@@ -7,3 +7,4 @@ pub mod Never
 pub mod Possible
 pub mod Rows
 pub mod Saying
+pub mod Tables

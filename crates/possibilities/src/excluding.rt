@@ -4,8 +4,10 @@ ghost use Rattle.possibilities.specs.Rows.{words_at};
 ghost use Rattle.possibilities.specs.Saying.{has};
 ghost use Rattle.possibilities.specs.Excluded.{HasNoRow, NeverEqual, NeverSays, row_with};
 
-use crate::possibilities::{Possibilities, is_active};
-use crate::rows::{RUN, coordinate};
+use crate::filling::is_active;
+use crate::possibilities::Possibilities;
+use crate::rows::coordinate;
+use crate::tables::RUN;
 use crate::words::Words;
 use report_words::Word;
 

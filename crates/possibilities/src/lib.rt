@@ -3,12 +3,14 @@
 #![tactic(auto)]
 
 mod excluding;
+mod filling;
 mod laws;
 mod listing;
 mod mark;
 mod marked;
 mod possibilities;
 mod rows;
+mod tables;
 mod words;
 
 pub use laws::never_law;

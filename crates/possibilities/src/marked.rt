@@ -5,7 +5,7 @@ ghost use Rattle.equal_rows.specs.Rows.{begins, last_from};
 ghost use Rattle.possibilities.specs.Listing.{equal_mark, has_equal, keeps, mark_in, row_up_to, said_in, shows, word_mark};
 
 use crate::mark::{Mark, is_same_mark};
-use crate::rows::RUN;
+use crate::tables::RUN;
 use crate::words::Words;
 use acas_base::{Cell, Cells};
 use air_journal::AirState;
