@@ -9,3 +9,4 @@ pub mod Filled
 pub mod Counted
 pub mod Excluded
 pub mod Rowless
+pub mod RunAdded

@@ -7,3 +7,5 @@ pub mod Never
 pub mod Possible
 pub mod Rows
 pub mod Saying
+pub mod Shown
+pub mod Tables

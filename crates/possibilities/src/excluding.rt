@@ -1,12 +1,10 @@
 // What never happens.
 ghost use Rattle.std.specs.Prelude.{◌≡◌, ◌<◌, ◌≤◌, true};
-ghost use Rattle.possibilities.specs.Rows.{words_at};
-ghost use Rattle.possibilities.specs.Saying.{has};
 ghost use Rattle.possibilities.specs.Excluded.{HasNoRow, NeverEqual, NeverSays, row_with};
 
-use crate::possibilities::{Possibilities, is_active};
-use crate::rows::{RUN, coordinate};
-use crate::words::Words;
+use crate::possibilities::Possibilities;
+use crate::rows::{coordinate, is_active};
+use crate::tables::RUN;
 use report_words::Word;
 
 // Whether there are never so many cycles in a row in this list.
@@ -34,14 +32,6 @@ fn row_after(list: &[bool; RUN], cycle: u16, row: u16) -> u16
     if list[usize::from(cycle)] { row + 1 } else { 0 }
 }
 
-// Whether a word is among those of a cycle.
-fn is_among(row: &[Words; RUN], cycle: u16, word: Word) -> bool
-    requires { cycle ≤ 600 }
-    ensures { result ≡ has (words_at row.now cycle) word }
-{
-    row[usize::from(cycle)].has(word)
-}
-
 impl Possibilities {
     /// Whether an aircraft has a word in a cycle, 1 or later, in no run that is asked about.
     pub fn excludes_word(&self, own: u8, cycle: u16, word: Word) -> bool
@@ -49,13 +39,13 @@ impl Possibilities {
         ensures { result ≡ true → NeverSays self.now.scope self.now.encounter own cycle word }
     {
         self.found_law();
-        if cycle > self.state.enc().cycles() {
+        if cycle > self.cycles() {
             return true;
         }
-        if !is_active(self.state.enc(), own) {
+        if !is_active(self.state().enc(), own) {
             return true;
         }
-        !is_among(self.row(own), cycle, word)
+        !self.found().has(own, cycle, word)
     }
 
     /// Whether two aircraft that send each other messages have equal senses in so many cycles in a row in no run that is
@@ -65,9 +55,9 @@ impl Possibilities {
         ensures { result ≡ true → NeverEqual self.now.scope self.now.encounter one other cycles }
     {
         self.found_law();
-        if !coordinate(self.state.enc(), one, other) {
+        if !coordinate(self.state().enc(), one, other) {
             return false;
         }
-        has_no_row(self.equal(one, other), self.state.enc().cycles(), cycles)
+        has_no_row(self.found().list(one, other), self.cycles(), cycles)
     }
 }

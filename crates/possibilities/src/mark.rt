@@ -1,39 +1,57 @@
 // What is known of a possibility.
 ghost use Rattle.std.specs.Prelude.{◌≡◌, ◌≤◌, length};
-ghost use Rattle.possibilities.specs.Listing.{is_same_mark, mark_by, mark_letter, mark_number};
+ghost use Rattle.possibilities.specs.Listing.{is_open, is_same_mark, mark_by, mark_letter, mark_number};
 
-/// What is known of something that is possible.
+/// What is known of something that is possible, in short.
 #[derive(Clone, Copy)]
 pub(crate) enum Mark {
     /// Nothing else is.
     Always,
     /// The run that is given has it, and something else is possible, too.
-    Shown,
-    /// It isn't excluded, and the run that is given has something else.
+    Serial,
+    /// The run that is given has something else, and another run was seen to have it.
+    Other,
+    /// It isn't excluded, and no run was seen to have it.
     Unshown,
 }
 
-impl Mark {
-    /// By whether it is the only possibility, and whether the run that is given has it.
-    pub(crate) fn by(only: bool, shown: bool) -> Mark
-        ensures { result ≡ mark_by only shown }
+/// What is known of something that is possible.
+#[derive(Clone, Copy)]
+pub(crate) struct Known {
+    /// Nothing else is.
+    pub only: bool,
+    /// The run that is given has it.
+    pub serial: bool,
+    /// A run that was shown has it.
+    pub shown: bool,
+}
+
+impl Known {
+    /// In short.
+    pub(crate) fn mark(self) -> Mark
+        ensures { result ≡ mark_by self.only self.serial self.shown }
     {
-        if only {
+        if self.only {
             Mark::Always
-        } else if shown {
-            Mark::Shown
+        } else if self.serial {
+            Mark::Serial
+        } else if self.shown {
+            Mark::Other
         } else {
             Mark::Unshown
         }
     }
+}
 
+impl Mark {
     fn number(self) -> u8
         ensures { result ≡ mark_number self }
     {
         match self {
             Mark::Always => 0,
-            Mark::Shown => 1,
-            Mark::Unshown => 2,
+            Mark::Serial => 1,
+            Mark::Other => 2,
+            Mark::Unshown => 3,
         }
     }
 
@@ -44,7 +62,8 @@ impl Mark {
     {
         match self {
             Mark::Always => "a",
-            Mark::Shown => "s",
+            Mark::Serial => "s",
+            Mark::Other => "o",
             Mark::Unshown => "?",
         }
     }
@@ -61,4 +80,11 @@ pub(crate) fn is_same_mark(one: Option<Mark>, other: Option<Mark>) -> bool
         },
         None => false,
     }
+}
+
+/// Whether there is a mark that says that no run was seen to have it.
+pub(crate) fn is_open(mark: Option<Mark>) -> bool
+    ensures { result ≡ is_open mark }
+{
+    is_same_mark(mark, Some(Mark::Unshown))
 }

@@ -1,15 +1,20 @@
 // Expected values: by hand from "What can happen" in docs/FORMATS.md, and from the order that is played by hand in
-// examples/who-was-first.md, in which both advise the same way from cycle 26 to the end of the run.
-ghost use Rattle.std.specs.Prelude.{IfOk};
+// examples/who-was-first.md, in which both advise the same way from cycle 26 to the end of the run. What a shown run has
+// follows from the rules. Both advise to climb where neither was told of the other one's sense. The first one keeps its
+// sense, and the second one turns once it is told.
+ghost use Rattle.std.specs.Prelude.{◌≡◌, IfOk};
 ghost use Rattle.air_journal.specs.Airs.{air_of};
 ghost use Rattle.air_rules.specs.Rules.{IsComplete};
 
 use crate::serial_runs::{LEVEL, Meeting, REVERSAL, met, sink};
+use acas_base::Strength;
 use acas_io::Sink;
 use acas_lines::write_text;
 use air_journal::AirState;
+use instances::{Sought, find};
 use pair_ways::Scope;
 use possibilities::{Possibilities, Stop};
+use report_words::Word;
 use std::alloc::Global;
 use std::test::Fail;
 
@@ -66,7 +71,9 @@ fn whole(state: AirState) -> Result<AirState, Fail>
     }
 }
 
-fn possible(alloc: Global, state: AirState, scope: Scope) -> Result<Possibilities, Fail> {
+fn possible(alloc: Global, state: AirState, scope: Scope) -> Result<Possibilities, Fail>
+    ensures { IfOk result (λ possible. possible.scope ≡ scope) }
+{
     match Possibilities::of(alloc, whole(state)?, scope) {
         Ok(possible) => Ok(possible),
         Err(Stop::TooMany(_)) => Err("too many states".into()),
@@ -74,18 +81,23 @@ fn possible(alloc: Global, state: AirState, scope: Scope) -> Result<Possibilitie
     }
 }
 
-fn ends_so(alloc: Global, row: Row) -> Result<bool, Fail> {
+// Whether the text ends so.
+fn ends_so(alloc: Global, possible: &Possibilities, want: &[u8]) -> Result<bool, Fail> {
+    let mut sink = sink(alloc, &[])?;
+    write_text(possible, &mut sink)?;
+    Ok(sink.bytes().ends_with(want))
+}
+
+fn is_right(alloc: Global, row: Row) -> Result<bool, Fail> {
     let (meeting, scope, want) = row;
     let possible = possible(alloc, met(alloc, meeting, &[], &[])?, scope)?;
-    let mut sink = sink(alloc, &[])?;
-    write_text(&possible, &mut sink)?;
-    Ok(sink.bytes().ends_with(want))
+    ends_so(alloc, &possible, want)
 }
 
 // The first row of which the text ends otherwise.
 fn first_other(alloc: Global, rows: &[Row]) -> Result<Option<usize>, Fail> {
     for at in 0..rows.len() {
-        if !ends_so(alloc, rows[at])? {
+        if !is_right(alloc, rows[at])? {
             return Ok(Some(at));
         }
     }
@@ -95,5 +107,138 @@ fn first_other(alloc: Global, rows: &[Row]) -> Result<Option<usize>, Fail> {
 #[test]
 fn lists_what_can_be(rt: HostRuntime) -> Result<(), Fail> {
     assert_eq!(rt; first_other(rt.alloc(), ROWS)?, None);
+    Ok(())
+}
+
+// What is asked, what the run has that is shown, and how the text ends.
+type ShownRow = (&'static Meeting, Scope, Sought, &'static [u8]);
+
+// The second one climbs in the last cycle.
+const SECOND_CLIMBS: Sought = Sought::Word {
+    own: 1,
+    cycle: 31,
+    word: Word::Up(Strength::Positive),
+};
+
+const SHOWN_ROWS: &[ShownRow] = &[
+    (
+        &LEVEL,
+        Scope::Orders,
+        Sought::Equal {
+            one: 0,
+            other: 1,
+            cycles: 2,
+        },
+        b"orders,11
+o,400A01,1,12,CLEAR,a
+o,400A01,13,25,TRAFFIC,a
+o,400A01,26,31,UP-CLIMB,s
+o,400A01,26,31,DOWN-DESCEND,?
+o,400B02,1,12,CLEAR,a
+o,400B02,13,25,TRAFFIC,a
+o,400B02,26,26,UP-CLIMB,s
+o,400B02,26,26,DOWN-DESCEND,?
+o,400B02,27,27,UP-CLIMB,o
+o,400B02,27,31,DOWN-DESCEND,s
+o,400B02,28,31,UP-CLIMB,?
+equal,2
+e,400A01,400B02,26,26,s,1
+e,400A01,400B02,27,27,o,2
+",
+    ),
+    (
+        &LEVEL,
+        Scope::Orders,
+        SECOND_CLIMBS,
+        b"orders,10
+o,400A01,1,12,CLEAR,a
+o,400A01,13,25,TRAFFIC,a
+o,400A01,26,31,UP-CLIMB,s
+o,400A01,26,31,DOWN-DESCEND,o
+o,400B02,1,12,CLEAR,a
+o,400B02,13,25,TRAFFIC,a
+o,400B02,26,26,UP-CLIMB,s
+o,400B02,26,26,DOWN-DESCEND,?
+o,400B02,27,31,UP-CLIMB,o
+o,400B02,27,31,DOWN-DESCEND,s
+equal,2
+e,400A01,400B02,26,26,s,1
+e,400A01,400B02,27,27,?,2
+",
+    ),
+    (
+        &LEVEL,
+        Scope::Losses,
+        Sought::Equal {
+            one: 0,
+            other: 1,
+            cycles: 6,
+        },
+        b"equal,2
+e,400A01,400B02,26,26,s,1
+e,400A01,400B02,27,31,o,6
+",
+    ),
+];
+
+// Shows a run that has what is sought.
+fn show_one(
+    alloc: Global,
+    possible: &mut Possibilities,
+    scope: Scope,
+    sought: Sought,
+) -> Result<(), Fail>
+    requires { possible.old.scope ≡ scope }
+{
+    let Some(run) = find(alloc, possible.state(), scope, sought)? else {
+        return Err("no run".into());
+    };
+    possible.show(&run);
+    drop(run);
+    Ok(())
+}
+
+fn is_shown_right(alloc: Global, row: ShownRow) -> Result<bool, Fail> {
+    let (meeting, scope, sought, want) = row;
+    let mut possible = possible(alloc, met(alloc, meeting, &[], &[])?, scope)?;
+    show_one(alloc, &mut possible, scope, sought)?;
+    ends_so(alloc, &possible, want)
+}
+
+// The first row of which the text ends otherwise.
+fn first_other_shown(alloc: Global, rows: &[ShownRow]) -> Result<Option<usize>, Fail> {
+    for at in 0..rows.len() {
+        if !is_shown_right(alloc, rows[at])? {
+            return Ok(Some(at));
+        }
+    }
+    Ok(None)
+}
+
+#[test]
+fn marks_what_runs_show(rt: HostRuntime) -> Result<(), Fail> {
+    assert_eq!(rt; first_other_shown(rt.alloc(), SHOWN_ROWS)?, None);
+    Ok(())
+}
+
+#[test]
+fn tells_what_is_unshown(rt: HostRuntime) -> Result<(), Fail> {
+    let alloc = rt.alloc();
+    let climb = Word::Up(Strength::Positive);
+    let descend = Word::Down(Strength::Positive);
+    let mut possible = possible(alloc, met(alloc, &LEVEL, &[], &[])?, Scope::Orders)?;
+    assert!(rt; possible.is_unshown(1, 31, climb));
+    assert!(rt; possible.is_unshown(0, 26, descend));
+    assert!(rt; possible.is_equal_unshown(0, 1, 27));
+    // What the serial run has, what alone is possible, and what isn't.
+    assert!(rt; !possible.is_unshown(1, 31, descend));
+    assert!(rt; !possible.is_unshown(1, 25, Word::Traffic));
+    assert!(rt; !possible.is_unshown(1, 25, climb));
+    assert!(rt; !possible.is_equal_unshown(0, 1, 26));
+    assert!(rt; !possible.is_equal_unshown(0, 1, 28));
+    show_one(alloc, &mut possible, Scope::Orders, SECOND_CLIMBS)?;
+    assert!(rt; !possible.is_unshown(1, 31, climb));
+    assert!(rt; !possible.is_unshown(0, 26, descend));
+    assert!(rt; possible.is_equal_unshown(0, 1, 27));
     Ok(())
 }

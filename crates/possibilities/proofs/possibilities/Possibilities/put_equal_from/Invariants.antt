@@ -5,4 +5,4 @@ use Rattle.possibilities.proofs.possibilities.Possibilities.put_equal_from.Given
 
 -- The lines of the aircraft with the others so far were taken.
 abbrev pub invariant-loop-high : goal.invariant-loop-high
-invariant-loop-high g l = g.S.LineSink.took l.fn.sink l.sink (flat_map (equal_lines_of l.self.encounter l.self.journal l.self.found l.low) (range_with_len 0 l.high))
+invariant-loop-high g l = g.S.LineSink.took l.fn.sink l.sink (flat_map (equal_lines_of l.self l.low) (range_with_len 0 l.high))

@@ -1,0 +1,8 @@
+use Rattle.std.specs.Prelude.{flat_map}
+use Rattle.std.specs.List.{range_with_len}
+use Rattle.possibilities.specs.Listing.{equal_lines_at}
+use Rattle.possibilities.proofs.possibilities.Possibilities.put_equal_of.Given as goal
+
+-- The lines of the cycles so far were taken.
+abbrev pub invariant-loop-made : goal.invariant-loop-made
+invariant-loop-made g l = g.S.LineSink.took l.fn.sink l.sink (flat_map (equal_lines_at l.self l.low l.high) (range_with_len 1 l.made))
