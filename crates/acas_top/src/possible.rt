@@ -4,6 +4,8 @@ ghost use Rattle.acas_top.specs.Answers.{AnswersPlain};
 ghost use Rattle.acas_top.specs.Given.{answer_status, answer_text};
 ghost use Rattle.acas_top.specs.Possible.{bound_line};
 ghost use Rattle.acas_top.specs.declared.words.Plain.TheVariants.{Possible};
+ghost use Rattle.air_journal.specs.Airs.{air_of};
+ghost use Rattle.air_rules.specs.Serial.{IsSerial};
 ghost use Rattle.enc_file.specs.Reading.{Says};
 ghost use Rattle.flight.specs.Inside.{IsInside};
 
@@ -34,6 +36,21 @@ pub(crate) fn bound_line(encounter: &Encounter, stop: &TooMany) -> Line
     line
 }
 
+// The answer where all that can be is found: what of it runs show is acted out.
+fn answer_listed(
+    alloc: Global,
+    scope: Scope,
+    possible: Possibilities,
+) -> Result<Answer, AllocError>
+    requires scope { possible.scope ≡ scope }
+    requires serial { IsSerial (air_of possible.encounter) possible.journal }
+    ensures { IfOk result (λ answer. (bytes : List ℕ) → Says bytes possible.encounter → AnswersPlain (Possible scope) bytes (answer_status answer) (answer_text answer)) }
+{
+    let possible = acted_out(alloc, scope, possible)?;
+    possible.found_law();
+    Ok(Answer::Listed(possible))
+}
+
 // The answer for an encounter.
 fn answer_for(alloc: Global, scope: Scope, encounter: &Encounter) -> Result<Answer, AllocError>
     requires { IsInside encounter.now }
@@ -42,11 +59,7 @@ fn answer_for(alloc: Global, scope: Scope, encounter: &Encounter) -> Result<Answ
     encounter.valid_law();
     let state = serial_state(alloc, encounter)?;
     match Possibilities::of(alloc, state, scope) {
-        Ok(possible) => {
-            let possible = acted_out(alloc, scope, possible)?;
-            possible.found_law();
-            Ok(Answer::Listed(possible))
-        }
+        Ok(possible) => answer_listed(alloc, scope, possible),
         Err(Stop::TooMany(stop)) => Ok(Answer::Unmet(bound_line(encounter, &stop))),
         Err(Stop::OutOfMemory) => Err(AllocError),
     }
