@@ -48,8 +48,8 @@ impl Possibilities {
         !self.found().has(own, cycle, word)
     }
 
-    /// Whether two aircraft that send each other messages have equal senses in so many cycles in a row in no run that is
-    /// asked about. Of others it says nothing.
+    /// Whether two aircraft that send each other messages have equal senses in so many cycles in a row in no run that
+    /// is asked about. Of others it says nothing.
     pub fn excludes_row(&self, one: u8, other: u8, cycles: u16) -> bool
         requires { 1 ≤ cycles }
         ensures { result ≡ true → NeverEqual self.now.scope self.now.encounter one other cycles }

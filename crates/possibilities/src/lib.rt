@@ -1,6 +1,6 @@
 //! Everything that an encounter's aircraft can advise: which words each of them can have in each cycle, over all orders
-//! of their steps, and where losses are asked about, over all patterns of lost messages besides. A caller may show runs:
-//! then it is told which of these words some run has.
+//! of their steps, and where losses are asked about, over all patterns of lost messages besides. A caller may show
+//! runs. Then it is told which of these words some run has.
 #![tactic(auto)]
 
 mod excluding;

@@ -99,8 +99,8 @@ impl Possibilities {
         self.equal_mark_in(low, high, cycle)
     }
 
-    /// Whether a word of an aircraft in a cycle has the mark `?`: it isn't excluded, it isn't the only one, and neither the
-    /// run that is given nor one that was shown has it.
+    /// Whether a word of an aircraft in a cycle has the mark `?`. It isn't excluded, it isn't the only one, and neither
+    /// the run that is given nor one that was shown has it.
     pub fn is_unshown(&self, own: u8, cycle: u16, word: Word) -> bool
         ensures { result ≡ is_unshown self.now own cycle word }
     {
