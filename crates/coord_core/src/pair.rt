@@ -153,7 +153,6 @@ pub fn ends(prev: &Intent, view: &View) -> bool
     !view.resolves || (!view.threat && prev.age >= ENDS_FROM)
 }
 
-#[inline(always)]
 fn cell_after(prev: &Cell, view: &View, rac: Vrc, rank: Rank) -> Cell
     requires { (intent : Intent) → prev.now ≡ Cell.Ra intent → intent.age < 600 }
     ensures { result ≡ cell_after prev.now view.now rac rank }
