@@ -124,8 +124,8 @@ impl Acting {
         None
     }
 
-    // Acts out what an aircraft can have, from the last cycle to the first one. A run that shows a late word goes through
-    // earlier ones.
+    // Acts out what an aircraft can have, from the last cycle to the first one. A run that shows a late word goes
+    // through earlier ones.
     fn act_own(&mut self, own: u8, cycles: u16) -> Result<(), AllocError>
         ensures { OnOk result (StaysFound self.old self.new) }
     {

@@ -105,8 +105,8 @@ pub enum Plain {
     /// `orders` or `losses`: reads an encounter, and writes what each aircraft can advise in any order of the steps; or
     /// whatever messages are lost besides.
     Possible(Scope),
-    /// `instance ..`: reads an encounter, and writes the recording of a run that has what is wanted, in some order of the
-    /// steps; or where losses are asked about, with messages lost.
+    /// `instance ..`: reads an encounter, and writes the recording of a run that has what is wanted, in some order of
+    /// the steps; or where losses are asked about, with messages lost.
     Instance(Scope, Wanted),
     /// `many`: reads encounters, one after the other, plays each, and writes what each run comes to.
     Many,

@@ -306,7 +306,8 @@ impl<'a> Round<'a> {
         lasts
     }
 
-    // The greatest index of an aircraft to which own aircraft sends its message of the new cycle before that one commits.
+    // The greatest index of an aircraft to which own aircraft sends its message of the new cycle before that one
+    // commits.
     fn last_early(&self) -> Option<u8> {
         let mut last = None;
         for other in 0..CRAFTS as u8 {

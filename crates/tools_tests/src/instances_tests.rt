@@ -1,5 +1,5 @@
-// Expected values: the orders and losses of "What can happen" in docs/FORMATS.md. In the reversal at most six cycles in a
-// row have equal senses; of two that fly level at one altitude two, and six where messages are lost. Against a
+// Expected values: the orders and losses of "What can happen" in docs/FORMATS.md. In the reversal at most six cycles in
+// a row have equal senses; of two that fly level at one altitude two, and six where messages are lost. Against a
 // transponder alone the run is that of examples/transponder-only.md.
 use crate::serial_runs::{LEVEL, Meeting, REVERSAL, TRANSPONDER, met};
 use acas_base::Strength;

@@ -1,7 +1,7 @@
 // Expected values: by hand from "What can happen" in docs/FORMATS.md, and from the order that is played by hand in
-// examples/who-was-first.md, in which both advise the same way from cycle 26 to the end of the run. What a shown run has
-// follows from the rules. Both advise to climb where neither was told of the other one's sense. The first one keeps its
-// sense, and the second one turns once it is told.
+// examples/who-was-first.md, in which both advise the same way from cycle 26 to the end of the run. What a shown run
+// has follows from the rules. Both advise to climb where neither was told of the other one's sense. The first one keeps
+// its sense, and the second one turns once it is told.
 ghost use Rattle.std.specs.Prelude.{◌≡◌, IfOk};
 ghost use Rattle.air_journal.specs.Airs.{air_of};
 ghost use Rattle.air_rules.specs.Rules.{IsComplete};
