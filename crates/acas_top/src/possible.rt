@@ -37,11 +37,7 @@ pub(crate) fn bound_line(encounter: &Encounter, stop: &TooMany) -> Line
 }
 
 // The answer where all that can be is found: what of it runs show is acted out.
-fn answer_listed(
-    alloc: Global,
-    scope: Scope,
-    possible: Possibilities,
-) -> Result<Answer, AllocError>
+fn answer_listed(alloc: Global, scope: Scope, possible: Possibilities) -> Result<Answer, AllocError>
     requires scope { possible.scope ≡ scope }
     requires serial { IsSerial (air_of possible.encounter) possible.journal }
     ensures { IfOk result (λ answer. (bytes : List ℕ) → Says bytes possible.encounter → AnswersPlain (Possible scope) bytes (answer_status answer) (answer_text answer)) }
