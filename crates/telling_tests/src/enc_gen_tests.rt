@@ -192,6 +192,41 @@ const ROWS: &[Row] = &[
             third: PLAIN,
         },
     },
+    // The last message is held back. The draws of this encounter stand in docs/FORMATS.md.
+    Row {
+        number: 5,
+        crafts: 2,
+        cycles: 3,
+        version: 1,
+        address: 0x40_0201,
+        kind: Kind::Ra,
+        place: (15_000, 12_000, 22_200),
+        legs: 2,
+        leg: Leg {
+            craft: 1,
+            from: 1,
+            vx: -150,
+            vy: -120,
+            vz: -100,
+        },
+        misses: 1,
+        miss: Some(Miss {
+            own: 1,
+            target: 0,
+            from: 3,
+            to: 3,
+        }),
+        fates: 2,
+        fate: Fate {
+            sender: 0,
+            receiver: 1,
+            number: 3,
+            copies: 1,
+            first: CopyPlan { hold: 1, mask: 0 },
+            second: PLAIN,
+            third: PLAIN,
+        },
+    },
 ];
 
 fn last_craft(row: &Row) -> Result<CraftSpec, Fail> {
