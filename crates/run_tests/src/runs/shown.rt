@@ -60,6 +60,14 @@ const TOLD: &[Row] = &[
 const HELD: &[u8] =
     b"encounter,2\nrun,60,0\ngains,683,256,512,128\ncraft,400A01,RA,0,0,35000\ncraft,400B02,RA,91200,0,35000\nleg,400A01,1,760,0,0\nleg,400B02,1,-760,0,0\nplan,400A01,400B02,4,00\nplan,400B02,400A01,4,00\nend\n";
 
+// One that sends no messages, since it is of kind TA.
+const UNTOLD: &[u8] =
+    b"encounter,1\nrun,31,0\ncraft,400A01,RA,0,0,35000\ncraft,400B02,TA,91200,0,35000\nleg,400A01,1,760,0,0\nleg,400B02,1,-760,0,0\nend\n";
+
+// One that loses a message, and doesn't see the other one for six cycles.
+const BLIND: &[u8] =
+    b"encounter,2\nrun,36,0\ncraft,400A01,RA,0,0,35000\ncraft,400B02,RA,91200,0,35000\nleg,400A01,1,760,0,0\nleg,400B02,1,-760,0,0\nmiss,400B02,400A01,28,33\nplan,400A01,400B02\nfate,400A01,400B02,1,0,00\nend\n";
+
 // How a text begins, and how it ends.
 type Ends = (
     &'static str,
@@ -83,6 +91,27 @@ const LISTED: &[Ends] = &[
         Status::Done,
         b"losses,10\n",
         b"\nequal,2\ne,400A01,400B02,26,26,s,1\ne,400A01,400B02,27,31,o,6\n",
+    ),
+    (
+        "losses",
+        UNTOLD,
+        Status::Done,
+        b"losses,5\no,400A01,1,12,CLEAR,a\no,400A01,13,25,TRAFFIC,a\no,400A01,26,31,UP-CLIMB,a\n",
+        b"\no,400B02,1,12,CLEAR,a\no,400B02,13,31,TRAFFIC,a\nequal,0\n",
+    ),
+    (
+        "orders",
+        BLIND,
+        Status::Done,
+        b"orders,",
+        b"\nequal,3\ne,400A01,400B02,26,26,s,1\ne,400A01,400B02,27,27,o,2\ne,400A01,400B02,35,36,s,2\n",
+    ),
+    (
+        "losses",
+        BLIND,
+        Status::Done,
+        b"losses,",
+        b"\nequal,3\ne,400A01,400B02,26,26,s,1\ne,400A01,400B02,27,32,o,7\ne,400A01,400B02,35,36,s,2\n",
     ),
     (
         "orders",
