@@ -10,8 +10,9 @@ use air_turn::{Air, Seat};
 use craft_view::no_picture;
 use std::alloc::Global;
 use std::sync::Wait;
+use std::sync::atomic::{AtomicU64, Ordering};
 use std::test::Fail;
-use std::thread::{Threads, for_each_mut};
+use std::thread::{Threads, for_each_mut, yield_now};
 use test_encounters::{aircraft, encounter, leg};
 
 // The shared journal of an encounter, empty.
@@ -414,5 +415,74 @@ fn ends<R: Threads + Wait + Sync>(rt: &R, alloc: Global, entries: u32) -> Result
 #[test]
 fn commits_in_threads(rt: HostRuntime) -> Result<(), Fail> {
     assert!(rt; ends(&rt, rt.alloc(), 62)?);
+    Ok(())
+}
+
+// ---- in sixteen threads
+
+// How often a journal is shared anew, and how many calls each seat makes then.
+const OPENINGS: u32 = 16;
+
+const CALLS: u32 = 25;
+
+// Waits until all sixteen have come, or gives up.
+fn comes(came: &AtomicU64) {
+    came.fetch_add(1, Ordering::SeqCst);
+    for _turn in 0..100_000u64 {
+        if came.load(Ordering::SeqCst) >= 16 {
+            return;
+        }
+        yield_now();
+    }
+}
+
+// Makes calls that add nothing, when all have come.
+fn sends_nothing<R: Wait>(rt: &R, air: &Air, seat: &mut Seat, came: &AtomicU64)
+    requires { IsSeatOf air.now seat.old }
+    ensures { IsSameSeat seat.old seat.new }
+{
+    comes(came);
+    for _call in 0..CALLS {
+        let _ = air.send(rt, seat);
+    }
+}
+
+// Each seat makes its calls in a thread of its own.
+fn all_send<R: Threads + Wait + Sync>(rt: &R, air: &Air, seats: &mut [Seat], came: &AtomicU64)
+    requires { All (IsSeatOf air.now) seats.old }
+    ensures { (k : ℕ) (d : SeatState) → k < length seats.old → IsSameSeat (slice_index_or seats.old k d) (slice_index_or seats.new k d) }
+{
+    for_each_mut(
+        rt,
+        seats,
+        16,
+        &|_place, seat| { sends_nothing(rt, air, seat, came) },
+    );
+}
+
+// How many entries a shared journal has when all have ended.
+fn sent<R: Threads + Wait + Sync>(rt: &R, alloc: Global, enc: &Encounter) -> Result<u32, Fail> {
+    let (air, mut seats) = opened(alloc, enc)?;
+    let came = AtomicU64::new(0);
+    all_send(rt, &air, seats.as_mut_slice(), &came);
+    Ok(air.close(seats).count())
+}
+
+// How many entries all these journals have.
+fn all_sent<R: Threads + Wait + Sync>(rt: &R, alloc: Global) -> Result<u32, Fail> {
+    let enc = standing(alloc, &[Kind::Ra; 16])?;
+    let mut entries = 0u32;
+    for _opening in 0..OPENINGS {
+        entries = entries.saturating_add(sent(rt, alloc, &enc)?);
+    }
+    Ok(entries)
+}
+
+// Sixteen seats call at the same time, so nearly every call waits for its turn, from the first tickets on. The test
+// doesn't end where a seat parks on another word than the one of its ticket, where nobody is woken, or where a seat is
+// woken before its turn was given.
+#[test]
+fn all_calls_get_their_turn(rt: HostRuntime) -> Result<(), Fail> {
+    assert_eq!(rt; all_sent(&rt, rt.alloc())?, 0);
     Ok(())
 }
