@@ -6,7 +6,7 @@ use Rattle.acas_base.specs.Encounter.{Parts}
 use Rattle.acas_base.specs.declared.TheConstants.{CRAFTS}
 use Rattle.acas_base.specs.declared.craft.Miss.{Miss}
 use Rattle.acas_num.specs.Root.{root}
-use Rattle.flight.specs.Flight.{position}
+use Rattle.flight.specs.Flight.{nowhere, position}
 use Rattle.flight.specs.declared.place.Place.{Place}
 use Rattle.flight.specs.declared.measuring.Meas.{Meas}
 
@@ -34,6 +34,11 @@ pub record IsSlantRange (p q : Place) (r : ℕ) : Type 0 where
 unfoldable pub slant_range : Place → Place → ℕ
 slant_range p q = root (distance p q / 3600)
 
+-- The slant ranges of each two of the first places, each pair at its place among the ordered pairs.
+abbrev pub AreSlantRanges : List Place → ℕ → List ℕ → Type 0
+AreSlantRanges places count ranges =
+    (a b : ℕ) → a < count → b < count → slice_index_or ranges (a * CRAFTS + b) 0 ≡ slant_range (slice_index_or places a nowhere) (slice_index_or places b nowhere)
+
 -- The greatest range that is measured, in ft.
 abbrev pub longest : ℕ
 longest = 182280
@@ -58,11 +63,13 @@ is_of_own own cycle miss = miss.own == own && lasts_in cycle miss
 abbrev pub AreMissing : Parts → ℕ → List Bool → Type 0
 AreMissing e cycle owns = (own : ℕ) → own < CRAFTS → slice_index_or owns own false ≡ list_any (is_of_own own cycle) e.misses
 
--- The range from one place to another one, and the altitude reported there; none where the range is too long.
+-- A range, and the altitude reported at a place; none where the range is too long.
+abbrev pub measured_by : ℕ → Place → Option Meas
+measured_by range there = if nat_lt longest range then None else Some (record { range = range; alt = reported there.z })
+
+-- The range from one place to another one, and the altitude reported there.
 abbrev pub measured : Place → Place → Option Meas
-measured here there =
-    if nat_lt longest (slant_range here there) then None
-    else Some (record { range = slant_range here there; alt = reported there.z })
+measured here there = measured_by (slant_range here there) there
 
 -- What an own aircraft measures of a target in a cycle.
 unfoldable pub measurement : Parts → ℕ → ℕ → ℕ → Option Meas

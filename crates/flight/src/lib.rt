@@ -8,6 +8,7 @@ mod measuring;
 mod misses;
 mod place;
 mod places;
+mod ranges;
 
 pub use approach::{ClosestApproach, closest_approach, range_between};
 pub use flying::{inside, inside_law, position};

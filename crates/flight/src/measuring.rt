@@ -5,7 +5,7 @@ ghost use Rattle.acas_num.specs.Clamp.{LiesBetween};
 ghost use Rattle.flight.specs.Bounds.{IsReachable};
 ghost use Rattle.flight.specs.Flight.{position};
 ghost use Rattle.flight.specs.Inside.{IsInside, IsInBox};
-ghost use Rattle.flight.specs.Measurement.{IsSlantRange, distance, feet, longest, measured, measurement, own_altitude, reported, slant_range, square};
+ghost use Rattle.flight.specs.Measurement.{IsSlantRange, distance, feet, longest, measured_by, measurement, own_altitude, reported, slant_range, square};
 ghost use Rattle.flight.specs.declared.place.Place.{Place};
 
 use crate::misses::is_missed;
@@ -22,7 +22,7 @@ pub struct Meas {
     pub alt: i32,
 }
 
-// The greatest range that is measured, in ft.
+// The greatest range that is measured_by, in ft.
 const LONGEST: u64 = 182_280;
 
 /// What an own aircraft measures of a target in a cycle (this project's profile). None where a miss of that own
@@ -38,10 +38,9 @@ pub fn measure(encounter: &Encounter, own: u8, target: u8, cycle: u16) -> Option
     if is_missed(encounter, own, target, cycle) {
         return None;
     }
-    measured(
-        position(encounter, own, cycle),
-        position(encounter, target, cycle),
-    )
+    let here = position(encounter, own, cycle);
+    let there = position(encounter, target, cycle);
+    measured(slant_range(here, there), there)
 }
 
 /// The altitude that an aircraft measures of itself in a cycle, in ft, rounded down (this project's
@@ -63,17 +62,15 @@ pub fn slant_range_law()
     ensures only { (p q : Place) (r : ℕ) → IsSlantRange p q r → r ≡ slant_range p q }
 {}
 
-// What is measured at one place of an aircraft at another one, where no miss is recorded. It is inlined where
+// What is measured of an aircraft at a place and a range, where no miss is recorded. It is inlined where
 // `Places::measure` is: else that call saves nothing.
 #[inline(always)]
-pub(crate) fn measured(here: Place, there: Place) -> Option<Meas>
-    requires here { IsReachable here }
-    requires there { IsReachable there }
-    ensures value { result ≡ measured here there }
+pub(crate) fn measured(range: u64, there: Place) -> Option<Meas>
+    requires { IsReachable there }
+    ensures value { result ≡ measured_by range there }
     ensures range { IfSome result (λ m. m.range ≤ 182280) }
     ensures altitude { IsInBox there → IfSome result (λ m. LiesBetween (neg_ℤ (pos 2000)) (pos 62000) m.alt) }
 {
-    let range = slant_range(here, there);
     if range > LONGEST {
         return None;
     }
@@ -84,6 +81,9 @@ pub(crate) fn measured(here: Place, there: Place) -> Option<Meas>
 }
 
 /// The slant range between two places in ft, rounded down. It has no upper limit (this project's profile).
+///
+/// It is inlined where the ranges of a cycle are measured: a call would copy both places.
+#[inline(always)]
 pub fn slant_range(here: Place, there: Place) -> u64
     requires here { IsReachable here }
     requires there { IsReachable there }

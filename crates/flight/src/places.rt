@@ -1,17 +1,19 @@
 // Where all aircraft are in one cycle.
-ghost use Rattle.std.specs.Prelude.{◌≡◌, ◌<◌, ◌≤◌, pos, neg_ℤ, IfSome, length};
+ghost use Rattle.std.specs.Prelude.{◌≡◌, ℕ, ◌<◌, ◌≤◌, pos, neg_ℤ, IfSome, length};
 ghost use Rattle.acas_base.specs.Ranges.{IsCycle};
 ghost use Rattle.acas_base.specs.declared.TheConstants.{CRAFTS};
 ghost use Rattle.acas_num.specs.Clamp.{LiesBetween};
+ghost use Rattle.flight.specs.Approach.{range_between};
 ghost use Rattle.flight.specs.Bounds.{IsReachable};
-ghost use Rattle.flight.specs.Flight.{nowhere, position};
+ghost use Rattle.flight.specs.Flight.{ArePlaces, nowhere, position};
 ghost use Rattle.flight.specs.Inside.{IsInBox, IsInside};
 ghost use Rattle.flight.specs.Measurement.{is_missed, measurement, own_altitude};
 
 use crate::measuring::{feet, measured};
 use crate::misses::{is_missed, owns_missing};
-use crate::{Meas, Place, position};
-use acas_base::{CRAFTS, Encounter};
+use crate::ranges::{put_ranges, ranges_of};
+use crate::{Meas, Place, position, slant_range};
+use acas_base::{CRAFTS, Encounter, PAIRS, pair_of};
 use std::array::from_fn;
 use std::marker::Model;
 
@@ -23,10 +25,14 @@ pub struct Places<'a> {
     list: [Place; CRAFTS],
     // Which own aircraft miss some target in that cycle. Most miss none.
     missing: [bool; CRAFTS],
+    // The slant ranges, where `move_to` measured them.
+    ranges: Option<[u32; PAIRS]>,
 }
 
 impl<'a> Model for Places<'a> {
+    ghost use Rattle.std.specs.Prelude.{IfSome};
     ghost use Rattle.acas_base.specs.Ranges.{IsCycle};
+    ghost use Rattle.flight.specs.Approach.{AreRanges};
     ghost use Rattle.flight.specs.Flight.{ArePlaces, Moment};
     ghost use Rattle.flight.specs.Measurement.{AreMissing};
 
@@ -34,7 +40,7 @@ impl<'a> Model for Places<'a> {
 
     ghost view = { λ p. record { encounter = p.encounter.now; cycle = p.cycle } };
 
-    ghost invariant = { λ p. IsCycle p.cycle × ArePlaces p.encounter.now p.cycle p.list × AreMissing p.encounter.now p.cycle p.missing };
+    ghost invariant = { λ p. IsCycle p.cycle × ArePlaces p.encounter.now p.cycle p.list × AreMissing p.encounter.now p.cycle p.missing × IfSome p.ranges (AreRanges p.encounter.now p.cycle) };
 }
 
 impl<'a> Places<'a> {
@@ -48,6 +54,25 @@ impl<'a> Places<'a> {
             cycle,
             list: from_fn(|craft| { place_at(encounter, craft, cycle) }),
             missing: owns_missing(encounter, cycle),
+            ranges: None,
+        }
+    }
+
+    /// Goes to another cycle, and measures the range of each two aircraft there, once for both. It serves a caller in
+    /// which all aircraft look in that cycle. Where one aircraft looks alone, [`Places::new`] leads to less work.
+    pub fn move_to(&mut self, cycle: u16)
+        requires { IsCycle cycle }
+        ensures { self.new ≡ record { encounter = self.old.encounter; cycle = cycle } }
+    {
+        // For the proof: no encounter has more than 16 aircraft.
+        self.encounter.valid_law();
+        let count = self.encounter.crafts().len() as u8;
+        put_places(&mut self.list, self.encounter, cycle);
+        self.cycle = cycle;
+        self.missing = owns_missing(self.encounter, cycle);
+        match &mut self.ranges {
+            Some(ranges) => put_ranges(ranges, &self.list, count),
+            None => self.ranges = Some(ranges_of(&self.list, count)),
         }
     }
 
@@ -75,6 +100,21 @@ impl<'a> Places<'a> {
         // For the proof: no encounter has more than 16 aircraft.
         self.encounter.valid_law();
         self.list[usize::from(craft)]
+    }
+
+    // The slant range of two aircraft in that cycle. It is inlined where an aircraft looks at all others.
+    #[inline(always)]
+    fn range_between(&self, own: u8, target: u8) -> u64
+        requires own { own < length self.now.encounter.crafts }
+        requires target { target < length self.now.encounter.crafts }
+        ensures { result ≡ range_between self.now.encounter own target self.now.cycle }
+    {
+        // For the proof: no encounter has more than 16 aircraft.
+        self.encounter.valid_law();
+        match &self.ranges {
+            Some(ranges) => u64::from(ranges[pair_of(own, target)]),
+            None => slant_range(self.place_of(own), self.place_of(target)),
+        }
     }
 
     // Whether a record says that an own aircraft misses a target in that cycle.
@@ -110,7 +150,19 @@ impl<'a> Places<'a> {
         if self.is_missed(own, target) {
             return None;
         }
-        measured(self.place_of(own), self.place_of(target))
+        measured(self.range_between(own, target), self.place_of(target))
+    }
+}
+
+// Puts the places of all aircraft in a cycle where those in another cycle stood.
+fn put_places(places: &mut [Place; CRAFTS], encounter: &Encounter, cycle: u16)
+    requires { IsCycle cycle }
+    ensures { (before : ℕ) → ArePlaces encounter.now before places.old → ArePlaces encounter.now cycle places.new }
+{
+    // No encounter has more than 16 aircraft.
+    encounter.valid_law();
+    for craft in 0..encounter.crafts().len() {
+        places[craft] = position(encounter, craft as u8, cycle);
     }
 }
 

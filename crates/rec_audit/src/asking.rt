@@ -21,7 +21,7 @@ fn move_to(places: &mut Places<'_>, cycle: u16)
     ensures { places.new ≡ record { encounter = places.old.encounter; cycle = cycle } }
 {
     if places.cycle() != cycle {
-        *places = Places::new(places.encounter(), cycle);
+        places.move_to(cycle);
     }
 }
 

@@ -16,6 +16,7 @@ use crate::steps::{slowest, step};
 use acas_base::Encounter;
 use air_journal::AirState;
 use craft_view::Surveillance;
+use flight::Places;
 
 // Goes on until all have equally many commits, nobody owes and nothing is due.
 fn catch_up(state: &mut AirState, enc: &Encounter, surveillance: &mut Surveillance)
@@ -46,8 +47,9 @@ fn finish(state: &mut AirState, enc: &Encounter, surveillance: &mut Surveillance
     let Some(own) = slowest(state, enc) else {
         return;
     };
+    let mut places = Places::new(enc, 1);
     for done in state.commits(own)..enc.cycles() {
-        round(state, enc, surveillance, done);
+        round(state, enc, surveillance, &mut places, done);
     }
 }
 

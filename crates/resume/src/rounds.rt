@@ -79,8 +79,15 @@ fn takes_of(state: &mut AirState, enc: &Encounter, own: u8, rounds: u16)
     }
 }
 
-fn all_commits(state: &mut AirState, enc: &Encounter, surveillance: &mut Surveillance, done: u16)
+fn all_commits(
+    state: &mut AirState,
+    enc: &Encounter,
+    surveillance: &mut Surveillance,
+    places: &mut Places<'_>,
+    done: u16,
+)
     requires same { state.old.encounter ≡ enc.now }
+    requires places { places.old.encounter ≡ enc.now }
     requires left { done < enc.now.cycles }
     requires ready { AreReady enc.now (commits state.old.journal) surveillance.old.crafts }
     requires before { BeforeCommit (air_of enc.now) state.old.journal 0 done }
@@ -88,11 +95,12 @@ fn all_commits(state: &mut AirState, enc: &Encounter, surveillance: &mut Surveil
     ensures fills { Fills (air_of enc.now) state.old.journal state.new.journal }
     ensures ready { AreReady enc.now (commits state.new.journal) surveillance.new.crafts }
     ensures after { BeforeCommit (air_of enc.now) state.new.journal (length enc.now.crafts) done }
+    ensures places { places.new.encounter ≡ enc.now }
 {
     enc.valid_law();
-    let places = Places::new(enc, done + 1);
+    places.move_to(done + 1);
     for own in 0..enc.crafts().len() as u8 {
-        commit_of(state, enc, surveillance, own, done, &places);
+        commit_of(state, enc, surveillance, own, done, places);
     }
 }
 
@@ -120,14 +128,16 @@ fn all_takes(state: &mut AirState, enc: &Encounter, rounds: u16)
     }
 }
 
-/// One round: all commit, then all send, then all take.
+/// One round: all commit, then all send, then all take. All look from the places of its cycle.
 pub(crate) fn round(
     state: &mut AirState,
     enc: &Encounter,
     surveillance: &mut Surveillance,
+    places: &mut Places<'_>,
     done: u16,
 )
     requires same { state.old.encounter ≡ enc.now }
+    requires places { places.old.encounter ≡ enc.now }
     requires left { done < enc.now.cycles }
     requires ready { AreReady enc.now (commits state.old.journal) surveillance.old.crafts }
     requires before { BeforeCommit (air_of enc.now) state.old.journal 0 done }
@@ -135,9 +145,10 @@ pub(crate) fn round(
     ensures fills { Fills (air_of enc.now) state.old.journal state.new.journal }
     ensures ready { AreReady enc.now (commits state.new.journal) surveillance.new.crafts }
     ensures after { BeforeCommit (air_of enc.now) state.new.journal 0 (done + 1) }
+    ensures places { places.new.encounter ≡ enc.now }
 {
     enc.valid_law();
-    all_commits(state, enc, surveillance, done);
+    all_commits(state, enc, surveillance, places, done);
     all_sends(state, enc, done + 1);
     all_takes(state, enc, done + 1);
 }

@@ -5,6 +5,7 @@ use Rattle.air_journal.specs.Airs.{air_of}
 use Rattle.resume.proofs.Turns.{fills-on, from-idle, over}
 use Rattle.resume.specs.Filling.{unfilled}
 use Rattle.resume.specs.Phases.{BeforeCommit}
+use Rattle.flight.specs.Flight.{Moment}
 use Rattle.air_rules.proofs.Waiting.{commits-within}
 use Rattle.air_rules.specs.Journal.{commits}
 use Rattle.resume.proofs.Filled.{level-at-rest, none-next}
@@ -17,6 +18,7 @@ loop-done-init c =
     record {
       same = c.requires.same;
       ready = c.requires.ready;
+      places = ap (λ (m : Moment). m.encounter) c.new-places.ensures;
       fills = unfilled;
       before = subst (λ (n : ℕ). BeforeCommit (air_of e) c.args.state.now.journal 0 n) (sym c.commits-done.ensures)
           (from-idle (air_of e) c.args.state.now.journal (commits c.args.state.now.journal c.in-Some.own) (level-at-rest (air_of e) c.args.state.now.journal c.in-Some.own sound c.requires.rest c.in-Some.ensures) c.requires.rest.idle);
@@ -26,6 +28,7 @@ pub loop-done-preserved : goal.loop-done-preserved
 loop-done-preserved c = record {
   same = c.round.ensures.encounter;
   ready = c.round.ensures.ready;
+  places = c.round.ensures.places;
   fills = fills-on (air_of c.args.enc.now) c.args.state.now.journal c.loop-done.state.journal c.round.new.state.journal c.loop-done.invariant.fills c.round.ensures.fills;
   before = c.round.ensures.after;
 }

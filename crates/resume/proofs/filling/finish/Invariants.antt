@@ -11,5 +11,6 @@ invariant-loop-done l = record {
   same : l.state.encounter ≡ l.enc;
   ready : AreReady l.enc (commits l.state.journal) l.surveillance.crafts;
   fills : Fills (air_of l.enc) l.fn.state.journal l.state.journal;
+  places : l.places.encounter ≡ l.enc;
   before : BeforeCommit (air_of l.enc) l.state.journal 0 l.done;
 }

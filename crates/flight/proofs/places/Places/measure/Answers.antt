@@ -12,6 +12,6 @@ pub returns-clause-value : goal.returns-clause-value
 returns-clause-value c =
     let a = c.args in
     c.measured.ensures.value
-    ∙ rw (c.place_of.ensures.value, c.place_of-2.ensures.value)
+    ∙ rw (c.range_between.ensures, c.place_of.ensures.value)
     (measurement-made a.self.now.encounter a.own a.target a.self.now.cycle
     (sym c.is_missed.ensures ∙ c.if-is_missed.false))

@@ -9,4 +9,5 @@ invariant_of-result c = (
     reachable = λ craft within. search rules;
   },
   c.owns_missing.ensures,
+  search rules,
 )
