@@ -1,12 +1,12 @@
 -- What the first record of a refused text says, and the one before a record after the end.
 use Rattle.std.proofs.Common.{◌≡◌, ◌∙◌, ◌≤◌, ℕ, zero, suc, ◌+◌, ◌-◌, Bool, true, false, ℤ, List, [], ◌∷◌, length, Option, Some, None, refl, sym, ap, subst, arith, eqb-true}
-use Rattle.std.specs.Prelude.{◌==◌, ◌&&◌, if◌then◌else◌, codes, slice_get, take, Result, Ok, Err}
+use Rattle.std.specs.Prelude.{◌==◌, if◌then◌else◌, codes, slice_get, take, Result, Ok, Err}
 use Rattle.std.specs.Str.{bytes_eq}
 use Rattle.std.proofs.lemmas.Bool.{false≢true}
 use Rattle.std.proofs.lemmas.Slice.Eq.{bytes_eq-Decides}
-use Rattle.enc_file.specs.Conditions.{ArePassed, HasNoFault, IsRefused, has_fault, is_first, said_by}
+use Rattle.enc_file.specs.Conditions.{ArePassed, HasNoFault, IsRefused, has_fault, is_first}
 use Rattle.enc_file.specs.Earlier.{has_ended, version_of}
-use Rattle.enc_file.specs.Saying.{climb_of, craft_of, end_of, fate_of, gains_of, header_of, leg_of, miss_of, needs, plan_of, record_of, run_of, version_in}
+use Rattle.enc_file.specs.Saying.{climb_of, craft_of, end_of, fate_of, gains_of, leg_of, miss_of, needs, plan_of, record_of, run_of, version_in}
 use Rattle.enc_file.specs.Values.{field}
 use Rattle.acas_base.specs.declared.craft.CraftSpec.{CraftSpec}
 use Rattle.enc_file.specs.declared.record.Addresses.{Addresses}

@@ -64,6 +64,22 @@ still-none earlier now made is going unended = rw (none-made earlier made is goi
 pub groups-length : {X : Type 0} (group : X → ℕ) (xs : List X) (lists : List (List X)) (n : ℕ) → lists ≡ grouped group n xs → length lists ≡ n
 groups-length group xs lists n is = ap length is ∙ length-map-range_with_len (in_group group xs) 0 n
 
+-- The tables hold the same, whichever pair was found last.
+pub still-holds : (earlier : List Record) (old new : Tables) → new ≡ record old { last = new.last } → Holds earlier old → Holds earlier new
+still-holds earlier old new kept h = subst (Holds earlier) (sym kept) (record {
+  read = h.read;
+  count = h.count;
+  version = h.version;
+  run = h.run;
+  gains = h.gains;
+  crafts = h.crafts;
+  legs = h.legs;
+  misses = h.misses;
+  plans = h.plans;
+  fates = h.fates;
+  made = h.made;
+})
+
 -- What is wrong with a record, told by the last one of the group that is kept.
 kept-fault : {X : Type 0} (group : X → ℕ) (below : X → X → Bool) (masked : X → Bool) (xs : List X) (lists : List (List X)) (n : ℕ) (x : X) → lists ≡ grouped group n xs → group x < n
     → comes_late group below xs x ≡ is_late below (last_of (in_group group xs (group x))) x

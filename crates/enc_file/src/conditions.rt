@@ -1,5 +1,6 @@
 // What may be wrong with a record after those before it, and what it gives.
-ghost use Rattle.std.specs.Prelude.{◌≡◌};
+ghost use Rattle.std.specs.Prelude.{◌≡◌, ◌<◌, ◌↔◌, IsTrue, length};
+ghost use Rattle.acas_base.specs.Encounter.{address_in};
 ghost use Rattle.enc_file.specs.Earlier.{fate_by, index_of, leg_by, miss_by, plan_by};
 ghost use Rattle.enc_file.specs.Faults.{are_masks_bad, has_ceiling, is_mask_bad};
 ghost use Rattle.enc_file.specs.Reading.{missing_after};
@@ -27,6 +28,16 @@ pub fn index_of(crafts: &[CraftSpec], address: Address) -> Option<usize>
     ensures { result ≡ index_of crafts.now address }
 {
     crafts.iter().position(|craft| craft.address == address)
+}
+
+// Whether the aircraft at an index, where there is one, has an address.
+pub(crate) fn has_address(crafts: &[CraftSpec], craft: usize, address: Address) -> bool
+    ensures { IsTrue result ↔ (craft < length crafts.now) × (address_in crafts.now craft ≡ address) }
+{
+    match crafts.get(craft) {
+        Some(craft) => craft.address == address,
+        None => false,
+    }
 }
 
 pub(crate) fn has_ceiling(crafts: &[CraftSpec], craft: usize) -> bool

@@ -10,7 +10,9 @@ ghost use Rattle.enc_file.specs.Tables.{Adds, AreGoing, Holds, IsHeld, IsSoFar, 
 ghost use Rattle.enc_file.specs.WellRead.{IsOfFormat, IsSaid};
 ghost use Rattle.enc_file.specs.declared.record.Record.{Record};
 
-use crate::conditions::{fate_by, has_ceiling, index_of, leg_by, miss_by, missing_after, plan_by};
+use crate::conditions::{
+    fate_by, has_address, has_ceiling, index_of, leg_by, miss_by, missing_after, plan_by,
+};
 use crate::groups::Groups;
 use crate::record::{Addresses, Copies, Course, Record, Run, TrackGains};
 use crate::refusal::{Code, ReadError, Refusal};
@@ -42,6 +44,8 @@ pub struct Tables {
     misses: Groups<Miss>,
     plans: Groups<LinkPlan>,
     fates: Groups<Fate>,
+    // The aircraft of the pair that was found last, by their indices. Mostly the next record is of the same pair.
+    last: (usize, usize),
     made: Option<Encounter>,
 }
 
@@ -60,6 +64,7 @@ impl Tables {
             misses: Groups::new(alloc, CRAFTS * CRAFTS)?,
             plans: Groups::new(alloc, CRAFTS * CRAFTS)?,
             fates: Groups::new(alloc, CRAFTS * CRAFTS)?,
+            last: (0, 0),
             made: None,
         })
     }
@@ -114,15 +119,30 @@ impl Tables {
         index_of(&self.crafts, address)
     }
 
-    // The two different aircraft with these addresses, by their indices.
-    fn pair_of(&self, pair: Addresses) -> Option<(usize, usize)>
-        ensures { result ≡ for_pair self.now.crafts.items pair (λ first second. (first, second)) }
+    // The same. The aircraft at an index is tried first.
+    fn index_near(&self, guess: usize, address: Address) -> Option<usize>
+        requires { IsHeld self.now }
+        ensures { result ≡ index_of self.now.crafts.items address }
+    {
+        if has_address(&self.crafts, guess, address) {
+            return Some(guess);
+        }
+        self.index_of(address)
+    }
+
+    // The two different aircraft with these addresses, by their indices. They are kept as the last pair.
+    fn pair_of(&mut self, pair: Addresses) -> Option<(usize, usize)>
+        requires { IsHeld self.old }
+        ensures found { result ≡ for_pair self.old.crafts.items pair (λ first second. (first, second)) }
+        ensures kept { self.new ≡ record self.old { last = self.new.last } }
+        ensures count { self.new.count ≡ self.old.count }
     {
         if pair.first == pair.second {
             return None;
         }
-        let first = self.index_of(pair.first)?;
-        let second = self.index_of(pair.second)?;
+        let first = self.index_near(self.last.0, pair.first)?;
+        let second = self.index_near(self.last.1, pair.second)?;
+        self.last = (first, second);
         Some((first, second))
     }
 

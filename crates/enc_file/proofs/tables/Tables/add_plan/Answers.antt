@@ -9,44 +9,46 @@ use Rattle.enc_file.specs.declared.record.Record.TheVariants as said
 use Rattle.enc_file.specs.declared.refusal.Code.TheVariants as code
 use Rattle.enc_file.proofs.Named.{pair-of}
 use Rattle.enc_file.proofs.Refused.{plan-unknown, refuses, wanting}
-use Rattle.enc_file.proofs.Tabled.{groups-length, held-plan, listed, number-within, pair-in, plan-kept, settled}
+use Rattle.enc_file.proofs.Tabled.{groups-length, held-plan, listed, number-within, pair-in, plan-kept, settled, still-holds}
 use Rattle.enc_file.proofs.tables.Tables.add_plan.Goals as goal
 
 pub returns-in_default : goal.returns-in_default
 returns-in_default c = λ earlier going format h.
-    let at : pair-of (crafts_of earlier) c.args.pair ≡ None = ap (λ crafts. pair-of crafts c.args.pair) (sym h.crafts) ∙ sym c.pair_of.ensures ∙ c.in_default.is in
-    refuses earlier c.args.self.now (λ why. fault_of earlier (said.Plan c.args.pair c.args.copies) ≡ Some why) code.Unknown c.refused.result h (plan-unknown earlier c.args.pair c.args.copies at) c.refused.ensures
+    let at : pair-of (crafts_of earlier) c.args.pair ≡ None = ap (λ crafts. pair-of crafts c.args.pair) (sym h.crafts) ∙ sym c.pair_of.ensures.found ∙ c.in_default.is in
+    refuses earlier c.pair_of.new.self (λ why. fault_of earlier (said.Plan c.args.pair c.args.copies) ≡ Some why) code.Unknown c.refused.result (still-holds earlier c.args.self.now c.pair_of.new.self c.pair_of.ensures.kept h) (plan-unknown earlier c.args.pair c.args.copies at) c.refused.ensures
 
 pub overflow_cast-sender : goal.overflow_cast-sender
 overflow_cast-sender c =
     let h = c.requires.held.holds in
     let earlier = c.requires.held.earlier in
-    let at : pair-of (crafts_of earlier) c.args.pair ≡ Some (c.in-Some.sender, c.in-Some.receiver) = ap (λ crafts. pair-of crafts c.args.pair) (sym h.crafts) ∙ sym c.pair_of.ensures ∙ c.in-Some.is in
+    let at : pair-of (crafts_of earlier) c.args.pair ≡ Some (c.in-Some.sender, c.in-Some.receiver) = ap (λ crafts. pair-of crafts c.args.pair) (sym h.crafts) ∙ sym c.pair_of.ensures.found ∙ c.in-Some.is in
     omega (arith, (pair-in earlier c.args.pair (c.in-Some.sender, c.in-Some.receiver) h.read at).0)
 
 pub overflow_cast-receiver : goal.overflow_cast-receiver
 overflow_cast-receiver c =
     let h = c.requires.held.holds in
     let earlier = c.requires.held.earlier in
-    let at : pair-of (crafts_of earlier) c.args.pair ≡ Some (c.in-Some.sender, c.in-Some.receiver) = ap (λ crafts. pair-of crafts c.args.pair) (sym h.crafts) ∙ sym c.pair_of.ensures ∙ c.in-Some.is in
+    let at : pair-of (crafts_of earlier) c.args.pair ≡ Some (c.in-Some.sender, c.in-Some.receiver) = ap (λ crafts. pair-of crafts c.args.pair) (sym h.crafts) ∙ sym c.pair_of.ensures.found ∙ c.in-Some.is in
     omega (arith, (pair-in earlier c.args.pair (c.in-Some.sender, c.in-Some.receiver) h.read at).1)
 
 pub add_listed-requires : goal.add_listed-requires
 add_listed-requires c =
     let h = c.requires.held.holds in
     let earlier = c.requires.held.earlier in
-    let at : pair-of (crafts_of earlier) c.args.pair ≡ Some (c.in-Some.sender, c.in-Some.receiver) = ap (λ crafts. pair-of crafts c.args.pair) (sym h.crafts) ∙ sym c.pair_of.ensures ∙ c.in-Some.is in
-    rw (c.plan_by-plan.ensures) (omega (arith, number-within earlier c.args.pair (c.in-Some.sender, c.in-Some.receiver) h.read at, groups-length plan_group (plans_of earlier) c.args.self.now.plans (CRAFTS * CRAFTS) h.plans))
+    let at : pair-of (crafts_of earlier) c.args.pair ≡ Some (c.in-Some.sender, c.in-Some.receiver) = ap (λ crafts. pair-of crafts c.args.pair) (sym h.crafts) ∙ sym c.pair_of.ensures.found ∙ c.in-Some.is in
+    rw (c.plan_by-plan.ensures) (omega (arith, number-within earlier c.args.pair (c.in-Some.sender, c.in-Some.receiver) h.read at, groups-length plan_group (plans_of earlier) c.pair_of.new.self.plans (CRAFTS * CRAFTS) (still-holds earlier c.args.self.now c.pair_of.new.self c.pair_of.ensures.kept h).plans))
 
 pub returns-in_err-fault : goal.returns-in_err-fault
 returns-in_err-fault c = λ earlier going format h. wanting _ _ _ c.from_residual.result c.from_residual.ensures.1
 
 pub returns : goal.returns
 returns c = λ earlier going format h.
-    let at : pair-of (crafts_of earlier) c.args.pair ≡ Some (c.in-Some.sender, c.in-Some.receiver) = ap (λ crafts. pair-of crafts c.args.pair) (sym h.crafts) ∙ sym c.pair_of.ensures ∙ c.in-Some.is in
-    let lists : Lists plan_group plan_below plan_masked c.args.self.now.plans (plan_by c.args.copies c.in-Some.sender c.in-Some.receiver) c.add_listed.new.self c.in_ok-fault.fault =
-    subst (λ (x : LinkPlan). Lists plan_group plan_below plan_masked c.args.self.now.plans x c.add_listed.new.self c.in_ok-fault.fault) c.plan_by-plan.ensures c.in_ok-fault.ensures in
-    let fault = lists.0 ∙ plan-kept earlier c.args.self.now c.args.pair c.args.copies (c.in-Some.sender, c.in-Some.receiver) h at in
-    settled earlier (said.Plan c.args.pair c.args.copies) c.args.self.now (record c.args.self.now { plans = c.add_listed.new.self }) c.settle.new.self c.in_ok-fault.fault c.settle.result h refl fault
-    (λ none. held-plan earlier c.args.self.now c.args.pair c.args.copies (c.in-Some.sender, c.in-Some.receiver) c.add_listed.new.self h going (c.requires.said, format, sym fault ∙ none) at
-    (listed plan_group plan_below plan_masked c.args.self.now.plans c.add_listed.new.self (plan_by c.args.copies c.in-Some.sender c.in-Some.receiver) c.in_ok-fault.fault lists none)) c.settle.ensures
+    let at : pair-of (crafts_of earlier) c.args.pair ≡ Some (c.in-Some.sender, c.in-Some.receiver) = ap (λ crafts. pair-of crafts c.args.pair) (sym h.crafts) ∙ sym c.pair_of.ensures.found ∙ c.in-Some.is in
+    let tables = c.pair_of.new.self in
+    let held = still-holds earlier c.args.self.now tables c.pair_of.ensures.kept h in
+    let lists : Lists plan_group plan_below plan_masked tables.plans (plan_by c.args.copies c.in-Some.sender c.in-Some.receiver) c.add_listed.new.self c.in_ok-fault.fault =
+    subst (λ (x : LinkPlan). Lists plan_group plan_below plan_masked tables.plans x c.add_listed.new.self c.in_ok-fault.fault) c.plan_by-plan.ensures c.in_ok-fault.ensures in
+    let fault = lists.0 ∙ plan-kept earlier tables c.args.pair c.args.copies (c.in-Some.sender, c.in-Some.receiver) held at in
+    settled earlier (said.Plan c.args.pair c.args.copies) tables (record tables { plans = c.add_listed.new.self }) c.settle.new.self c.in_ok-fault.fault c.settle.result held refl fault
+    (λ none. held-plan earlier tables c.args.pair c.args.copies (c.in-Some.sender, c.in-Some.receiver) c.add_listed.new.self held going (c.requires.said, format, sym fault ∙ none) at
+    (listed plan_group plan_below plan_masked tables.plans c.add_listed.new.self (plan_by c.args.copies c.in-Some.sender c.in-Some.receiver) c.in_ok-fault.fault lists none)) c.settle.ensures
