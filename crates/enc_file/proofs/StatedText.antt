@@ -34,8 +34,8 @@ kind-result (Some kind) fields = read-by kind fields
 abbrev by-name : Bool → List ℕ → List (List ℕ) → Result Record Code
 by-name second name fields =
     if bytes_eq name (codes "fate") then read-by FateKind fields else
-    if bytes_eq name (codes "leg") then read-by LegKind fields else
     if bytes_eq name (codes "miss") then read-by MissKind fields else
+    if bytes_eq name (codes "leg") then read-by LegKind fields else
     if bytes_eq name (codes "craft") then read-by CraftKind fields else
     if bytes_eq name (codes "run") then read-by RunKind fields else
     if bytes_eq name (codes "gains") then read-by GainsKind fields else
@@ -60,9 +60,9 @@ later-name true name fields = at (bytes_eq name (codes "climb")) (bytes_eq name 
 name-told : (second : Bool) (name : List ℕ) (fields : List (List ℕ)) → by-name second name fields ≡ kind-result (kind_by second name) fields
 name-told second name fields = elim (named-or name (codes "fate")) [
   | inl e ↦ rw e refl
-  | inr a ↦ elim (named-or name (codes "leg")) [
+  | inr a ↦ elim (named-or name (codes "miss")) [
     | inl e ↦ rw e refl
-    | inr b ↦ elim (named-or name (codes "miss")) [
+    | inr b ↦ elim (named-or name (codes "leg")) [
       | inl e ↦ rw e refl
       | inr c ↦ elim (named-or name (codes "craft")) [
         | inl e ↦ rw e refl

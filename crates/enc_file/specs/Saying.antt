@@ -117,8 +117,8 @@ of_format_2 version fields =
 unfoldable pub record_of : ℕ → List (List ℕ) → Result Record Code
 record_of version fields =
     if bytes_eq (field fields 0) (codes "fate") then fate_of fields else
-    if bytes_eq (field fields 0) (codes "leg") then leg_of fields else
     if bytes_eq (field fields 0) (codes "miss") then miss_of fields else
+    if bytes_eq (field fields 0) (codes "leg") then leg_of fields else
     if bytes_eq (field fields 0) (codes "craft") then craft_of fields else
     if bytes_eq (field fields 0) (codes "run") then run_of fields else
     if bytes_eq (field fields 0) (codes "gains") then gains_of fields else

@@ -286,11 +286,11 @@ pub fn record_of(version: u8, row: &ByteRecord) -> Result<Record, Code>
     if kind == b"fate".as_slice() {
         return fate_of(row);
     }
-    if kind == b"leg".as_slice() {
-        return leg_of(row);
-    }
     if kind == b"miss".as_slice() {
         return miss_of(row);
+    }
+    if kind == b"leg".as_slice() {
+        return leg_of(row);
     }
     if kind == b"craft".as_slice() {
         return craft_of(row);

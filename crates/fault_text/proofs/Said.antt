@@ -137,7 +137,7 @@ none-as row why = tt
 record-as : (version : ℕ) (row : List (List ℕ)) → As (field row 0) row (record_of version row)
 unfolding record_of
 record-as version row =
-    named _ row (codes "fate") _ _ refl (fate-as row) (named _ row (codes "leg") _ _ refl (leg-as row) (named _ row (codes "miss") _ _ refl (miss-as row)
+    named _ row (codes "fate") _ _ refl (fate-as row) (named _ row (codes "miss") _ _ refl (miss-as row) (named _ row (codes "leg") _ _ refl (leg-as row)
     (named _ row (codes "craft") _ _ refl (craft-as row) (named _ row (codes "run") _ _ refl (run-as row) (named _ row (codes "gains") _ _ refl (gains-as row)
     (named _ row (codes "end") _ _ refl (end-as row) (named-later (version == 2) _ row (codes "climb") _ _ refl (climb-as row)
     (named-later (version == 2) _ row (codes "plan") _ _ refl (plan-as row) (none-as row code.Kind)))))))))

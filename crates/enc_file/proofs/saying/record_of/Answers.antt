@@ -4,10 +4,10 @@ pub returns-then-eq-clause-format : goal.returns-then-eq-clause-format
 returns-then-eq-clause-format c = c.fate_of.ensures.format c.args.version
 
 pub returns-then-eq-2-clause-format : goal.returns-then-eq-2-clause-format
-returns-then-eq-2-clause-format c = c.leg_of.ensures.format c.args.version
+returns-then-eq-2-clause-format c = c.miss_of.ensures.format c.args.version
 
 pub returns-then-eq-3-clause-format : goal.returns-then-eq-3-clause-format
-returns-then-eq-3-clause-format c = c.miss_of.ensures.format c.args.version
+returns-then-eq-3-clause-format c = c.leg_of.ensures.format c.args.version
 
 pub returns-then-eq-4-clause-format : goal.returns-then-eq-4-clause-format
 returns-then-eq-4-clause-format c = c.craft_of.ensures.format c.args.version
