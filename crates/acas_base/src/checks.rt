@@ -79,9 +79,11 @@ pub(crate) fn is_pair(count: usize, a: u8, b: u8) -> bool
 fn is_copy(place: u8, copies: u8, plan: CopyPlan) -> bool
     ensures { IsTrue result ↔ IsCopy place copies plan }
 {
-    plan.hold <= 60
-        && plan.mask.count_ones() <= 3
-        && (place < copies || plan == CopyPlan { hold: 0, mask: 0 })
+    if place < copies {
+        plan.hold <= 60 && plan.mask.count_ones() <= 3
+    } else {
+        plan == CopyPlan { hold: 0, mask: 0 }
+    }
 }
 
 pub(crate) fn are_copies(copies: u8, first: CopyPlan, second: CopyPlan, third: CopyPlan) -> bool

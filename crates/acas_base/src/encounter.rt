@@ -1,5 +1,5 @@
 // Encounters.
-ghost use Rattle.std.specs.Prelude.{◌≡◌, ◌↔◌, IsSome, IfSome, IfOk};
+ghost use Rattle.std.specs.Prelude.{◌≡◌, ◌↔◌, IsSome, IsTrue, IfSome, IfOk};
 ghost use Rattle.acas_base.specs.Encounter.{IsEncounter, encounter_of};
 ghost use Rattle.acas_base.specs.Fates.{fate_of};
 
@@ -38,6 +38,29 @@ impl Model for Encounter {
     ghost invariant = { λ e. IsEncounter (parts_of e) };
 }
 
+// Whether these are the parts of an encounter.
+fn are_parts(
+    version: u8,
+    cycles: u16,
+    elevation: i32,
+    range: Gains,
+    altitude: Gains,
+    crafts: &[CraftSpec],
+    legs: &[Leg],
+    misses: &[Miss],
+    plans: &[LinkPlan],
+    fates: &[Fate],
+) -> bool
+    ensures { IsTrue result ↔ IsEncounter (encounter_of version cycles elevation range altitude crafts.now legs.now misses.now plans.now fates.now) }
+{
+    is_run(version, cycles, elevation)
+        && are_gains(range)
+        && are_gains(altitude)
+        && are_crafts(version, crafts)
+        && suits_format(version, crafts, plans)
+        && are_all_records(crafts.len(), legs, misses, plans, fates)
+}
+
 impl Encounter {
     /// The encounter of these parts, where they are in their ranges and orders: `elevation` in ft, the gains of the
     /// range tracks and of the altitude tracks, and the lists in the order of the canonical text. None where
@@ -65,22 +88,9 @@ impl Encounter {
         ensures some { IsSome result ↔ IsEncounter (encounter_of version cycles elevation range altitude crafts.items legs.items misses.items plans.items fates.items) }
         ensures value { IfSome result (λ e. e ≡ encounter_of version cycles elevation range altitude crafts.items legs.items misses.items plans.items fates.items) }
     {
-        if !is_run(version, cycles, elevation) {
-            return None;
-        }
-        if !are_gains(range) {
-            return None;
-        }
-        if !are_gains(altitude) {
-            return None;
-        }
-        if !are_crafts(version, &crafts) {
-            return None;
-        }
-        if !suits_format(version, &crafts, &plans) {
-            return None;
-        }
-        if !are_all_records(crafts.len(), &legs, &misses, &plans, &fates) {
+        if !are_parts(
+            version, cycles, elevation, range, altitude, &crafts, &legs, &misses, &plans, &fates,
+        ) {
             return None;
         }
         Some(Encounter {
