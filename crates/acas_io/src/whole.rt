@@ -9,8 +9,12 @@ use std::alloc::Global;
 // How many bytes one read may give.
 const CHUNK: usize = 8192;
 
-/// Reads a source to its end, and gives all that was left, at most `limit` bytes. The memory that it takes grows with
-/// what was read, and not with the limit.
+// For how many bytes there is room before the first read. An ordinary encounter fits, and a longer input is copied less
+// often while it grows.
+const ROOM: usize = 16 * CHUNK;
+
+/// Reads a source to its end, and gives all that was left, at most `limit` bytes. The memory that it takes is 128 KiB at
+/// first. It grows with what was read, and not with the limit.
 ///
 /// - `ReadFault`: a read failed. It isn't tried again.
 /// - `TooLong`: the source gave more than `limit` bytes.
@@ -32,7 +36,7 @@ pub fn read_all<S: Source>(alloc: Global, source: &mut S, limit: usize) -> Resul
     ensures long_count { IsErrOf result InError.TooLong → S.faults source.new ≡ S.faults source.old }
     ensures memory_count { IsErrOf result InError.OutOfMemory → S.faults source.new ≡ S.faults source.old }
 {
-    let mut bytes = Vec::new(alloc);
+    let mut bytes = Vec::with_capacity(alloc, ROOM)?;
     let mut chunk = [0u8; CHUNK];
     loop {
         let count = match source.read(&mut chunk) {
