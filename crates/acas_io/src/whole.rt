@@ -9,12 +9,12 @@ use std::alloc::Global;
 // How many bytes one read may give.
 const CHUNK: usize = 8192;
 
-// For how many bytes there is room before the first read. An ordinary encounter fits, and a longer input is copied less
-// often while it grows.
-const ROOM: usize = 16 * CHUNK;
+// For how many bytes there is room before the first read. glibc maps a block of more than 128 KiB by itself, and moves
+// such a block without a copy when it grows. A page of it takes memory once something is written there.
+const ROOM: usize = 32 * CHUNK;
 
-/// Reads a source to its end, and gives all that was left, at most `limit` bytes. The memory that it takes is 128 KiB at
-/// first. It grows with what was read, and not with the limit.
+/// Reads a source to its end, and gives all that was left, at most `limit` bytes. At first it asks for 256 KiB. What it
+/// asks for later grows with what was read, and not with the limit.
 ///
 /// - `ReadFault`: a read failed. It isn't tried again.
 /// - `TooLong`: the source gave more than `limit` bytes.
