@@ -1,4 +1,5 @@
 pub mod Reached
+pub mod RowsLeft
 pub mod Written
 pub mod Parts
 pub mod LinesRead

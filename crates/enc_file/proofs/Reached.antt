@@ -59,19 +59,19 @@ step-once cfg st.InComment c = once-choice (c == line_feed) (st.StartRecord, act
 step-once cfg st.AfterCr c = once-choice (c == line_feed) (st.StartRecord, act.Skip) _ (once-open _ _ refl) (start-record-once cfg c)
 
 -- How many records more than bytes a text may have from a state: one where its end ends a record.
-abbrev spare : State → ℕ
+abbrev pub spare : State → ℕ
 spare s = cond (ends_at_end s) 1 0
 
-spare-le : (s : State) → spare s ≤ 1
+pub spare-le : (s : State) → spare s ≤ 1
 spare-le s = at (ends_at_end s) where
   at : (b : Bool) → cond b 1 0 ≤ 1
   at true = omega arith
   at false = omega arith
 
 -- A record takes a byte, or the end of the text, and the end comes once.
-record Takes (s : State) (xs : List ℕ) (q : Read) : Type 0 where
-  once : ends_at_end q.1 ≡ false
-  shorter : length q.2 + 1 ≤ length xs + spare s
+pub record Takes (s : State) (xs : List ℕ) (q : Read) : Type 0 where
+  pub once : ends_at_end q.1 ≡ false
+  pub shorter : length q.2 + 1 ≤ length xs + spare s
 
 takes-end : (s : State) (v q : Read) (b : Bool) → ends_at_end s ≡ b → ends_at_end v.1 ≡ false → v.2 ≡ [] → cond b (Some v) None ≡ Some q → Takes s [] q
 takes-end s v q true e once rest h =
@@ -88,7 +88,7 @@ takes-one false s t c rest v q o once at more h =
     let w : Takes t rest q = more h in
     record { once = w.once; shorter = omega (arith, w.shorter, spare-le t) }
 
-next-takes : (cfg : Config) (s : State) (f : List (List ℕ)) (p xs : List ℕ) (q : Read) → next_record cfg s f p xs ≡ Some q → Takes s xs q
+pub next-takes : (cfg : Config) (s : State) (f : List (List ℕ)) (p xs : List ℕ) (q : Read) → next_record cfg s f p xs ≡ Some q → Takes s xs q
 unfolding next_record
 next-takes cfg s f p [] q e = takes-end s (f ++ (p ∷ []), st.StartRecord, []) q (ends_at_end s) refl refl refl e
 next-takes cfg s f p (c ∷ rest) q e =
@@ -112,15 +112,6 @@ reached-from cfg s s2 xs ys [] k h = rw (zero-add k, h.0, h.1) refl
 reached-from cfg s s2 xs ys (r ∷ rs) k h =
     let more : suc (length rs) + k ≡ suc (length rs + k) = omega arith in
     rw (more, h.1, h.2) (ap (λ t. h.0.0 ∷ t) (reached-from cfg h.0.1 s2 h.0.2 ys rs k h.3))
-
--- The records that were read are the first of all, and there are others only where one follows.
-pub reached-front : (cfg : Config) (s2 : State) (xs ys : List ℕ) (rows : List (List (List ℕ))) → Reached cfg st.StartRecord xs rows s2 ys
-    → (more : List (List (List ℕ))) × (records cfg xs ≡ rows ++ more)
-reached-front cfg s2 xs ys rows h =
-    let k = length xs + 1 - length rows in
-    let short = reached-short cfg st.StartRecord s2 xs ys rows h in
-    let all : length xs + 1 ≡ length rows + k = omega (arith, short) in
-    (records_from cfg k s2 ys, ap (λ n. records_from cfg n st.StartRecord xs) all ∙ reached-from cfg st.StartRecord s2 xs ys rows k h)
 
 pub reached-all : (cfg : Config) (s2 : State) (xs ys : List ℕ) (rows : List (List (List ℕ))) → Reached cfg st.StartRecord xs rows s2 ys
     → next_record cfg s2 [] [] ys ≡ None → records cfg xs ≡ rows

@@ -1,17 +1,12 @@
 -- A whole text, record by record.
-use Rattle.std.proofs.Common.{◌≡◌, ◌∙◌, ℕ, ◌≤◌, Bool, true, false, List, [], ◌∷◌, ◌++◌, length, Result, Ok, Err, refl, sym, ap, append_assoc, arith, subst}
+use Rattle.std.proofs.Common.{◌≡◌, ◌∙◌, ℕ, Bool, true, false, List, [], ◌∷◌, length, Result, Ok, Err, refl, sym, ap, subst}
 use Rattle.std.specs.Prelude.{if◌then◌else◌, IfOk, IsTrue, not}
 use Rattle.std.specs.Result.{IsErrAnd}
 use Rattle.std.proofs.lemmas.Bool.{false≢true}
-use Rattle.std.proofs.lemmas.List.{append-nil}
-use Rattle.csv.specs.Reading.{Reached, is_bom, strip_bom}
-use Rattle.csv.specs.declared.parser.State.{State}
-use Rattle.csv.specs.declared.parser.State.TheVariants as st
 use Rattle.acas_base.specs.Encounter.{Parts}
 use Rattle.flight.specs.Inside.{IsInside, stays_inside}
 use Rattle.enc_file.specs.Earlier.{encounter_by, has_ended}
-use Rattle.enc_file.specs.Reading.{Explains, IsReading, goes_on, missing_after, next_record, read_from, reading_of, refusal_after}
-use Rattle.enc_file.specs.Records.{records_of, unquoted}
+use Rattle.enc_file.specs.Reading.{Explains, IsReading, goes_on, missing_after, next_record, read_from, refusal_after}
 use Rattle.enc_file.specs.Tables.{Refuses}
 use Rattle.enc_file.specs.WellRead.{AreRead}
 use Rattle.enc_file.specs.declared.record.Record.{Record}
@@ -22,22 +17,6 @@ use Rattle.enc_file.specs.declared.refusal.ReadError.TheVariants.{OutOfMemory, R
 use Rattle.enc_file.specs.declared.refusal.Refusal.{Refusal}
 use Rattle.flight.proofs.Boxed.{stays-inside}
 use Rattle.enc_file.proofs.Faultless.{faultless}
-use Rattle.enc_file.proofs.Reached.{reached-front, reached-short}
-
-bare-choice : (b : Bool) (x y : List ℕ) (n : ℕ) → length x ≤ n → length y ≤ n → length (if b then x else y) ≤ n
-bare-choice true x y n h k = h
-bare-choice false x y n h k = k
-
-bare-short : (xs : List ℕ) → length (strip_bom xs) ≤ length xs
-unfolding strip_bom
-bare-short [] = omega arith
-bare-short (a ∷ []) = omega arith
-bare-short (a ∷ b ∷ []) = omega arith
-bare-short (a ∷ b ∷ c ∷ rest) = bare-choice (is_bom a b c) rest (a ∷ b ∷ c ∷ rest) (length (a ∷ b ∷ c ∷ rest)) (omega arith) (omega arith)
-
--- There are no more records than bytes.
-pub few-rows : (bytes rest : List ℕ) (state : State) (rows : List (List (List ℕ))) → Reached unquoted st.StartRecord (strip_bom bytes) rows state rest → length rows ≤ length bytes
-few-rows bytes rest state rows reached = omega (arith, reached-short unquoted st.StartRecord state (strip_bom bytes) rest rows reached, bare-short bytes)
 
 -- The next record goes on, or is refused.
 pub on-next : (earlier : List Record) (row : List (List ℕ)) (more : List (List (List ℕ))) (now : Record) → next_record earlier row ≡ Ok now → read_from earlier (row ∷ more) ≡ read_from (now ∷ earlier) more
@@ -48,23 +27,11 @@ on-fault : (earlier : List Record) (row : List (List ℕ)) (more : List (List (L
 unfolding read_from
 on-fault earlier row more why is = ap (λ r. goes_on (length earlier) r (λ now. read_from (now ∷ earlier) more)) is
 
--- The records so far say the same of the rest with one more.
-pub same-more : (earlier : List Record) (rows more : List (List (List ℕ))) (row : List (List ℕ)) (now : Record) → ((more : List (List (List ℕ))) → read_from [] (rows ++ more) ≡ read_from earlier more)
-    → next_record earlier row ≡ Ok now → read_from [] ((rows ++ row ∷ []) ++ more) ≡ read_from (now ∷ earlier) more
-same-more earlier rows more row now same is = ap (read_from []) (append_assoc rows (row ∷ []) more) ∙ same (row ∷ more) ∙ on-next earlier row more now is
-
 -- A record with a fault is where the text is refused.
-pub refused-at : (bytes rest : List ℕ) (state : State) (earlier : List Record) (rows : List (List (List ℕ))) (row : List (List ℕ)) (e : ReadError) → Reached unquoted st.StartRecord (strip_bom bytes) (rows ++ row ∷ []) state rest
-    → ((more : List (List (List ℕ))) → read_from [] (rows ++ more) ≡ read_from earlier more) → Refuses (length earlier) (λ why. next_record earlier row ≡ Err why) e → Explains (reading_of bytes) e
-refused-at bytes rest state earlier rows row (Refused refusal) reached same h =
-    let front = reached-front unquoted state (strip_bom bytes) rest (rows ++ row ∷ []) reached in
-    ap (read_from []) (front.1 ∙ append_assoc rows (row ∷ []) front.0) ∙ same (row ∷ front.0) ∙ on-fault earlier row front.0 h.0 h.1 ∙ ap Err (sym h.2)
-refused-at bytes rest state earlier rows row OutOfMemory reached same h = tt
-
--- The whole text was read.
-pub whole-read : (bytes : List ℕ) (earlier : List Record) (rows : List (List (List ℕ))) (r : Result Parts ReadError) → records_of bytes ≡ rows
-    → ((more : List (List (List ℕ))) → read_from [] (rows ++ more) ≡ read_from earlier more) → IsReading (read_from earlier []) r → IsReading (reading_of bytes) r
-whole-read bytes earlier rows r all same h = rw (ap (read_from []) (all ∙ sym (append-nil rows)) ∙ same []) h
+pub refused-at : (reading : Result Parts Refusal) (earlier : List Record) (row : List (List ℕ)) (more : List (List (List ℕ))) (e : ReadError) → reading ≡ read_from earlier (row ∷ more)
+    → Refuses (length earlier) (λ why. next_record earlier row ≡ Err why) e → Explains reading e
+refused-at reading earlier row more (Refused refusal) same h = same ∙ on-fault earlier row more h.0 h.1 ∙ ap Err (sym h.2)
+refused-at reading earlier row more OutOfMemory same h = tt
 
 true-by-not : (b : Bool) → not b ≡ false → IsTrue b
 true-by-not true h = refl

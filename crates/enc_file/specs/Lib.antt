@@ -1,4 +1,5 @@
 pub mod Records
+pub mod Rows
 pub mod Spelling
 pub mod Canonical
 pub mod Codes

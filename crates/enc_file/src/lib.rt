@@ -8,6 +8,7 @@ mod laws;
 mod reading;
 mod record;
 mod refusal;
+mod rows;
 mod saying;
 mod spelling;
 mod tables;
@@ -19,6 +20,7 @@ pub use laws::{canonical_records_law, canonical_text_law, passed_law, refusal_la
 pub use reading::read;
 pub use record::{Addresses, Copies, Course, Record, Run, TrackGains};
 pub use refusal::{Code, ReadError, Refusal};
+pub use rows::Rows;
 pub use saying::{record_of, version_in};
 pub use tables::Tables;
 pub use values::{address_in, count_in, field, kind_in, mask_in, number_in};

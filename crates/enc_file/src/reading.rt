@@ -4,9 +4,10 @@ ghost use Rattle.enc_file.specs.Reading.{IsReading, reading_of};
 ghost use Rattle.flight.specs.Inside.{IsInside};
 
 use crate::refusal::ReadError;
+use crate::rows::Rows;
 use crate::tables::Tables;
 use acas_base::Encounter;
-use csv::{ByteRecord, ReaderBuilder};
+use csv::ByteRecord;
 use std::alloc::Global;
 
 /// The encounter that a text says, in format 1 or 2.
@@ -21,18 +22,11 @@ pub fn read(alloc: Global, bytes: &[u8]) -> Result<Encounter, ReadError>
     ensures reading { IsReading (reading_of bytes.now) result }
     ensures inside { IfOk result IsInside }
 {
-    let mut reader = ReaderBuilder::new()
-        .has_headers(false)
-        .flexible(true)
-        .quoting(false)
-        .from_reader(alloc, bytes);
+    let mut rows = Rows::of(alloc, bytes);
     let mut tables = Tables::new(alloc)?;
     let mut row = ByteRecord::new(alloc);
-    loop {
-        match reader.read_byte_record(&mut row) {
-            Ok(true) => tables.take(alloc, &row)?,
-            Ok(false) => return tables.finish(),
-            Err(_) => return Err(ReadError::OutOfMemory),
-        }
+    while rows.read(&mut row)? {
+        tables.take(alloc, &row)?;
     }
+    tables.finish()
 }

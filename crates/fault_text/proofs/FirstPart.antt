@@ -1,6 +1,6 @@
 -- The first line of a text with its end, and what stands behind it.
 use Rattle.std.proofs.Common.{◌≡◌, ◌∙◌, ℕ, zero, suc, ◌-◌, ◌<◌, Bool, true, false, List, [], ◌∷◌, ◌++◌, length, take, drop, refl, sym, ap, ap₂, arith, append_assoc, eqb-true, inl, inr, subst}
-use Rattle.std.specs.Prelude.{◌≢◌, ◌==◌, ◌||◌, ◌&&◌, not, ◌⊎◌}
+use Rattle.std.specs.Prelude.{◌≢◌, ◌==◌, not}
 use Rattle.std.specs.List.{onto_first}
 use Rattle.std.proofs.lemmas.List.{append-nil, take-append-drop, take_rest}
 use Rattle.fault_text.specs.Lines.{BeginsWithEnd, EndsLine, IsFirstLine, ends_before, lines_after}

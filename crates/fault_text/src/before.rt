@@ -7,8 +7,8 @@ ghost use Rattle.enc_file.specs.Records.{records_of};
 ghost use Rattle.enc_file.specs.declared.refusal.Code.TheVariants as code;
 
 use acas_base::Encounter;
-use csv::{ByteRecord, ReaderBuilder};
-use enc_file::{ReadError, Refusal, Tables};
+use csv::ByteRecord;
+use enc_file::{ReadError, Refusal, Rows, Tables};
 use std::alloc::{AllocError, Global};
 
 /// The encounter that the records before a refused `end` say, where one of its aircraft leaves the box. The error says
@@ -23,23 +23,18 @@ pub(crate) fn encounter_before(
     requires refused { reading_of text.now ≡ Err refusal }
     ensures { (r : IsRefused (records_of text.now) refusal) → IfOk result (λ e. e ≡ encounter_by r.earlier) }
 {
-    let mut reader = ReaderBuilder::new()
-        .has_headers(false)
-        .flexible(true)
-        .quoting(false)
-        .from_reader(alloc, text);
+    let mut rows = Rows::of(alloc, text);
     let mut tables = Tables::new(alloc)?;
     let mut row = ByteRecord::new(alloc);
     let mut left = refusal.at;
     while left > 1 {
-        match reader.read_byte_record(&mut row) {
-            Ok(true) => match tables.take(alloc, &row) {
-                Ok(()) => left -= 1,
-                Err(ReadError::OutOfMemory) => return Err(AllocError),
-                Err(ReadError::Refused(_)) => unreachable!(),
-            },
-            Ok(false) => unreachable!(),
-            Err(_) => return Err(AllocError),
+        if !rows.read(&mut row)? {
+            unreachable!();
+        }
+        match tables.take(alloc, &row) {
+            Ok(()) => left -= 1,
+            Err(ReadError::OutOfMemory) => return Err(AllocError),
+            Err(ReadError::Refused(_)) => unreachable!(),
         }
     }
     match tables.encounter(alloc)? {

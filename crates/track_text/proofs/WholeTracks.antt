@@ -1,14 +1,10 @@
 -- A whole text of tracks, record by record.
-use Rattle.std.proofs.Common.{◌≡◌, ◌∙◌, ℕ, List, [], ◌∷◌, ◌++◌, length, take, Some, Result, Ok, Err, refl, sym, ap, append_assoc, subst}
+use Rattle.std.proofs.Common.{◌≡◌, ◌∙◌, ℕ, List, [], ◌∷◌, ◌++◌, length, take, Some, Result, Ok, Err, refl, sym, ap, subst}
 use Rattle.std.specs.Prelude.{IfOk, MatchResult, None, slice_get}
 use Rattle.std.specs.Result.{IsErrAnd}
-use Rattle.csv.specs.Reading.{Reached, strip_bom}
-use Rattle.csv.specs.declared.parser.State.{State}
-use Rattle.csv.specs.declared.parser.State.TheVariants as st
 use Rattle.acas_base.specs.Encounter.{Parts}
 use Rattle.flight.specs.Inside.{IsInside}
-use Rattle.enc_file.specs.Records.{records_of, unquoted}
-use Rattle.enc_file.proofs.Reached.{reached-front}
+use Rattle.enc_file.specs.Records.{records_of}
 use Rattle.track_text.specs.Conditions.{ArePassed, HasNoFault, IsLowestFault, said_by}
 use Rattle.track_text.specs.Reading.{Explains, IsMade, IsReading, Refuses}
 use Rattle.track_text.specs.declared.record.TrackRecord.{TrackRecord}
@@ -39,20 +35,17 @@ front-all [] = refl
 front-all (x ∷ xs) = ap (λ l. x ∷ l) (front-all xs)
 
 -- A record with a fault is where the text is refused.
-pub refused-at : (bytes rest : List ℕ) (state : State) (earlier : List TrackRecord) (rows : List (List (List ℕ))) (row : List (List ℕ)) (e : ReadError) → Reached unquoted st.StartRecord (strip_bom bytes) (rows ++ row ∷ []) state rest
+pub refused-at : (bytes : List ℕ) (earlier : List TrackRecord) (rows : List (List (List ℕ))) (row : List (List ℕ)) (more : List (List (List ℕ))) (e : ReadError) → records_of bytes ≡ rows ++ row ∷ more
     → length earlier ≡ length rows → ArePassed [] rows earlier → Refuses (length earlier) (IsLowestFault earlier (Some row)) e → Explains bytes e
-refused-at bytes rest state earlier rows row (Refused refusal) reached count passed h =
-    let front = reached-front unquoted state (strip_bom bytes) rest (rows ++ row ∷ []) reached in
-    let all : records_of bytes ≡ rows ++ row ∷ front.0 = front.1 ∙ append_assoc rows (row ∷ []) front.0 in
-    record {
-      earlier = earlier;
-      passed = subst (λ (l : List (List (List ℕ))). ArePassed [] l earlier) (sym (ap (λ n. take n (records_of bytes)) count ∙ ap (take (length rows)) all ∙ front-of rows (row ∷ front.0))) passed;
-      at = ap (λ (r : Refusal). r.at) h.2;
-      fault =
-          subst (λ o. IsLowestFault earlier o refusal.fault) (sym (ap (slice_get (records_of bytes)) count ∙ ap (λ l. slice_get l (length rows)) all ∙ at-place rows front.0 row))
-          (subst (IsLowestFault earlier (Some row)) (sym (ap (λ (r : Refusal). r.fault) h.2)) h.1);
-    }
-refused-at bytes rest state earlier rows row OutOfMemory reached count passed h = tt
+refused-at bytes earlier rows row more (Refused refusal) all count passed h = record {
+  earlier = earlier;
+  passed = subst (λ (l : List (List (List ℕ))). ArePassed [] l earlier) (sym (ap (λ n. take n (records_of bytes)) count ∙ ap (take (length rows)) all ∙ front-of rows (row ∷ more))) passed;
+  at = ap (λ (r : Refusal). r.at) h.2;
+  fault =
+      subst (λ o. IsLowestFault earlier o refusal.fault) (sym (ap (slice_get (records_of bytes)) count ∙ ap (λ l. slice_get l (length rows)) all ∙ at-place rows more row))
+      (subst (IsLowestFault earlier (Some row)) (sym (ap (λ (r : Refusal). r.fault) h.2)) h.1);
+}
+refused-at bytes earlier rows row more OutOfMemory all count passed h = tt
 
 -- The whole text was read.
 pub whole-read : (bytes : List ℕ) (earlier : List TrackRecord) (rows : List (List (List ℕ))) (r : Result Parts ReadError) → records_of bytes ≡ rows → length earlier ≡ length rows → ArePassed [] rows earlier

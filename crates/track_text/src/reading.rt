@@ -6,7 +6,8 @@ ghost use Rattle.track_text.specs.Reading.{IsReading};
 use crate::refusal::ReadError;
 use crate::tables::TrackTables;
 use acas_base::Encounter;
-use csv::{ByteRecord, ReaderBuilder};
+use csv::ByteRecord;
+use enc_file::Rows;
 use std::alloc::Global;
 
 /// The encounter that a text of tracks says. In each cycle of its run each aircraft is where its track is, rounded.
@@ -21,18 +22,11 @@ pub fn read(alloc: Global, bytes: &[u8]) -> Result<Encounter, ReadError>
     ensures reading { IsReading bytes.now result }
     ensures inside { IfOk result IsInside }
 {
-    let mut reader = ReaderBuilder::new()
-        .has_headers(false)
-        .flexible(true)
-        .quoting(false)
-        .from_reader(alloc, bytes);
+    let mut rows = Rows::of(alloc, bytes);
     let mut tables = TrackTables::new(alloc)?;
     let mut row = ByteRecord::new(alloc);
-    loop {
-        match reader.read_byte_record(&mut row) {
-            Ok(true) => tables.take(alloc, &row)?,
-            Ok(false) => return tables.finish(),
-            Err(_) => return Err(ReadError::OutOfMemory),
-        }
+    while rows.read(&mut row)? {
+        tables.take(alloc, &row)?;
     }
+    tables.finish()
 }

@@ -1,105 +1,34 @@
-use Rattle.std.proofs.Common.{Bor, List, ℕ, ◌≡◌, ◌∙◌, sym, refl, ap, inl, inr, true, false, Some, Ok, ◌∷◌, [], ◌++◌, length-append, arith}
-use Rattle.csv.specs.Reading.{Reached, strip_bom}
+use Rattle.std.proofs.Common.{◌≡◌, ◌∙◌, ◌∷◌, ap, length, arith}
 use Rattle.csv.specs.Records.{fields_of}
-use Rattle.csv.specs.declared.parser.State.TheVariants as st
-use Rattle.csv.proofs.ReadFacts.{rows-end, rows-more}
-use Rattle.enc_file.specs.Reading.{reading_of}
-use Rattle.enc_file.specs.Records.{unquoted}
-use Rattle.enc_file.proofs.Reached.{reached-all}
-use Rattle.enc_file.proofs.WholeText.{few-rows, passed-on, read-inside, refused-at, same-more, whole-read}
+use Rattle.enc_file.specs.Reading.{read_from, reading_of}
+use Rattle.enc_file.specs.Rows.{after_read}
+use Rattle.enc_file.proofs.WholeText.{on-next, passed-on, read-inside, refused-at}
 use Rattle.enc_file.proofs.reading.read.Goals as goal
 
-pub loop-tables-init : goal.loop-tables-init
-unfolding Reached
-loop-tables-init c =
-    let fr = c.from_reader-reader.ensures in
-    let e1 = c.has_headers.ensures in
-    let e2 = c.flexible.ensures in
-    let e3 = c.quoting.ensures in
+pub loop-row-preserved : goal.loop-row-preserved
+loop-row-preserved c =
+    let inv = c.loop-row.invariant in
+    let row = fields_of c.read.new.row in
+    let left : c.loop-row.rows ≡ row ∷ c.read.new.self = c.in_ok-read.ensures.read ∙ ap (λ found. after_read found row c.read.new.self) c.if-branch.true in
+    let taken = rw (c.in_ok-take.was) at (c.take.ensures inv.earlier inv.holds) in
     record {
-      trim = rw (e3, e2, e1) at fr.trim ∙ c.new.ensures.trim;
-      ready = inr (inr (rw (e3, e2, e1) at fr.has_headers, fr.headers));
-      config = rw (e3, e2, e1, c.new.ensures.config) at fr.config;
-      rest = strip_bom c.args.bytes.now;
-      source = fr.source;
-      rows = [];
-      reached = (sym fr.state, refl);
-      earlier = [];
-      count = refl;
-      holds = c.in_ok-tables.ensures;
-      same = λ more. refl;
-    }
-
-pub take-requires-clause-room : goal.take-requires-clause-room
-take-requires-clause-room c =
-    let inv = c.loop-tables.invariant in
-    omega (arith, c.requires, inv.holds.count, inv.count, few-rows c.args.bytes.now inv.rest c.loop-tables.reader.state inv.rows inv.reached)
-
-pub take-requires-clause-held : goal.take-requires-clause-held
-take-requires-clause-held c =
-    let inv = c.loop-tables.invariant in
-    record { earlier = inv.earlier; holds = inv.holds }
-
-pub loop-tables-preserved : goal.loop-tables-preserved
-loop-tables-preserved c =
-    let inv = c.loop-tables.invariant in
-    let found : c.read_byte_record.result ≡ Ok true = c.in-Ok-true.is ∙ ap Ok c.in-Ok-true.field-0-test in
-    let read = (rw found at c.read_byte_record.ensures.reads) inv.trim inv.ready in
-    let row = fields_of c.read_byte_record.new.row in
-    let m = rows-more (λ (s : Bor (List ℕ)). Some s.now) c.loop-tables.reader c.read_byte_record.new.self row unquoted st.StartRecord (strip_bom c.args.bytes.now) inv.rest inv.rows inv.config inv.source inv.reached read in
-    let taken = rw (c.in_ok-take-in-Ok-true.was) at (c.take.ensures inv.earlier inv.holds) in
-    record {
-      trim = read.3 ∙ inv.trim;
-      ready = inl ((rw found at c.read_byte_record.ensures.ready) inv.trim);
-      config = read.2 ∙ inv.config;
-      rest = m.0;
-      source = m.1;
-      rows = inv.rows ++ row ∷ [];
-      reached = m.2;
       earlier = taken.0 ∷ inv.earlier;
-      count = omega (arith, inv.count, length-append inv.rows (row ∷ []));
       holds = taken.2;
-      same = λ more. same-more inv.earlier inv.rows more row taken.0 inv.same taken.1;
+      same = inv.same ∙ ap (read_from inv.earlier) left ∙ on-next inv.earlier row c.read.new.self taken.0 taken.1;
+      few = omega (arith, inv.few, ap length left);
     }
 
-pub loop-tables-smaller : goal.loop-tables-smaller
-loop-tables-smaller c =
-    let inv = c.loop-tables.invariant in
-    let found : c.read_byte_record.result ≡ Ok true = c.in-Ok-true.is ∙ ap Ok c.in-Ok-true.field-0-test in
-    let read = (rw found at c.read_byte_record.ensures.reads) inv.trim inv.ready in
-    let row = fields_of c.read_byte_record.new.row in
-    let m = rows-more (λ (s : Bor (List ℕ)). Some s.now) c.loop-tables.reader c.read_byte_record.new.self row unquoted st.StartRecord (strip_bom c.args.bytes.now) inv.rest inv.rows inv.config inv.source inv.reached read in
-    let taken = rw (c.in_ok-take-in-Ok-true.was) at (c.take.ensures inv.earlier inv.holds) in
-    let few = few-rows c.args.bytes.now m.0 c.read_byte_record.new.self.state (inv.rows ++ row ∷ []) m.2 in
-    omega (arith, inv.holds.count, taken.2.count, inv.count, few, length-append inv.rows (row ∷ []))
+pub returns-in_err-take-clause-reading : goal.returns-in_err-take-clause-reading
+returns-in_err-take-clause-reading c =
+    let inv = c.loop-row.invariant in
+    let row = fields_of c.read.new.row in
+    let left : c.loop-row.rows ≡ row ∷ c.read.new.self = c.in_ok-read.ensures.read ∙ ap (λ found. after_read found row c.read.new.self) c.if-branch.true in
+    let error = c.in_err-take.field-0.0 in
+    let refused = rw (c.in_err-take.was) at (c.take.ensures inv.earlier inv.holds) in
+    passed-on (reading_of c.args.bytes.now) c.from_residual-in_err-take.result error c.from_residual-in_err-take.ensures.1
+    (refused-at (reading_of c.args.bytes.now) inv.earlier row c.read.new.self error (inv.same ∙ ap (read_from inv.earlier) left) refused)
 
-pub returns-in_err-take-in-Ok-true-clause-reading : goal.returns-in_err-take-in-Ok-true-clause-reading
-returns-in_err-take-in-Ok-true-clause-reading c =
-    let inv = c.loop-tables.invariant in
-    let found : c.read_byte_record.result ≡ Ok true = c.in-Ok-true.is ∙ ap Ok c.in-Ok-true.field-0-test in
-    let read = (rw found at c.read_byte_record.ensures.reads) inv.trim inv.ready in
-    let row = fields_of c.read_byte_record.new.row in
-    let m = rows-more (λ (s : Bor (List ℕ)). Some s.now) c.loop-tables.reader c.read_byte_record.new.self row unquoted st.StartRecord (strip_bom c.args.bytes.now) inv.rest inv.rows inv.config inv.source inv.reached read in
-    let error = c.in_err-take-in-Ok-true.field-0.0 in
-    let refused = rw (c.in_err-take-in-Ok-true.was) at (c.take.ensures inv.earlier inv.holds) in
-    passed-on (reading_of c.args.bytes.now) c.from_residual-in_err-take-in-Ok-true.result error c.from_residual-in_err-take-in-Ok-true.ensures.1
-    (refused-at c.args.bytes.now m.0 c.read_byte_record.new.self.state inv.earlier inv.rows row error m.2 inv.same refused)
-
-pub finish-requires : goal.finish-requires
-finish-requires c =
-    let inv = c.loop-tables.invariant in
-    record { room = omega (arith, c.requires, inv.holds.count, inv.count, few-rows c.args.bytes.now inv.rest c.loop-tables.reader.state inv.rows inv.reached) }
-
-pub returns-in-Ok-false-clause-reading : goal.returns-in-Ok-false-clause-reading
-returns-in-Ok-false-clause-reading c =
-    let inv = c.loop-tables.invariant in
-    let found : c.read_byte_record.result ≡ Ok false = c.in-Ok-false.is ∙ ap Ok c.in-Ok-false.field-0-test in
-    let read = (rw found at c.read_byte_record.ensures.reads) inv.trim inv.ready in
-    let end = rows-end (λ (s : Bor (List ℕ)). Some s.now) c.loop-tables.reader c.read_byte_record.new.self (fields_of c.read_byte_record.new.row) unquoted inv.rest inv.config inv.source read in
-    let all = reached-all unquoted c.loop-tables.reader.state (strip_bom c.args.bytes.now) inv.rest inv.rows inv.reached end in
-    whole-read c.args.bytes.now inv.earlier inv.rows c.finish.result all inv.same (c.finish.ensures inv.earlier inv.holds)
-
-pub returns-in-Ok-false-clause-inside : goal.returns-in-Ok-false-clause-inside
-returns-in-Ok-false-clause-inside c =
-    let inv = c.loop-tables.invariant in
+pub returns-clause-inside : goal.returns-clause-inside
+returns-clause-inside c =
+    let inv = c.loop-row.invariant in
     read-inside inv.earlier c.finish.result inv.holds.read (c.finish.ensures inv.earlier inv.holds)

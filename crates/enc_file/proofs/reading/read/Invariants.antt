@@ -1,29 +1,18 @@
-use Rattle.std.proofs.Common.{◌≡◌, ◌+◌, ◌-◌, ℕ, List, [], ◌++◌, length, Some}
-use Rattle.csv.specs.Reading.{Reached, Ready, source_of, strip_bom}
-use Rattle.csv.specs.declared.parser.State.TheVariants as st
-use Rattle.csv.specs.declared.reader.Trim.TheVariants as trim
-use Rattle.enc_file.specs.Reading.{read_from}
-use Rattle.enc_file.specs.Records.{unquoted}
+use Rattle.std.proofs.Common.{◌≡◌, ◌+◌, ◌≤◌, List, length}
+use Rattle.enc_file.specs.Reading.{read_from, reading_of}
 use Rattle.enc_file.specs.Tables.{Holds}
 use Rattle.enc_file.specs.declared.record.Record.{Record}
 use Rattle.enc_file.proofs.reading.read.Given as goal
 
--- The reader stands where the records so far end, and the tables hold what these say.
-abbrev pub invariant-loop-tables : goal.invariant-loop-tables
-invariant-loop-tables l = record {
-  trim : l.reader.trim ≡ trim.None;
-  ready : Ready l.reader;
-  config : l.reader.config ≡ unquoted;
-  rest : List ℕ;
-  source : source_of (λ s. Some s.now) l.reader ≡ Some rest;
-  rows : List (List (List ℕ));
-  reached : Reached unquoted st.StartRecord (strip_bom l.fn.bytes) rows l.reader.state rest;
+-- The tables hold what the records so far say. The text says what they and those that are left say.
+abbrev pub invariant-loop-row : goal.invariant-loop-row
+invariant-loop-row l = record {
   earlier : List Record;
-  count : length earlier ≡ length rows;
   holds : Holds earlier l.tables;
-  same : (more : List (List (List ℕ))) → read_from [] (rows ++ more) ≡ read_from earlier more;
+  same : reading_of l.fn.bytes ≡ read_from earlier l.rows;
+  few : length earlier + length l.rows ≤ length l.fn.bytes;
 }
 
--- Each record takes a byte.
-abbrev pub decreases-loop-tables : goal.decreases-loop-tables
-decreases-loop-tables l = length l.fn.bytes + 1 - l.tables.count
+-- Each turn takes a record.
+abbrev pub decreases-loop-row : goal.decreases-loop-row
+decreases-loop-row l = length l.rows
