@@ -1,11 +1,13 @@
 // The answer to a command: a status and a text.
-ghost use Rattle.std.specs.Prelude.{◌≡◌, ℕ, ◌+◌, ◌≤◌, ◌∷◌, [], List, IfOk, length};
+ghost use Rattle.std.specs.Prelude.{◌≡◌, ℕ, ◌+◌, ◌≤◌, ◌∷◌, [], List, Err, IfOk, length};
 ghost use Rattle.acas_lines.specs.Split.{lines_of};
 ghost use Rattle.acas_top.specs.Answers.{AnswersPlain, IsMade, read_as};
 ghost use Rattle.acas_top.specs.Given.{IsReadable, answer_status, answer_text};
+ghost use Rattle.acas_top.specs.Refusing.{Refuses};
 ghost use Rattle.acas_top.specs.Words.{IsInRange, plain_limit};
 ghost use Rattle.acas_top.specs.Sweeping.{Sweeps};
 ghost use Rattle.comparison.specs.Splitting.{IsSplit};
+ghost use Rattle.enc_file.specs.Reading.{reading_of};
 ghost use Rattle.enc_file.specs.Records.{records_of};
 ghost use Rattle.rec_audit.specs.Judging.{IsRecordingOf};
 ghost use Rattle.track_text.specs.Conditions.{IsRefused};
@@ -15,7 +17,7 @@ use crate::instance::answer_instance;
 use crate::many::{Many, answer_many};
 use crate::pages::put_page;
 use crate::possible::answer_possible;
-use crate::refusal::refusal_line;
+use crate::refusal::{encounter_in, refusal_line};
 use crate::runs::{filled, serial_state};
 use crate::summing::put_summed;
 use crate::sweep_runs::{Swept, sweep};
@@ -30,7 +32,7 @@ use acas_text::Line;
 use air_journal::AirState;
 use comparison::{Comparison, Found, compare, split};
 use deliveries::Deliveries;
-use enc_file::{CanonicalText, ReadError};
+use enc_file::{CanonicalText, Refusal};
 use enc_gen::make;
 use fault_text::explained;
 use possibilities::Possibilities;
@@ -86,6 +88,14 @@ pub(crate) enum Answer {
 }
 
 impl Answer {
+    /// The answer to a text that is refused.
+    pub(crate) fn of_refusal(refusal: Refusal) -> Answer
+        ensures status { answer_status result ≡ Status.Refused }
+        ensures text { (bytes : List ℕ) → reading_of bytes ≡ Err refusal → Refuses bytes (answer_text result) }
+    {
+        Answer::Refused(refusal.at, refusal.code.number())
+    }
+
     /// The status of the answer.
     pub(crate) fn status(&self) -> Status
         ensures { result ≡ answer_status self.now }
@@ -164,14 +174,10 @@ fn answer_serial(alloc: Global, bytes: &[u8]) -> Result<Answer, AllocError>
     requires { length bytes.now ≤ ENCOUNTER_BYTES }
     ensures { IfOk result (λ answer. AnswersPlain Plain.Serial bytes.now (answer_status answer) (answer_text answer)) }
 {
-    let encounter = match enc_file::read(alloc, bytes) {
-        Ok(encounter) => encounter,
-        Err(ReadError::Refused(refusal)) => {
-            return Ok(Answer::Refused(refusal.at, refusal.code.number()));
-        }
-        Err(ReadError::OutOfMemory) => return Err(AllocError),
-    };
-    Ok(Answer::Recorded(serial_state(alloc, &encounter)?))
+    match encounter_in(alloc, bytes)? {
+        Ok(encounter) => Ok(Answer::Recorded(serial_state(alloc, &encounter)?)),
+        Err(refusal) => Ok(Answer::of_refusal(refusal)),
+    }
 }
 
 // The answer to `audit`.
@@ -328,13 +334,12 @@ fn answer_encounter(alloc: Global, bytes: Vec<u8>) -> Result<Answer, AllocError>
     requires few { length bytes.items ≤ ENCOUNTER_BYTES }
     ensures { IfOk result (λ answer. AnswersPlain Plain.Explain bytes.items (answer_status answer) (answer_text answer)) }
 {
-    match enc_file::read(alloc, bytes.as_slice()) {
+    match encounter_in(alloc, bytes.as_slice())? {
         Ok(encounter) => Ok(Answer::RightEncounter(RightEncounter::new(bytes, encounter))),
-        Err(ReadError::Refused(refusal)) => {
+        Err(refusal) => {
             let told = explained(alloc, bytes.as_slice(), refusal)?;
             Ok(Answer::ExplainedRefusal(refusal.at, refusal.code.number(), told))
         }
-        Err(ReadError::OutOfMemory) => Err(AllocError),
     }
 }
 

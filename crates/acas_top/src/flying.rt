@@ -10,10 +10,10 @@ ghost use Rattle.flight.specs.Inside.{IsInside};
 
 use crate::ENCOUNTER_BYTES;
 use crate::answers::Answer;
+use crate::refusal::encounter_in;
 use acas_base::{CraftSpec, Encounter};
 use acas_text::Line;
 use address_words::{Among, first_unknown, indices};
-use enc_file::ReadError;
 use followed_advice::{Leaving, fly};
 use std::alloc::{AllocError, Global};
 
@@ -91,12 +91,8 @@ pub(crate) fn answer_flight(
     requires few { length bytes.now ≤ ENCOUNTER_BYTES }
     ensures { IfOk result (λ answer. AnswersFlight (map string_bytes names.now) bytes.now (answer_status answer) (answer_text answer)) }
 {
-    let encounter = match enc_file::read(alloc, bytes) {
-        Ok(encounter) => encounter,
-        Err(ReadError::Refused(refusal)) => {
-            return Ok(Answer::Refused(refusal.at, refusal.code.number()));
-        }
-        Err(ReadError::OutOfMemory) => return Err(AllocError),
-    };
-    answer_for(alloc, names, &encounter)
+    match encounter_in(alloc, bytes)? {
+        Ok(encounter) => answer_for(alloc, names, &encounter),
+        Err(refusal) => Ok(Answer::of_refusal(refusal)),
+    }
 }

@@ -17,12 +17,12 @@ ghost use Rattle.report_words.specs.declared.wanted.Wanted.{Wanted};
 use crate::ENCOUNTER_BYTES;
 use crate::answers::Answer;
 use crate::possible::bound_line;
+use crate::refusal::encounter_in;
 use crate::runs::{run_law, serial_state};
 use crate::varying::{index_of, unknown_line};
 use acas_base::Encounter;
 use acas_text::Line;
 use air_journal::is_ra;
-use enc_file::ReadError;
 use instances::{Sought, find};
 use pair_ways::Scope;
 use possibilities::{Possibilities, Stop};
@@ -176,12 +176,8 @@ pub(crate) fn answer_instance(
     requires few { length bytes.now ≤ ENCOUNTER_BYTES }
     ensures { IfOk result (λ answer. AnswersPlain (Instance scope want) bytes.now (answer_status answer) (answer_text answer)) }
 {
-    let encounter = match enc_file::read(alloc, bytes) {
-        Ok(encounter) => encounter,
-        Err(ReadError::Refused(refusal)) => {
-            return Ok(Answer::Refused(refusal.at, refusal.code.number()));
-        }
-        Err(ReadError::OutOfMemory) => return Err(AllocError),
-    };
-    answer_for(alloc, scope, want, &encounter)
+    match encounter_in(alloc, bytes)? {
+        Ok(encounter) => answer_for(alloc, scope, want, &encounter),
+        Err(refusal) => Ok(Answer::of_refusal(refusal)),
+    }
 }

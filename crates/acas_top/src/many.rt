@@ -1,16 +1,19 @@
 // What answers `many`: each of many encounters is played, in threads.
-ghost use Rattle.std.specs.Prelude.{◌≡◌, ◌-◌, ◌<◌, ◌≤◌, ◌^◌, IfOk, length};
+ghost use Rattle.std.specs.Prelude.{◌≡◌, ℕ, ◌-◌, ◌<◌, ◌≤◌, ◌^◌, IfOk, List, length};
 ghost use Rattle.std.specs.List.{AllZip};
 ghost use Rattle.acas_top.specs.Answers.{AnswersPlain};
 ghost use Rattle.acas_top.specs.Given.{answer_status, answer_text};
 ghost use Rattle.acas_top.specs.Many.{IsRunOf};
 ghost use Rattle.acas_top.specs.declared.words.Plain.TheVariants as plains;
+ghost use Rattle.enc_file.specs.Reading.{Says};
+ghost use Rattle.flight.specs.Inside.{IsInside};
 
 use crate::RECORDING_BYTES;
 use crate::answers::Answer;
+use crate::refusal::encounter_in;
 use crate::runs::serial_state;
+use acas_base::Encounter;
 use acas_lines::count_line;
-use enc_file::ReadError;
 use outcomes::{Outcome, outcome_of};
 use pieces::Pieces;
 use std::alloc::{AllocError, Global};
@@ -30,20 +33,24 @@ pub(crate) enum PieceRun {
     Faulty(u32, u8),
 }
 
+// What the serial run of an encounter comes to. The error says that memory was wanting.
+fn played(alloc: Global, encounter: &Encounter) -> Result<PieceRun, AllocError>
+    requires { IsInside encounter.now }
+    ensures { IfOk result (λ run. (piece : List ℕ) → Says piece encounter.now → IsRunOf piece run) }
+{
+    let state = serial_state(alloc, encounter)?;
+    Ok(PieceRun::Played(outcome_of(&state)))
+}
+
 // What a piece comes to. The error says that memory was wanting.
 fn run_of(alloc: Global, piece: &[u8]) -> Result<PieceRun, AllocError>
     requires { length piece.now < 2 ^ 32 - 1 }
     ensures { IfOk result (IsRunOf piece.now) }
 {
-    let encounter = match enc_file::read(alloc, piece) {
-        Ok(encounter) => encounter,
-        Err(ReadError::Refused(refusal)) => {
-            return Ok(PieceRun::Faulty(refusal.at, refusal.code.number()));
-        }
-        Err(ReadError::OutOfMemory) => return Err(AllocError),
-    };
-    let state = serial_state(alloc, &encounter)?;
-    Ok(PieceRun::Played(outcome_of(&state)))
+    match encounter_in(alloc, piece)? {
+        Ok(encounter) => played(alloc, &encounter),
+        Err(refusal) => Ok(PieceRun::Faulty(refusal.at, refusal.code.number())),
+    }
 }
 
 /// The job of `many`: what a piece comes to, by its place.

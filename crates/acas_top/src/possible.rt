@@ -12,10 +12,10 @@ ghost use Rattle.flight.specs.Inside.{IsInside};
 use crate::ENCOUNTER_BYTES;
 use crate::acting::acted_out;
 use crate::answers::Answer;
+use crate::refusal::encounter_in;
 use crate::runs::serial_state;
 use acas_base::Encounter;
 use acas_text::Line;
-use enc_file::ReadError;
 use pair_ways::{Scope, TooMany};
 use possibilities::{Possibilities, Stop};
 use std::alloc::{AllocError, Global};
@@ -70,12 +70,8 @@ pub(crate) fn answer_possible(
     requires { length bytes.now ≤ ENCOUNTER_BYTES }
     ensures { IfOk result (λ answer. AnswersPlain (Possible scope) bytes.now (answer_status answer) (answer_text answer)) }
 {
-    let encounter = match enc_file::read(alloc, bytes) {
-        Ok(encounter) => encounter,
-        Err(ReadError::Refused(refusal)) => {
-            return Ok(Answer::Refused(refusal.at, refusal.code.number()));
-        }
-        Err(ReadError::OutOfMemory) => return Err(AllocError),
-    };
-    answer_for(alloc, scope, &encounter)
+    match encounter_in(alloc, bytes)? {
+        Ok(encounter) => answer_for(alloc, scope, &encounter),
+        Err(refusal) => Ok(Answer::of_refusal(refusal)),
+    }
 }

@@ -8,13 +8,13 @@ ghost use Rattle.flight.specs.Inside.{IsInside};
 
 use crate::answers::Answer;
 use crate::counts::{counts_of, serial_counts};
+use crate::refusal::encounter_in;
 use crate::runs::run_law;
 use crate::{ENCOUNTER_BYTES, Threaded};
 use acas_base::Encounter;
 use air_journal::AirState;
 use air_turn::Air;
 use craft_worker::{Pause, play, played_law};
-use enc_file::ReadError;
 use std::alloc::{AllocError, Global};
 use std::sync::Wait;
 use std::thread::Threads;
@@ -82,13 +82,11 @@ pub(crate) fn answer_in_threads<R: Threads + Wait + Sync, P: Pause + Sync>(
     requires { length bytes.now ≤ ENCOUNTER_BYTES }
     ensures { IfOk result (λ answer. Answers (OfRun run) bytes.now (answer_status answer) (answer_text answer)) }
 {
-    let encounter = match enc_file::read(alloc, bytes) {
-        Ok(encounter) => encounter,
-        Err(ReadError::Refused(refusal)) => {
-            return Ok(Answer::Refused(refusal.at, refusal.code.number()));
+    match encounter_in(alloc, bytes)? {
+        Ok(encounter) => {
+            let played = threaded_state(rt, alloc, &encounter, pause)?;
+            answer_of(alloc, run, &encounter, played)
         }
-        Err(ReadError::OutOfMemory) => return Err(AllocError),
-    };
-    let played = threaded_state(rt, alloc, &encounter, pause)?;
-    answer_of(alloc, run, &encounter, played)
+        Err(refusal) => Ok(Answer::of_refusal(refusal)),
+    }
 }

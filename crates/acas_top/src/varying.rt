@@ -15,13 +15,13 @@ ghost use Rattle.variation_words.specs.Words.{IsInRange};
 
 use crate::ENCOUNTER_BYTES;
 use crate::answers::Answer;
+use crate::refusal::encounter_in;
 use crate::runs::serial_state;
 use crate::varied::{VariantRuns, Varied};
 use acas_base::{CraftSpec, Encounter};
 use acas_lines::count_line;
 use acas_text::Line;
 use air_journal::AirState;
-use enc_file::ReadError;
 use run_losses::losses;
 use std::alloc::{AllocError, Global};
 use std::thread::Threads;
@@ -154,12 +154,8 @@ pub(crate) fn answer_variation<R: Threads + Sync>(
     requires few { length bytes.now ≤ ENCOUNTER_BYTES }
     ensures { IfOk result (λ answer. AnswersPlain (Vary variation) bytes.now (answer_status answer) (answer_text answer)) }
 {
-    let encounter = match enc_file::read(alloc, bytes) {
-        Ok(encounter) => encounter,
-        Err(ReadError::Refused(refusal)) => {
-            return Ok(Answer::Refused(refusal.at, refusal.code.number()));
-        }
-        Err(ReadError::OutOfMemory) => return Err(AllocError),
-    };
-    answer_for(rt, alloc, variation, &encounter)
+    match encounter_in(alloc, bytes)? {
+        Ok(encounter) => answer_for(rt, alloc, variation, &encounter),
+        Err(refusal) => Ok(Answer::of_refusal(refusal)),
+    }
 }
