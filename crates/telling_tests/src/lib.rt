@@ -10,10 +10,6 @@ mod enc_file_tests;
 #[cfg(test)]
 mod enc_gen_tests;
 #[cfg(test)]
-mod fault_text_tests;
-#[cfg(test)]
-mod misspelled_recordings_tests;
-#[cfg(test)]
 mod pieces_tests;
 #[cfg(test)]
 mod rec_audit_tests;
@@ -22,8 +18,4 @@ mod rec_text_tests;
 #[cfg(test)]
 mod track_sentences_tests;
 #[cfg(test)]
-mod track_text_tests;
-#[cfg(test)]
 mod verdict_sentences_tests;
-#[cfg(test)]
-mod wrong_recordings;
