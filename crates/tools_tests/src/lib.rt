@@ -6,11 +6,7 @@ mod deliveries_tests;
 #[cfg(test)]
 mod followed_advice_tests;
 #[cfg(test)]
-mod idle_notes_tests;
-#[cfg(test)]
 mod instances_tests;
-#[cfg(test)]
-mod journal_tables_tests;
 #[cfg(test)]
 mod pair_watch_tests;
 #[cfg(test)]
@@ -25,8 +21,6 @@ mod reasons_tests;
 mod response_tests;
 #[cfg(test)]
 mod serial_runs;
-#[cfg(test)]
-mod summary_tests;
 #[cfg(test)]
 mod sweep_tests;
 #[cfg(test)]
