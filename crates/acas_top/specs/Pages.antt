@@ -1,21 +1,24 @@
 -- The pages that the program writes about itself.
-use Rattle.std.specs.Prelude.{ℕ, Bool, List, length, map, ltb}
+use Rattle.std.specs.Prelude.{ℕ, Bool, List, length, ltb, map, ◌++◌}
 use Rattle.std.specs.List.{list_all}
 use Rattle.std.specs.Borrow.{Bor}
 use Rattle.acas_text.specs.declared.line.TheConstants.{LINE_BYTES}
-use Rattle.acas_top.specs.declared.pages.TheConstants.{HELP, VERSION}
+use Rattle.acas_top.specs.declared.pages.TheConstants.{USAGE, OF_ENCOUNTERS, OF_RECORDINGS, OF_NOTHING, STATUSES, EXAMPLE, VERSION}
 use Rattle.acas_top.specs.declared.words.Page.{Page}
 use Rattle.acas_top.specs.declared.words.Page.TheVariants.{Help, Version}
-
--- The lines of a page, which are those of its constant. For the proof: only `put_page` opens this definition, since the
--- page is long.
-unfoldable pub page_lines : Page → List (List ℕ)
-page_lines Help = map (λ line. line.now) HELP
-page_lines Version = map (λ line. line.now) VERSION
 
 -- The texts that these references point to.
 abbrev pub texts_of : List (Bor (List ℕ)) → List (List ℕ)
 texts_of lines = map (λ (line : Bor (List ℕ)). line.now) lines
+
+-- The lines of `--help`, part by part. For the proof: only `put_help` opens this definition, since the page is long.
+unfoldable pub help_lines : List (List ℕ)
+help_lines = texts_of USAGE ++ (texts_of OF_ENCOUNTERS ++ (texts_of OF_RECORDINGS ++ (texts_of OF_NOTHING ++ (texts_of STATUSES ++ texts_of EXAMPLE))))
+
+-- The lines of a page, which are those of its constants.
+pub page_lines : Page → List (List ℕ)
+page_lines Help = help_lines
+page_lines Version = texts_of VERSION
 
 -- Each text fits a line.
 abbrev pub are_short : List (Bor (List ℕ)) → Bool

@@ -1,16 +1,20 @@
 // The pages that the program writes about itself.
 ghost use Rattle.std.specs.Prelude.{IsTrue};
-ghost use Rattle.acas_top.specs.Pages.{are_short, page_lines, texts_of};
+ghost use Rattle.acas_top.specs.Pages.{are_short, help_lines, page_lines, texts_of};
 
 use crate::words::Page;
 use acas_lines::{LineSink, fixed_line};
 
-/// The page that `--help` writes.
-pub(crate) const HELP: [&str; 60] = [
+/// What `--help` writes first. The page is in parts, since a long table takes minutes to prove.
+pub(crate) const USAGE: [&str; 4] = [
     "acas plays encounters between aircraft with TCAS II version 7.1.\n",
     "\n",
     "usage: acas WORD [ARGUMENTS] < INPUT > OUTPUT\n",
     "\n",
+];
+
+/// Its part on the words that read encounters.
+pub(crate) const OF_ENCOUNTERS: [&str; 14] = [
     "These words read an encounter from standard input:\n",
     "  serial     Writes the recording of the serial run, which is always the same.\n",
     "  play       The same in threads, in an order that may differ from run to run.\n",
@@ -25,6 +29,10 @@ pub(crate) const HELP: [&str; 60] = [
     "             Writes the recording of such a run; or never, or open.\n",
     "  many       Reads encounters, one after the other. Writes what each comes to.\n",
     "\n",
+];
+
+/// Its part on the words that read recordings.
+pub(crate) const OF_RECORDINGS: [&str; 15] = [
     "These words read a recording from standard input:\n",
     "  audit      Writes legal,ENTRIES, or which line is the first wrong one and why.\n",
     "  places     Writes where each aircraft was, and its advice, as a table (CSV).\n",
@@ -40,6 +48,10 @@ pub(crate) const HELP: [&str; 60] = [
     "  compare    Reads two recordings, one after the other. Writes what differs.\n",
     "  resume     Reads a recording that was cut, and writes the whole recording.\n",
     "\n",
+];
+
+/// Its part on the words that read nothing.
+pub(crate) const OF_NOTHING: [&str; 9] = [
     "These words read nothing:\n",
     "  gen NUMBER CRAFTS CYCLES  Writes the encounter that is made from NUMBER\n",
     "             (0 to 4294967295), with CRAFTS 1 to 16 and CYCLES 1 to 600.\n",
@@ -49,6 +61,10 @@ pub(crate) const HELP: [&str; 60] = [
     "  --help     Writes this page. So do -h and help.\n",
     "  --version  Writes the versions of the program and of its formats.\n",
     "\n",
+];
+
+/// Its part on how a run ends.
+pub(crate) const STATUSES: [&str; 12] = [
     "Exit status, and what standard output has then:\n",
     "  0  Done. The whole output.\n",
     "  2  The words are no command. Nothing was read or written.\n",
@@ -61,6 +77,10 @@ pub(crate) const HELP: [&str; 60] = [
     "  7  Too long: over 16777216 bytes of an encounter, else over 67108864. Nothing.\n",
     "  8  Memory was wanting. Nothing.\n",
     "\n",
+];
+
+/// What it ends with.
+pub(crate) const EXAMPLE: [&str; 6] = [
     "Example:\n",
     "  acas serial < examples/same-altitude.enc > recording\n",
     "  acas audit < recording\n",
@@ -83,12 +103,24 @@ fn put_lines<S: LineSink>(lines: &[&str], sink: &mut S)
     }
 }
 
+// Puts the lines of `--help`.
+fn put_help<S: LineSink>(sink: &mut S)
+    ensures { S.took sink.old sink.new help_lines }
+{
+    put_lines(&USAGE, sink);
+    put_lines(&OF_ENCOUNTERS, sink);
+    put_lines(&OF_RECORDINGS, sink);
+    put_lines(&OF_NOTHING, sink);
+    put_lines(&STATUSES, sink);
+    put_lines(&EXAMPLE, sink);
+}
+
 /// Puts the lines of a page.
 pub(crate) fn put_page<S: LineSink>(page: Page, sink: &mut S)
     ensures { S.took sink.old sink.new (page_lines page) }
 {
     match page {
-        Page::Help => put_lines(&HELP, sink),
+        Page::Help => put_help(sink),
         Page::Version => put_lines(&VERSION, sink),
     }
 }

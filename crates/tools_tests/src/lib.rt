@@ -10,8 +10,6 @@ mod instances_tests;
 #[cfg(test)]
 mod pair_watch_tests;
 #[cfg(test)]
-mod picture_tests;
-#[cfg(test)]
 mod possibilities_tests;
 #[cfg(test)]
 mod ra_block_tests;
