@@ -1,21 +1,10 @@
-// Whole runs, and what their tests share.
-mod answered;
-mod compared;
-mod drawn;
+// Whole runs, and what their tests share. What else the words write of texts is shown by the cases of
+// `crates/case_tests/data`.
 mod faults;
-mod followed;
 mod judged;
-mod many;
-mod pages;
 mod played;
 mod resumed;
-mod shown;
-mod summaries;
-mod swept;
 mod threaded;
-mod told;
-mod varied;
-mod why;
 
 use acas_io::{MemSink, MemSource};
 use acas_top::{Status, acas};
@@ -55,10 +44,6 @@ const LOW: &[u8] =
 // A threat with a transponder only, which climbs in the end.
 const TRANSPONDER: &[u8] =
     b"encounter,1\nrun,31,0\ngains,1024,1024,1024,1024\ncraft,400A01,XPDR,0,0,35000\ncraft,400B02,RA,91200,0,35000\nleg,400A01,1,760,0,0\nleg,400A01,27,760,0,6000\nleg,400B02,1,-760,0,0\n";
-
-// The two at different altitudes, with traffic advisories alone.
-const TRAFFIC: &[u8] =
-    b"encounter,1\nrun,31,0\ncraft,400A01,TA,0,0,35000\ncraft,400B02,TA,91200,0,35300\nleg,400A01,1,760,0,0\nleg,400B02,1,-760,0,0\n";
 
 const ONE_CYCLE: &[u8] =
     b"encounter,1\nrun,1,0\ngains,683,256,512,128\ncraft,400100,RA,-55000,39000,22400\nleg,400100,1,550,-390,-800\nend\n";
@@ -148,55 +133,6 @@ fn answers<R: Threads + Wait + Sync + Alloc<A = Global>>(
     Ok(done.status == status && done.sink.bytes() == text)
 }
 
-// The words of a line, what they read, the status, and what they write.
-type Row = (&'static str, &'static [u8], Status, &'static [u8]);
-
-// The place of the first row that is answered otherwise.
-fn first_unlike<R: Threads + Wait + Sync + Alloc<A = Global>>(
-    rt: &R,
-    rows: &[Row],
-) -> Result<Option<usize>, AllocError> {
-    for place in 0..rows.len() {
-        let (line, input, status, text) = rows[place];
-        if !answers(rt, line, input, status, text)? {
-            return Ok(Some(place));
-        }
-    }
-    Ok(None)
-}
-
-// What is read, the status, and what is written.
-type Reading = (&'static [u8], Status, &'static [u8]);
-
-// The place of the first text that a word answers otherwise.
-fn first_misread<R: Threads + Wait + Sync + Alloc<A = Global>>(
-    rt: &R,
-    word: &str,
-    rows: &[Reading],
-) -> Result<Option<usize>, AllocError> {
-    for place in 0..rows.len() {
-        let (input, status, text) = rows[place];
-        if !answers(rt, word, input, status, text)? {
-            return Ok(Some(place));
-        }
-    }
-    Ok(None)
-}
-
-// The place of the first line of words that is a command, or writes something.
-fn first_obeyed<R: Threads + Wait + Sync + Alloc<A = Global>>(
-    rt: &R,
-    lines: &[&str],
-    input: &[u8],
-) -> Result<Option<usize>, AllocError> {
-    for place in 0..lines.len() {
-        if !answers(rt, lines[place], input, Status::Usage, b"")? {
-            return Ok(Some(place));
-        }
-    }
-    Ok(None)
-}
-
 // A text of two parts.
 fn joined(alloc: Global, open: &[u8], rest: &[u8]) -> Result<Vec<u8>, AllocError> {
     let mut text = open.to_vec(alloc)?;
@@ -259,24 +195,4 @@ fn lines_between(alloc: Global, text: &[u8], first: u64, last: u64) -> Result<Ve
         }
     }
     Ok(lines)
-}
-
-// A text with one of its lines, counted from 1, replaced by another text. It has no empty line.
-fn with_line(
-    alloc: Global,
-    text: &[u8],
-    replaced: u64,
-    other: &[u8],
-) -> Result<Vec<u8>, AllocError> {
-    let mut changed = Vec::new(alloc);
-    let mut number = 0u64;
-    for line in text.split(|byte| *byte == b'\n') {
-        number = number.saturating_add(1);
-        if number == replaced {
-            changed.extend_from_slice(other)?;
-        } else if !line.is_empty() {
-            add_line(&mut changed, line)?;
-        }
-    }
-    Ok(changed)
 }

@@ -228,6 +228,37 @@ fn reads_nothing_without_a_command(rt: HostRuntime) -> Result<(), Fail> {
     Ok(())
 }
 
+// Words with which the program tells about itself.
+const ABOUT_ITSELF: &[&str] = &["--version", "--help", "-h", "help"];
+
+// Whether a line is obeyed where the first read would fail.
+fn is_obeyed_unread<R: Threads + Wait + Sync + Alloc<A = Global>>(
+    rt: &R,
+    line: &str,
+) -> Result<bool, AllocError> {
+    let told = failing(rt, line, ONE_CYCLE, &[1], &[])?;
+    Ok(told.status == Status::Done)
+}
+
+// The place of the first line that isn't.
+fn first_reader<R: Threads + Wait + Sync + Alloc<A = Global>>(
+    rt: &R,
+    lines: &[&str],
+) -> Result<Option<usize>, AllocError> {
+    for place in 0..lines.len() {
+        if !is_obeyed_unread(rt, lines[place])? {
+            return Ok(Some(place));
+        }
+    }
+    Ok(None)
+}
+
+#[test]
+fn reads_nothing_about_itself(rt: HostRuntime) -> Result<(), Fail> {
+    assert_eq!(rt; first_reader(&rt, ABOUT_ITSELF)?, None);
+    Ok(())
+}
+
 // The longest input: blank lines, and an encounter of one cycle behind them.
 fn filled(alloc: Global) -> Result<Vec<u8>, AllocError> {
     let mut text = vec![in alloc; b'\n'; 16_777_216 - ONE_CYCLE.len()]?;

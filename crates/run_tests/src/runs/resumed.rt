@@ -1,8 +1,5 @@
 // Recordings that were cut. Expected values: by hand from "Cut recordings" in docs/FORMATS.md.
-use super::{
-    HELD_LONG, LEVEL, answers, joined, lines_between, lines_with, recording, run, with_line,
-};
-use acas_top::Status;
+use super::{HELD_LONG, LEVEL, lines_between, lines_with, recording, run};
 use std::alloc::{AllocError, Global};
 use std::sync::Wait;
 use std::test::Fail;
@@ -110,47 +107,5 @@ fn first_other_of<R: Threads + Wait + Sync + Alloc<A = Global>>(
 fn answers_each_cut(rt: HostRuntime) -> Result<(), Fail> {
     assert_eq!(rt; first_other_of(&rt, b"end\n", 10, 86)?, None);
     assert_eq!(rt; first_other_of(&rt, HELD_LONG, 13, 86)?, None);
-    Ok(())
-}
-
-// The recording's first lines, with another line of its entries, and these entries.
-fn begun(
-    alloc: Global,
-    whole: &[u8],
-    journal: &[u8],
-    entries: &[u8],
-) -> Result<Vec<u8>, AllocError> {
-    let other = with_line(alloc, whole, 10, journal)?;
-    let open = lines_between(alloc, other.as_slice(), 1, 10)?;
-    joined(alloc, open.as_slice(), entries)
-}
-
-// The recording with its first two entries exchanged.
-fn exchanged(alloc: Global, whole: &[u8]) -> Result<Vec<u8>, AllocError> {
-    let open = begun(alloc, whole, b"journal,86\n", b"c,1,1,-,-\nc,0,1,-,-\n")?;
-    let rest = lines_between(alloc, whole, 13, 200)?;
-    joined(alloc, open.as_slice(), rest.as_slice())
-}
-
-// Whether it is what is written where only the second entry stands.
-fn goes_on<R: Threads + Wait + Sync + Alloc<A = Global>>(
-    rt: &R,
-    whole: &[u8],
-) -> Result<bool, AllocError> {
-    let text = begun(rt.alloc(), whole, b"journal,1\n", b"c,1,1,-,-\n")?;
-    let want = exchanged(rt.alloc(), whole)?;
-    answers(rt, "resume", text.as_slice(), Status::Done, want.as_slice())
-}
-
-fn goes_on_of_level<R: Threads + Wait + Sync + Alloc<A = Global>>(
-    rt: &R,
-) -> Result<bool, AllocError> {
-    let whole = recording(rt, LEVEL, b"end\n")?;
-    goes_on(rt, whole.as_slice())
-}
-
-#[test]
-fn goes_on_from_another_order(rt: HostRuntime) -> Result<(), Fail> {
-    assert!(rt; goes_on_of_level(&rt)?);
     Ok(())
 }

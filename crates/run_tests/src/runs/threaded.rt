@@ -1,8 +1,8 @@
 // Runs in threads: `play` and `sum`. Expected values: the counts of the worked encounters, and by hand from
 // docs/RULES.md.
-use super::played::{PLAYED, Row};
 use super::{
-    BETWEEN, LEVEL, Outcome, answers, entry_in, joined, lines_with, recording, run, run_with,
+    APART, BETWEEN, HELD_LONG, LAPSING, LEVEL, LEVEL_2, LOW, Outcome, TRANSPONDER, entry_in,
+    joined, lines_with, run, run_with,
 };
 use acas_top::Status;
 use craft_worker::Pause;
@@ -11,6 +11,52 @@ use std::sync::Wait;
 use std::sync::atomic::{AtomicU64, Ordering};
 use std::test::Fail;
 use std::thread::{Threads, yield_now};
+
+// The beginning of a text, its rest, and how many commits each of its journals has.
+type Row = (&'static [u8], &'static [u8], u64);
+
+const PLAYED: &[Row] = &[
+    (APART, b"end\n", 62),
+    (APART, b"end", 62),
+    (LEVEL, b"end\n", 62),
+    // The first three messages are lost.
+    (
+        LEVEL,
+        b"fate,400A01,400B02,1\nfate,400A01,400B02,2\nfate,400A01,400B02,3\nend\n",
+        62,
+    ),
+    // A copy that is held back is taken last.
+    (LEVEL, HELD_LONG, 62),
+    // A message has three copies.
+    (LEVEL, b"fate,400A01,400B02,1,0,00,0,00,0,00\nend\n", 62),
+    // A message is damaged.
+    (LEVEL, b"fate,400A01,400B02,1,0,07\nend\n", 62),
+    // The first of two copies is held back.
+    (LEVEL, b"fate,400A01,400B02,1,2,00,0,00\nend\n", 62),
+    // Near the ground.
+    (LOW, b"end\n", 34),
+    // One between two others.
+    (BETWEEN, b"end\n", 75),
+    // A threat with a transponder only.
+    (TRANSPONDER, b"end\n", 31),
+    // Both at one place, with gains of 0 and addresses at the ends of their range.
+    (
+        b"encounter,1\nrun,3,0\ngains,0,0,0,0\ncraft,000001,RA,0,0,35000\ncraft,FFFFFE,RA,0,0,35000\n",
+        b"end\n",
+        6,
+    ),
+    // A message in force lapses after six commits, and not after five.
+    (LAPSING, b"miss,400B02,400A01,1,31\nend\n", 66),
+    (LAPSING, b"miss,400B02,400A01,1,30\nend\n", 66),
+    // A ceiling, a link that loses everything, and one message of it that arrives.
+    (LEVEL_2, b"climb,400A01,30000\nend\n", 62),
+    (LEVEL_2, b"plan,400A01,400B02\nend\n", 62),
+    (
+        LEVEL_2,
+        b"plan,400A01,400B02\nfate,400A01,400B02,1,0,00\nend\n",
+        62,
+    ),
+];
 
 // Whether a recording is legal, and has this many commits.
 fn is_judged_legal<R: Threads + Wait + Sync + Alloc<A = Global>>(
@@ -32,54 +78,21 @@ fn is_legal<R: Threads + Wait + Sync + Alloc<A = Global>>(
     is_judged_legal(rt, played.sink.bytes(), commits)
 }
 
-// How many lines the report of an encounter's serial run has.
-fn report_lines<R: Threads + Wait + Sync + Alloc<A = Global>>(
-    rt: &R,
-    open: &[u8],
-    rest: &[u8],
-) -> Result<u64, AllocError> {
-    let serial = recording(rt, open, rest)?;
-    Ok(lines_with(serial.as_slice(), b"r,"))
-}
-
-// What `sum` always writes of an encounter with these counts.
-fn sums_of<R: Threads + Wait + Sync + Alloc<A = Global>>(
-    rt: &R,
-    row: &Row,
-) -> Result<String, AllocError> {
-    let (open, rest, [commits, sends, takes], _) = *row;
-    let lines = report_lines(rt, open, rest)?;
-    format!(in rt.alloc(); "play,{commits}\nserial,{commits},{sends},{takes},{lines}\n")
-}
-
-// Whether a text is played and summed as the row of its encounter says.
-fn is_right<R: Threads + Wait + Sync + Alloc<A = Global>>(
-    rt: &R,
-    text: &[u8],
-    row: &Row,
-) -> Result<bool, AllocError> {
-    if !is_legal(rt, text, row.2[0])? {
-        return Ok(false);
-    }
-    let sums = sums_of(rt, row)?;
-    answers(rt, "sum", text, Status::Done, sums.as_bytes())
-}
-
-fn is_right_of_row<R: Threads + Wait + Sync + Alloc<A = Global>>(
+fn is_played_legally<R: Threads + Wait + Sync + Alloc<A = Global>>(
     rt: &R,
     row: &Row,
 ) -> Result<bool, AllocError> {
     let text = joined(rt.alloc(), row.0, row.1)?;
-    is_right(rt, text.as_slice(), row)
+    is_legal(rt, text.as_slice(), row.2)
 }
 
-// The place of the first row that isn't right.
+// The place of the first row whose recording isn't so.
 fn first_other<R: Threads + Wait + Sync + Alloc<A = Global>>(
     rt: &R,
     rows: &[Row],
 ) -> Result<Option<usize>, AllocError> {
     for place in 0..rows.len() {
-        if !is_right_of_row(rt, &rows[place])? {
+        if !is_played_legally(rt, &rows[place])? {
             return Ok(Some(place));
         }
     }
@@ -87,8 +100,8 @@ fn first_other<R: Threads + Wait + Sync + Alloc<A = Global>>(
 }
 
 #[test]
-fn plays_and_sums(rt: HostRuntime) -> Result<(), Fail> {
-    assert_eq!(rt; first_other(&rt, &PLAYED)?, None);
+fn plays_in_threads(rt: HostRuntime) -> Result<(), Fail> {
+    assert_eq!(rt; first_other(&rt, PLAYED)?, None);
     Ok(())
 }
 
