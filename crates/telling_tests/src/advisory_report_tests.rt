@@ -1,6 +1,6 @@
 // Expected values: the tables of "What the crew hears" in docs/RULES.md.
-use acas_base::{Address, CRAFTS, Cell, Cells, Intent, Sense, Strength};
-use advisory_report::{Aural, Composite, aural_of, composite_of, line};
+use acas_base::{Address, Strength};
+use advisory_report::{Aural, Composite, aural_of, line};
 use std::test::Fail;
 
 const CLEAR: Composite = Composite {
@@ -167,88 +167,6 @@ const PHRASES: &[Phrase] = &[
 #[test]
 fn says_the_phrases(rt: HostRuntime) {
     assert_eq!(rt; first_unsaid(PHRASES), None);
-}
-
-const UP: Cell = Cell::Ra(Intent {
-    sense: Sense::Up,
-    strength: Strength::Positive,
-    age: 1,
-    turned: false,
-    crossing: false,
-    corrective: true,
-});
-
-const DOWN: Cell = Cell::Ra(Intent {
-    sense: Sense::Down,
-    strength: Strength::Positive,
-    age: 1,
-    turned: false,
-    crossing: false,
-    corrective: true,
-});
-
-fn cells(first: Cell, second: Cell) -> Cells {
-    let mut list = [Cell::Clear; CRAFTS];
-    list[0] = first;
-    list[1] = second;
-    Cells { list }
-}
-
-// A cycle, own address, the composite before, the cells for the first two aircraft, and the line.
-type Told = (u16, u32, Composite, Cell, Cell, &'static str);
-
-const TOLD: &[Told] = &[
-    (
-        13,
-        0x40_0A01,
-        CLEAR,
-        Cell::Clear,
-        Cell::Traffic,
-        "r,13,400A01,TRAFFIC,Traffic traffic\n",
-    ),
-    (
-        26,
-        0x40_0A01,
-        TRAFFIC,
-        Cell::Clear,
-        DOWN,
-        "r,26,400A01,DOWN-DESCEND,Descend descend\n",
-    ),
-    (
-        24,
-        0x40_0C03,
-        TRAFFIC,
-        UP,
-        DOWN,
-        "r,24,400C03,LEVEL-BOTH,Level off level off\n",
-    ),
-];
-
-fn is_told(row: &Told) -> bool {
-    let (cycle, address, before, first, second, want) = *row;
-    let Some(own) = Address::new(address) else {
-        return false;
-    };
-    match line(cycle, own, &before, &composite_of(&cells(first, second))) {
-        Some(told) => told.bytes() == want.as_bytes(),
-        None => false,
-    }
-}
-
-// The place of the first row with another line.
-fn first_untold(rows: &[Told]) -> Option<usize> {
-    for place in 0..rows.len() {
-        if !is_told(&rows[place]) {
-            return Some(place);
-        }
-    }
-    None
-}
-
-#[test]
-fn tells_lines_of_cells(rt: HostRuntime) -> Result<(), Fail> {
-    assert_eq!(rt; first_untold(TOLD), None);
-    Ok(())
 }
 
 // A strength of each sense, and the line where they are advised first.

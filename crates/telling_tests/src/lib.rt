@@ -4,15 +4,9 @@
 #[cfg(test)]
 mod advisory_report_tests;
 #[cfg(test)]
-mod comparison_tests;
-#[cfg(test)]
 mod enc_file_tests;
 #[cfg(test)]
 mod enc_gen_tests;
-#[cfg(test)]
-mod pieces_tests;
-#[cfg(test)]
-mod rec_audit_tests;
 #[cfg(test)]
 mod rec_text_tests;
 #[cfg(test)]

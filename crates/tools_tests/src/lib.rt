@@ -4,17 +4,7 @@
 #[cfg(test)]
 mod deliveries_tests;
 #[cfg(test)]
-mod followed_advice_tests;
-#[cfg(test)]
-mod instances_tests;
-#[cfg(test)]
-mod pair_watch_tests;
-#[cfg(test)]
 mod possibilities_tests;
-#[cfg(test)]
-mod ra_block_tests;
-#[cfg(test)]
-mod reasons_tests;
 #[cfg(test)]
 mod response_tests;
 #[cfg(test)]

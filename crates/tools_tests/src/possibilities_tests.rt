@@ -18,49 +18,6 @@ use report_words::Word;
 use std::alloc::Global;
 use std::test::Fail;
 
-// What is asked, and how the text ends.
-type Row = (&'static Meeting, Scope, &'static [u8]);
-
-const ROWS: &[Row] = &[
-    (
-        &LEVEL,
-        Scope::Orders,
-        b"orders,10
-o,400A01,1,12,CLEAR,a
-o,400A01,13,25,TRAFFIC,a
-o,400A01,26,31,UP-CLIMB,s
-o,400A01,26,31,DOWN-DESCEND,?
-o,400B02,1,12,CLEAR,a
-o,400B02,13,25,TRAFFIC,a
-o,400B02,26,26,UP-CLIMB,s
-o,400B02,26,26,DOWN-DESCEND,?
-o,400B02,27,31,UP-CLIMB,?
-o,400B02,27,31,DOWN-DESCEND,s
-equal,2
-e,400A01,400B02,26,26,s,1
-e,400A01,400B02,27,27,?,2
-",
-    ),
-    (
-        &LEVEL,
-        Scope::Losses,
-        b"equal,2
-e,400A01,400B02,26,26,s,1
-e,400A01,400B02,27,31,?,6
-",
-    ),
-    (
-        &REVERSAL,
-        Scope::Orders,
-        b"equal,4
-e,400A01,400B02,26,26,s,1
-e,400A01,400B02,27,27,?,2
-e,400A01,400B02,28,28,s,3
-e,400A01,400B02,29,31,?,6
-",
-    ),
-];
-
 fn whole(state: AirState) -> Result<AirState, Fail>
     ensures { IfOk result (λ state. IsComplete (air_of state.encounter) state.journal) }
 {
@@ -88,30 +45,8 @@ fn ends_so(alloc: Global, possible: &Possibilities, want: &[u8]) -> Result<bool,
     Ok(sink.bytes().ends_with(want))
 }
 
-fn is_right(alloc: Global, row: Row) -> Result<bool, Fail> {
-    let (meeting, scope, want) = row;
-    let possible = possible(alloc, met(alloc, meeting, &[], &[])?, scope)?;
-    ends_so(alloc, &possible, want)
-}
-
-// The first row of which the text ends otherwise.
-fn first_other(alloc: Global, rows: &[Row]) -> Result<Option<usize>, Fail> {
-    for at in 0..rows.len() {
-        if !is_right(alloc, rows[at])? {
-            return Ok(Some(at));
-        }
-    }
-    Ok(None)
-}
-
-#[test]
-fn lists_what_can_be(rt: HostRuntime) -> Result<(), Fail> {
-    assert_eq!(rt; first_other(rt.alloc(), ROWS)?, None);
-    Ok(())
-}
-
-// What is asked, what the run has that is shown, and how the text ends.
-type ShownRow = (&'static Meeting, Scope, Sought, &'static [u8]);
+// What is asked, what the run has that is shown, where one is shown, and how the text ends.
+type Row = (&'static Meeting, Scope, Option<Sought>, &'static [u8]);
 
 // The second one climbs in the last cycle.
 const SECOND_CLIMBS: Sought = Sought::Word {
@@ -120,15 +55,35 @@ const SECOND_CLIMBS: Sought = Sought::Word {
     word: Word::Up(Strength::Positive),
 };
 
-const SHOWN_ROWS: &[ShownRow] = &[
+const ROWS: &[Row] = &[
+    (
+        &LEVEL,
+        Scope::Losses,
+        None,
+        b"equal,2
+e,400A01,400B02,26,26,s,1
+e,400A01,400B02,27,31,?,6
+",
+    ),
+    (
+        &REVERSAL,
+        Scope::Orders,
+        None,
+        b"equal,4
+e,400A01,400B02,26,26,s,1
+e,400A01,400B02,27,27,?,2
+e,400A01,400B02,28,28,s,3
+e,400A01,400B02,29,31,?,6
+",
+    ),
     (
         &LEVEL,
         Scope::Orders,
-        Sought::Equal {
+        Some(Sought::Equal {
             one: 0,
             other: 1,
             cycles: 2,
-        },
+        }),
         b"orders,11
 o,400A01,1,12,CLEAR,a
 o,400A01,13,25,TRAFFIC,a
@@ -149,7 +104,7 @@ e,400A01,400B02,27,27,o,2
     (
         &LEVEL,
         Scope::Orders,
-        SECOND_CLIMBS,
+        Some(SECOND_CLIMBS),
         b"orders,10
 o,400A01,1,12,CLEAR,a
 o,400A01,13,25,TRAFFIC,a
@@ -169,11 +124,11 @@ e,400A01,400B02,27,27,?,2
     (
         &LEVEL,
         Scope::Losses,
-        Sought::Equal {
+        Some(Sought::Equal {
             one: 0,
             other: 1,
             cycles: 6,
-        },
+        }),
         b"equal,2
 e,400A01,400B02,26,26,s,1
 e,400A01,400B02,27,31,o,6
@@ -198,17 +153,19 @@ fn show_one(
     Ok(())
 }
 
-fn is_shown_right(alloc: Global, row: ShownRow) -> Result<bool, Fail> {
+fn is_right(alloc: Global, row: Row) -> Result<bool, Fail> {
     let (meeting, scope, sought, want) = row;
     let mut possible = possible(alloc, met(alloc, meeting, &[], &[])?, scope)?;
-    show_one(alloc, &mut possible, scope, sought)?;
+    if let Some(sought) = sought {
+        show_one(alloc, &mut possible, scope, sought)?;
+    }
     ends_so(alloc, &possible, want)
 }
 
 // The first row of which the text ends otherwise.
-fn first_other_shown(alloc: Global, rows: &[ShownRow]) -> Result<Option<usize>, Fail> {
+fn first_other(alloc: Global, rows: &[Row]) -> Result<Option<usize>, Fail> {
     for at in 0..rows.len() {
-        if !is_shown_right(alloc, rows[at])? {
+        if !is_right(alloc, rows[at])? {
             return Ok(Some(at));
         }
     }
@@ -217,7 +174,7 @@ fn first_other_shown(alloc: Global, rows: &[ShownRow]) -> Result<Option<usize>, 
 
 #[test]
 fn marks_what_runs_show(rt: HostRuntime) -> Result<(), Fail> {
-    assert_eq!(rt; first_other_shown(rt.alloc(), SHOWN_ROWS)?, None);
+    assert_eq!(rt; first_other(rt.alloc(), ROWS)?, None);
     Ok(())
 }
 
