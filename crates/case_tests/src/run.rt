@@ -77,14 +77,65 @@ fn run_all<R: Runtime + Alloc<A = Global> + Threads + Wait + Sync>(
     Ok(status)
 }
 
+// Adds the lines of a text from a first one to a last one, counted from 1.
+fn add_lines(input: &mut Vec<u8>, text: &[u8], first: u64, last: u64) -> io::Result<()> {
+    let mut number = 0u64;
+    for line in text.split_inclusive(|byte| *byte == b'\n') {
+        number = number.saturating_add(1);
+        if first <= number && number <= last {
+            input.extend_from_slice(line)?;
+        }
+    }
+    Ok(())
+}
+
+// Adds lines of a file, FIRST-LAST.
+fn add_part<R: Runtime + Alloc<A = Global>>(
+    rt: &R,
+    input: &mut Vec<u8>,
+    name: &str,
+    lines: &str,
+) -> io::Result<()> {
+    let (first, last) = needed(lines.split_once('-'))?;
+    let first = needed(first.parse::<u64>().ok())?;
+    let last = needed(last.parse::<u64>().ok())?;
+    add_lines(input, fs::read(rt, name)?.as_slice(), first, last)
+}
+
+// Adds the case's own text.
+fn add_own(input: &mut Vec<u8>, case: Case<'_>) -> io::Result<()> {
+    match case.text("input") {
+        Some(Some(lines)) => add_text(input, lines),
+        Some(None) | None => Ok(()),
+    }
+}
+
+// Adds what an item of `files` names.
+fn add_item<R: Runtime + Alloc<A = Global>>(
+    rt: &R,
+    input: &mut Vec<u8>,
+    item: &str,
+    case: Case<'_>,
+) -> io::Result<()> {
+    if item == "-" {
+        return add_own(input, case);
+    }
+    match item.split_once(':') {
+        Some((name, lines)) => add_part(rt, input, name, lines),
+        None => Ok(input.extend_from_slice(fs::read(rt, item)?.as_slice())?),
+    }
+}
+
 // What the first call reads.
 fn input_of<R: Runtime + Alloc<A = Global>>(rt: &R, case: Case<'_>) -> io::Result<Vec<u8>> {
     let mut input = Vec::new(rt.alloc());
-    for name in case.field("files: ").unwrap_or("").split_whitespace() {
-        input.extend_from_slice(fs::read(rt, name)?.as_slice())?;
+    let mut is_own_read = false;
+    for item in case.field("files: ").unwrap_or("").split_whitespace() {
+        is_own_read = is_own_read || item == "-";
+        add_item(rt, &mut input, item, case)?;
     }
-    if let Some(Some(lines)) = case.text("input") {
-        add_text(&mut input, lines)?;
+    if !is_own_read {
+        add_own(&mut input, case)?;
     }
     Ok(input)
 }

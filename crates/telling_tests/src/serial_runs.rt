@@ -1,8 +1,8 @@
 // What the tests of several tools share.
-ghost use Rattle.std.specs.Prelude.{◌≡◌, ◌++◌, IfOk};
+ghost use Rattle.std.specs.Prelude.{IfOk};
 ghost use Rattle.flight.specs.Inside.{IsInside};
 
-use acas_base::{CopyPlan, CraftSpec, Encounter, Fate, Kind, Leg, Miss};
+use acas_base::{CraftSpec, Encounter, Fate, Kind, Leg, Miss};
 use acas_io::MemSink;
 use air_journal::AirState;
 use resume::fill;
@@ -47,14 +47,6 @@ pub const LEVEL: Meeting = Meeting {
     legs: &[EAST, WEST],
 };
 
-/// Of examples/one-cycle.enc.
-pub const ONE_CYCLE: Meeting = Meeting {
-    cycles: 1,
-    kinds: (Kind::Ta, Kind::Ta),
-    alt: 35_300,
-    ..LEVEL
-};
-
 /// Of examples/reversal.enc: the second one climbs from cycle 27 on.
 pub const REVERSAL: Meeting = Meeting {
     gain: Some(1024),
@@ -70,22 +62,6 @@ pub const REVERSAL: Meeting = Meeting {
     ..LEVEL
 };
 
-/// Of examples/transponder-only.enc: the first one climbs from cycle 27 on.
-pub const TRANSPONDER: Meeting = Meeting {
-    gain: Some(1024),
-    kinds: (Kind::Xpdr, Kind::Ra),
-    legs: &[
-        EAST,
-        Leg {
-            from: 27,
-            vz: 6_000,
-            ..EAST
-        },
-        WEST,
-    ],
-    ..LEVEL
-};
-
 /// A message of the first one to the second one, without copies.
 pub const LOST: Fate = Fate {
     sender: 0,
@@ -96,9 +72,6 @@ pub const LOST: Fate = Fate {
     second: PLAIN,
     third: PLAIN,
 };
-
-/// A copy in which three bits are wrong.
-pub const DAMAGED: CopyPlan = CopyPlan { hold: 0, mask: 7 };
 
 /// The encounter of a meeting, with these missed replies, and with what becomes of its messages.
 pub fn encounter_of(
@@ -155,13 +128,4 @@ pub fn met(
 pub fn sink(alloc: Global, fails: &[u64]) -> Result<MemSink, AllocError> {
     let fails = fails.to_vec(alloc)?;
     Ok(MemSink::new(Vec::with_capacity(alloc, 80_000)?, 10_000, fails))
-}
-
-/// A text of two parts.
-pub fn joined(alloc: Global, front: &[u8], rest: &[u8]) -> Result<Vec<u8>, AllocError>
-    ensures { IfOk result (λ text. text.items ≡ front.now ++ rest.now) }
-{
-    let mut text = Vec::from_slice(alloc, front)?;
-    text.extend_from_slice(rest)?;
-    Ok(text)
 }
