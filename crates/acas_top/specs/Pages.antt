@@ -13,12 +13,13 @@ texts_of lines = map (λ (line : Bor (List ℕ)). line.now) lines
 
 -- The lines of `--help`, part by part. For the proof: only `put_help` opens this definition, since the page is long.
 unfoldable pub help_lines : List (List ℕ)
-help_lines = texts_of USAGE ++ (texts_of OF_ENCOUNTERS ++ (texts_of OF_RECORDINGS ++ (texts_of OF_NOTHING ++ (texts_of STATUSES ++ texts_of EXAMPLE))))
+help_lines =
+    map (λ line. line.now) USAGE ++ (map (λ line. line.now) OF_ENCOUNTERS ++ (map (λ line. line.now) OF_RECORDINGS ++ (map (λ line. line.now) OF_NOTHING ++ (map (λ line. line.now) STATUSES ++ (map (λ line. line.now) EXAMPLE)))))
 
--- The lines of a page, which are those of its constants.
-pub page_lines : Page → List (List ℕ)
+-- The lines of a page, which are those of its constants. For the proof: only `put_page` opens this definition.
+unfoldable pub page_lines : Page → List (List ℕ)
 page_lines Help = help_lines
-page_lines Version = texts_of VERSION
+page_lines Version = map (λ line. line.now) VERSION
 
 -- Each text fits a line.
 abbrev pub are_short : List (Bor (List ℕ)) → Bool
