@@ -39,6 +39,9 @@ const PLAYED: &[Row] = &[
     (BETWEEN, b"end\n", 75),
     // A threat with a transponder only.
     (TRANSPONDER, b"end\n", 31),
+];
+
+const PLAYED_TOO: &[Row] = &[
     // Both at one place, with gains of 0 and addresses at the ends of their range.
     (
         b"encounter,1\nrun,3,0\ngains,0,0,0,0\ncraft,000001,RA,0,0,35000\ncraft,FFFFFE,RA,0,0,35000\n",
@@ -102,6 +105,7 @@ fn first_other<R: Threads + Wait + Sync + Alloc<A = Global>>(
 #[test]
 fn plays_in_threads(rt: HostRuntime) -> Result<(), Fail> {
     assert_eq!(rt; first_other(&rt, PLAYED)?, None);
+    assert_eq!(rt; first_other(&rt, PLAYED_TOO)?, None);
     Ok(())
 }
 
