@@ -7,7 +7,7 @@ mod run;
 mod spelling;
 
 use case::Case;
-use run::{Trouble, trouble};
+use run::{Trouble, checked};
 use std::alloc::Global;
 use std::process::ExitCode;
 use std::rt::Runtime;
@@ -35,7 +35,7 @@ fn told<R: Runtime + Alloc<A = Global> + Threads + Wait + Sync>(
     case: Case<'_>,
 ) -> io::Result<u64> {
     let name = case.name();
-    match trouble(rt, case) {
+    match checked(rt, case) {
         Ok(None) => return Ok(0),
         Ok(Some(Trouble::Status(found, wanted))) => {
             println!(rt; "{file}: {name}: the status is {found}, and not {wanted}")?

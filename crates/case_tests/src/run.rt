@@ -186,7 +186,7 @@ fn needed<T>(value: Option<T>) -> io::Result<T> {
 }
 
 /// Runs a case, and gives what it does otherwise. A case that is misspelled is an error of kind `InvalidData`.
-pub fn trouble<R: Runtime + Alloc<A = Global> + Threads + Wait + Sync>(
+pub fn checked<R: Runtime + Alloc<A = Global> + Threads + Wait + Sync>(
     rt: &R,
     case: Case<'_>,
 ) -> io::Result<Option<Trouble>> {

@@ -4,22 +4,18 @@ use rec_audit::{Explained, explain};
 use std::alloc::Global;
 use std::test::Fail;
 
-const NO_BYTES: &[u8] = b"";
-
 const TOLD: &[u8] = b"line 1: this line has to be \"recording,1\", and is missing\n";
 
-fn is_told(alloc: Global, bytes: &[u8], want: &[u8]) -> Result<bool, Fail> {
-    if bytes.len() > 1_000 {
-        return Err("too long".into());
-    }
-    match explain(alloc, bytes)? {
+fn are_no_bytes_told(alloc: Global) -> Result<bool, Fail> {
+    let bytes = Vec::<u8>::new(alloc);
+    match explain(alloc, bytes.as_slice())? {
         Explained::Legal(_) => Ok(false),
-        Explained::Wrong(_, _, told) => Ok(told.bytes() == want),
+        Explained::Wrong(_, _, told) => Ok(told.bytes() == TOLD),
     }
 }
 
 #[test]
 fn no_bytes_are_told(rt: HostRuntime) -> Result<(), Fail> {
-    assert!(rt; is_told(rt.alloc(), NO_BYTES, TOLD)?);
+    assert!(rt; are_no_bytes_told(rt.alloc())?);
     Ok(())
 }
