@@ -67,8 +67,8 @@ impl Acting {
         requires scope { trails.now.scope ≡ self.old.scope }
         ensures { OnOk result (StaysFound self.old self.new) }
     {
-        for at in 0..ALL_WORDS.len() {
-            self.act_word(trails, cycle, ALL_WORDS[at])?;
+        for word in &ALL_WORDS {
+            self.act_word(trails, cycle, *word)?;
         }
         Ok(())
     }
@@ -101,8 +101,8 @@ impl Acting {
 
     // Whether something of an aircraft isn't shown in a cycle.
     fn has_open(&self, own: u8, cycle: u16) -> bool {
-        for at in 0..ALL_WORDS.len() {
-            if self.possible.is_unshown(own, cycle, ALL_WORDS[at]) {
+        for word in &ALL_WORDS {
+            if self.possible.is_unshown(own, cycle, *word) {
                 return true;
             }
         }

@@ -254,8 +254,14 @@ fn answer_found(alloc: Global, first: AirState, second: AirState) -> Result<Answ
     ensures { IfOk result (λ answer. (bytes one other : List ℕ) → IsSplit bytes one other → IsRecordingOf one first → IsRecordingOf other second
         → AnswersPlain Plain.Compare bytes (answer_status answer) (answer_text answer)) }
 {
-    let found = compare(alloc, &first, &second)?;
-    Ok(Answer::Compared(first, second, found))
+    match compare(alloc, &first, &second) {
+        Ok(found) => Ok(Answer::Compared(first, second, found)),
+        Err(error) => {
+            drop(first);
+            drop(second);
+            Err(error)
+        }
+    }
 }
 
 // The answer to `compare` after the first recording was loaded. It has `lines` lines.

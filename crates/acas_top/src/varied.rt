@@ -51,13 +51,19 @@ impl VariantRuns {
         ensures { IfOk result (λ runs. runs ≡ record { encounter = state.encounter; journal = state.journal; changes = changes.items }) }
     {
         // What all crews show in all cycles is too large to be moved with each answer.
-        let crews = Box::new(alloc, Crews::of(&state))?;
-        Ok(VariantRuns {
-            alloc,
-            state,
-            crews,
-            changes,
-        })
+        match Box::new(alloc, Crews::of(&state)) {
+            Ok(crews) => Ok(VariantRuns {
+                alloc,
+                state,
+                crews,
+                changes,
+            }),
+            Err(error) => {
+                drop(state);
+                drop(changes);
+                Err(error.into())
+            }
+        }
     }
 
     // How many changes there are.

@@ -3,8 +3,6 @@
 // has follows from the rules. Both advise to climb where neither was told of the other one's sense. The first one keeps
 // its sense, and the second one turns once it is told.
 ghost use Rattle.std.specs.Prelude.{◌≡◌, IfOk};
-ghost use Rattle.air_journal.specs.Airs.{air_of};
-ghost use Rattle.air_rules.specs.Rules.{IsComplete};
 
 use crate::serial_runs::{LEVEL, Meeting, REVERSAL, met, sink};
 use acas_base::Strength;
@@ -18,20 +16,14 @@ use report_words::Word;
 use std::alloc::Global;
 use std::test::Fail;
 
-fn whole(state: AirState) -> Result<AirState, Fail>
-    ensures { IfOk result (λ state. IsComplete (air_of state.encounter) state.journal) }
-{
-    if state.complete() {
-        Ok(state)
-    } else {
-        Err("not complete".into())
-    }
-}
-
 fn possible(alloc: Global, state: AirState, scope: Scope) -> Result<Possibilities, Fail>
     ensures { IfOk result (λ possible. possible.scope ≡ scope) }
 {
-    match Possibilities::of(alloc, whole(state)?, scope) {
+    if !state.complete() {
+        drop(state);
+        return Err("not complete".into());
+    }
+    match Possibilities::of(alloc, state, scope) {
         Ok(possible) => Ok(possible),
         Err(Stop::TooMany(_)) => Err("too many states".into()),
         Err(Stop::OutOfMemory) => Err("out of memory".into()),
@@ -48,11 +40,15 @@ fn ends_so(alloc: Global, possible: &Possibilities, want: &[u8]) -> Result<bool,
 // What is asked, what the run has that is shown, where one is shown, and how the text ends.
 type Row = (&'static Meeting, Scope, Option<Sought>, &'static [u8]);
 
+const CLIMB: Word = Word::Up(Strength::Positive);
+
+const DESCEND: Word = Word::Down(Strength::Positive);
+
 // The second one climbs in the last cycle.
 const SECOND_CLIMBS: Sought = Sought::Word {
     own: 1,
     cycle: 31,
-    word: Word::Up(Strength::Positive),
+    word: CLIMB,
 };
 
 const ROWS: &[Row] = &[
@@ -178,24 +174,61 @@ fn marks_what_runs_show(rt: HostRuntime) -> Result<(), Fail> {
     Ok(())
 }
 
+// What is asked of a mark: of a word of an aircraft in a cycle, or of equal senses of two in one.
+#[derive(Clone, Copy)]
+enum Asked {
+    Word(u8, u16, Word),
+    Equal(u8, u8, u16),
+}
+
+impl Asked {
+    fn is_unshown(self, possible: &Possibilities) -> bool {
+        match self {
+            Asked::Word(own, cycle, word) => possible.is_unshown(own, cycle, word),
+            Asked::Equal(low, high, cycle) => possible.is_equal_unshown(low, high, cycle),
+        }
+    }
+}
+
+// Before another run is shown. The last five are what the serial run has, what alone is possible, and what isn't.
+const BEFORE: &[(Asked, bool)] = &[
+    (Asked::Word(1, 31, CLIMB), true),
+    (Asked::Word(0, 26, DESCEND), true),
+    (Asked::Equal(0, 1, 27), true),
+    (Asked::Word(1, 31, DESCEND), false),
+    (Asked::Word(1, 25, Word::Traffic), false),
+    (Asked::Word(1, 25, CLIMB), false),
+    (Asked::Equal(0, 1, 26), false),
+    (Asked::Equal(0, 1, 28), false),
+];
+
+// After a run in which the second one climbs in the last cycle.
+const AFTER: &[(Asked, bool)] = &[
+    (Asked::Word(1, 31, CLIMB), false),
+    (Asked::Word(0, 26, DESCEND), false),
+    (Asked::Equal(0, 1, 27), true),
+];
+
+// The first row that isn't so.
+fn first_wrong(possible: &Possibilities, rows: &[(Asked, bool)]) -> Option<usize> {
+    rows.iter()
+        .position(|(asked, want)| asked.is_unshown(possible) != *want)
+}
+
+// The first row that isn't so before a run is shown, and the first one after it.
+fn wrong_before_and_after(alloc: Global) -> Result<(Option<usize>, Option<usize>), Fail> {
+    let state = met(alloc, &LEVEL, &[], &[])?;
+    let mut possible = possible(alloc, state, Scope::Orders)?;
+    let before = first_wrong(&possible, BEFORE);
+    let shown = show_one(alloc, &mut possible, Scope::Orders, SECOND_CLIMBS);
+    let after = first_wrong(&possible, AFTER);
+    drop(possible);
+    shown?;
+    Ok((before, after))
+}
+
 #[test]
 fn tells_what_is_unshown(rt: HostRuntime) -> Result<(), Fail> {
-    let alloc = rt.alloc();
-    let climb = Word::Up(Strength::Positive);
-    let descend = Word::Down(Strength::Positive);
-    let mut possible = possible(alloc, met(alloc, &LEVEL, &[], &[])?, Scope::Orders)?;
-    assert!(rt; possible.is_unshown(1, 31, climb));
-    assert!(rt; possible.is_unshown(0, 26, descend));
-    assert!(rt; possible.is_equal_unshown(0, 1, 27));
-    // What the serial run has, what alone is possible, and what isn't.
-    assert!(rt; !possible.is_unshown(1, 31, descend));
-    assert!(rt; !possible.is_unshown(1, 25, Word::Traffic));
-    assert!(rt; !possible.is_unshown(1, 25, climb));
-    assert!(rt; !possible.is_equal_unshown(0, 1, 26));
-    assert!(rt; !possible.is_equal_unshown(0, 1, 28));
-    show_one(alloc, &mut possible, Scope::Orders, SECOND_CLIMBS)?;
-    assert!(rt; !possible.is_unshown(1, 31, climb));
-    assert!(rt; !possible.is_unshown(0, 26, descend));
-    assert!(rt; possible.is_equal_unshown(0, 1, 27));
+    assert_eq!(rt; wrong_before_and_after(rt.alloc())?, (None, None));
     Ok(())
 }
