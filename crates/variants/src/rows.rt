@@ -1,5 +1,5 @@
 // The changes of a row.
-ghost use Rattle.std.specs.Prelude.{◌≡◌, ◌++◌, ◌∷◌, [], ◌≤◌, ◌<◌, ◌^◌, All, IfOk, OnOk, length, unsigned_abs};
+ghost use Rattle.std.specs.Prelude.{◌≡◌, ◌++◌, ◌∷◌, [], ◌≤◌, ◌<◌, ◌^◌, pos, ◌*ℤ◌, All, IfOk, OnOk, length, unsigned_abs};
 ghost use Rattle.variants.specs.Rows.{AreValues, exchanges_among, exchanges_by, exchanges_from, exchanges_of, is_ra_at, shifts_of, value_at};
 ghost use Rattle.variants.specs.Variants.{IsSmall};
 
@@ -15,6 +15,16 @@ pub struct Values {
     pub step: i32,
 }
 
+// For the proof: the bounds of a product.
+fn product(step: i32, place: u16) -> i64
+    requires step { unsigned_abs step ≤ 2000000 }
+    requires place { place < 4096 }
+    ensures value { result ≡ step *ℤ pos place }
+    ensures bound { unsigned_abs result ≤ 8190000000 }
+{
+    i64::from(step) * i64::from(place)
+}
+
 // The value at a place of the row.
 fn value_at(values: Values, place: u16) -> i64
     requires values { AreValues values }
@@ -22,7 +32,7 @@ fn value_at(values: Values, place: u16) -> i64
     ensures value { result ≡ value_at values place }
     ensures small { unsigned_abs result ≤ 2 ^ 33 }
 {
-    i64::from(values.first) + i64::from(values.step) * i64::from(place)
+    i64::from(values.first) + product(values.step, place)
 }
 
 /// A change of an aircraft for each of these values, in order. The error says that memory was wanting.

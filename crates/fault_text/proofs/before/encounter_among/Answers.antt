@@ -10,16 +10,16 @@ use Rattle.enc_file.specs.declared.record.Record.TheVariants as said
 use Rattle.enc_file.proofs.WholeText.{on-next, refused-at}
 use Rattle.fault_text.proofs.EndRefused.{one-place, passed-more, read-all, refused-as-end}
 use Rattle.fault_text.proofs.Refusals.{counted-at, refused-text}
-use Rattle.fault_text.proofs.before.encounter_before.Goals as goal
+use Rattle.fault_text.proofs.before.encounter_among.Goals as goal
 
 pub loop-left-init : goal.loop-left-init
 loop-left-init c = record {
   read = [];
-  all = sym c.of-rows.ensures.rows;
+  all = sym c.requires.rows;
   earlier = [];
   count = refl;
-  holds = c.in_ok-tables.ensures;
-  same = ap (read_from []) (sym c.of-rows.ensures.rows);
+  holds = c.requires.none;
+  same = ap (read_from []) (sym c.requires.rows);
   passed = λ more all h. h;
   left = omega arith;
   some = counted-at c.args.text.now c.args.refusal c.requires.refused;

@@ -4,7 +4,7 @@ use Rattle.enc_file.specs.Reading.{read_from, reading_of}
 use Rattle.enc_file.specs.Records.{records_of}
 use Rattle.enc_file.specs.Tables.{Holds}
 use Rattle.enc_file.specs.declared.record.Record.{Record}
-use Rattle.fault_text.proofs.before.encounter_before.Given as goal
+use Rattle.fault_text.proofs.before.encounter_among.Given as goal
 
 -- The records that were read so far stand before those that are left, and the tables hold what they say. They are the
 -- first ones of any records that begin so.
