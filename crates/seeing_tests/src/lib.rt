@@ -26,6 +26,8 @@ mod range_track_tests;
 #[cfg(test)]
 mod sens_table_tests;
 #[cfg(test)]
+mod square_track_tests;
+#[cfg(test)]
 mod svg_text_tests;
 #[cfg(test)]
 mod tau_test_tests;
