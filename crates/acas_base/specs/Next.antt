@@ -1,8 +1,8 @@
 -- What an aircraft advises against another one in its next cycle.
 use Rattle.std.specs.Prelude.{ℕ, ◌+◌, Bool, true, false, not, ◌&&◌, ◌||◌, if◌then◌else◌, nat_le, nat_lt}
-use Rattle.acas_base.specs.Choice.{chosen_sense, strongest, least_strength, strength_after, calls_for_reversal}
+use Rattle.acas_base.specs.Choice.{chosen_sense, strongest, least_strength, strength_after, has_to_reverse}
 use Rattle.acas_base.specs.Complements.{forbids}
-use Rattle.acas_base.specs.Senses.{other_sense, is_same_sense}
+use Rattle.acas_base.specs.Senses.{other_sense, holds_of}
 use Rattle.acas_base.specs.Strengths.{meets_floor}
 use Rattle.acas_base.specs.declared.advisory.Cell.{Cell}
 use Rattle.acas_base.specs.declared.advisory.Cell.TheVariants.{Clear, Traffic, Ra}
@@ -14,6 +14,7 @@ use Rattle.acas_base.specs.declared.advisory.Sense.TheVariants.{Up, Down}
 use Rattle.acas_base.specs.declared.advisory.Strength.{Strength}
 use Rattle.acas_base.specs.declared.advisory.Vrc.{Vrc}
 use Rattle.acas_base.specs.declared.advisory.Vrc.TheVariants.{Nil, NotBelow, NotAbove}
+use Rattle.acas_base.specs.declared.choice.Choice.TheVariants.{Fresh}
 use Rattle.acas_base.specs.declared.craft.Kind.{Kind}
 use Rattle.acas_base.specs.declared.craft.Kind.TheVariants as kinds
 use Rattle.acas_base.specs.declared.view.View.{View}
@@ -32,10 +33,6 @@ starting_sense view Nil = chosen_sense view
 starting_sense view NotBelow = Up
 starting_sense view NotAbove = Down
 
--- The sense crosses the other's altitude.
-abbrev pub crosses : View → Sense → Bool
-crosses view sense = not (is_same_sense sense view.side)
-
 -- An advisory of this sense, strength and age. It is corrective where own rate doesn't meet the floor of its strength.
 abbrev pub advisory : View → Sense → Strength → ℕ → Bool → Bool → Cell
 advisory view sense strength age turned crossing =
@@ -43,26 +40,26 @@ advisory view sense strength age turned crossing =
 
 -- A new advisory, of the least strength.
 abbrev pub new_advisory : View → Sense → Cell
-new_advisory view sense = advisory view sense (least_strength view sense true) 1 false (crosses view sense)
+new_advisory view sense = advisory view sense (least_strength view sense Fresh) 1 false (holds_of view.crosses sense)
 
 -- The advisory in the other sense, with the strongest strength of a fresh choice.
 abbrev pub reversal_of : Intent → View → Bool → Cell
 reversal_of before view turned =
     let sense = other_sense before.sense in
-    advisory view sense (strongest view sense true) (before.age + 1) turned (crosses view sense)
+    advisory view sense (strongest view sense Fresh) (before.age + 1) turned (holds_of view.crosses sense)
 
 -- The advisory in the same sense.
 abbrev pub continuation_of : Intent → View → Cell
 continuation_of before view = advisory view before.sense (strength_after before view) (before.age + 1) before.turned before.crossing
 
 -- An advisory that goes on changes its sense in two cases alone. Of two aircraft of kind RA the one of higher address
--- changes it where the complement in force forbids it. Any other aircraft changes it once, by a geometric reversal.
+-- changes it where the complement in force forbids it. Any other aircraft changes it once, by a reversal of its own.
 abbrev pub changes_sense : Intent → View → Vrc → Rank → Bool
 changes_sense before view complement Second = forbids complement before.sense
-changes_sense before view complement First = calls_for_reversal view before.sense && not before.turned
-changes_sense before view complement Free = calls_for_reversal view before.sense && not before.turned
+changes_sense before view complement First = has_to_reverse before view && not before.turned
+changes_sense before view complement Free = has_to_reverse before view && not before.turned
 
--- `turned` after a change of sense: a geometric reversal sets it.
+-- `turned` after a change of sense: a reversal of its own sets it.
 abbrev pub is_turned_after : Intent → Rank → Bool
 is_turned_after before Second = before.turned
 is_turned_after before First = true
@@ -80,10 +77,10 @@ traffic_cell view = if view.traffic then Traffic else Clear
 abbrev pub starting_cell : View → Vrc → Cell
 starting_cell view complement = if view.threat then new_advisory view (starting_sense view complement) else traffic_cell view
 
--- An advisory ends where own aircraft doesn't resolve any more. It also ends where it is five cycles old and there is
--- no threat.
+-- An advisory ends where own aircraft doesn't resolve any more. It also ends where it is five cycles old and doesn't
+-- last.
 abbrev pub ends : Intent → View → Bool
-ends before view = not view.resolves || (not view.threat && nat_le 5 before.age)
+ends before view = not view.resolves || (not view.lasts && nat_le 5 before.age)
 
 abbrev pub cell_after : Cell → View → Vrc → Rank → Cell
 cell_after Clear view complement rank = starting_cell view complement

@@ -4,6 +4,7 @@ use Rattle.acas_base.specs.declared.advisory.Cell.{Cell}
 use Rattle.acas_base.specs.declared.advisory.Cell.TheVariants.{Clear, Traffic, Ra}
 use Rattle.acas_base.specs.declared.advisory.Sense.{Sense}
 use Rattle.acas_base.specs.declared.advisory.Sense.TheVariants.{Up, Down}
+use Rattle.acas_base.specs.declared.choice.BySense.{BySense}
 
 abbrev pub other_sense : Sense → Sense
 other_sense Up = Down
@@ -26,3 +27,14 @@ abbrev pub has_sense : Cell → Sense → Bool
 has_sense Clear sense = false
 has_sense Traffic sense = false
 has_sense (Ra advisory) sense = is_same_sense advisory.sense sense
+
+-- A mark of each sense: of neither, of both, and of one of them.
+abbrev pub neither : BySense
+neither = record { up = false; down = false }
+
+abbrev pub both : BySense
+both = record { up = true; down = true }
+
+abbrev pub holds_of : BySense → Sense → Bool
+holds_of marks Up = marks.up
+holds_of marks Down = marks.down

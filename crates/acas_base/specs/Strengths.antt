@@ -1,10 +1,12 @@
 -- Strengths of an advisory: their order, their floors, and which are allowed (FAA, Introduction to TCAS II v7.1; the
--- floors and the heights above ground are this project's profile).
-use Rattle.std.specs.Prelude.{ℕ, Bool, true, not, ◌&&◌, ℤ, pos, neg_ℤ, int_le, nat_le, List, [], ◌∷◌}
+-- floors are this project's profile).
+use Rattle.std.specs.Prelude.{ℕ, Bool, true, false, ◌&&◌, ℤ, pos, neg_ℤ, int_le, nat_le, List, [], ◌∷◌}
 use Rattle.acas_base.specs.declared.advisory.Sense.{Sense}
 use Rattle.acas_base.specs.declared.advisory.Sense.TheVariants.{Up, Down}
 use Rattle.acas_base.specs.declared.advisory.Strength.{Strength}
 use Rattle.acas_base.specs.declared.advisory.Strength.TheVariants.{Limit2000, Limit1000, Limit500, Level, Positive, Increase}
+use Rattle.acas_base.specs.declared.choice.Choice.{Choice}
+use Rattle.acas_base.specs.declared.choice.Choice.TheVariants.{Fresh, Steady, Urgent}
 use Rattle.acas_base.specs.declared.view.View.{View}
 
 -- The place of a strength in their order, weakest first.
@@ -40,15 +42,26 @@ abbrev pub meets_floor : View → Sense → Strength → Bool
 meets_floor view Up strength = int_le (floor_of strength) view.rate
 meets_floor view Down strength = int_le view.rate (neg_ℤ (floor_of strength))
 
--- The strengths that a choice may take. A choice is fresh or it isn't. A limit is allowed only where own rate meets its
--- floor already. To climb, the aircraft has to be able to. To descend, it has to be high enough above ground: 1,100 ft
--- for 1500 ft/min, and 1,550 ft for 2500 ft/min. A fresh choice never increases.
-abbrev pub is_allowed : View → Sense → Strength → Bool → Bool
-is_allowed view sense Limit2000 fresh = meets_floor view sense Limit2000
-is_allowed view sense Limit1000 fresh = meets_floor view sense Limit1000
-is_allowed view sense Limit500 fresh = meets_floor view sense Limit500
-is_allowed view sense Level fresh = true
-is_allowed view Up Positive fresh = view.climbs
-is_allowed view Down Positive fresh = int_le (pos 1100) view.agl
-is_allowed view Up Increase fresh = not fresh && view.climbs
-is_allowed view Down Increase fresh = not fresh && int_le (pos 1550) view.agl
+-- A fresh choice goes by the first response.
+abbrev pub is_fresh : Choice → Bool
+is_fresh Fresh = true
+is_fresh Steady = false
+is_fresh Urgent = false
+
+-- An urgent choice alone may increase.
+abbrev pub may_increase : Choice → Bool
+may_increase Fresh = false
+may_increase Steady = false
+may_increase Urgent = true
+
+-- The strengths that a choice may take. A limit is allowed only where own rate meets its floor already. To climb, the
+-- aircraft has to be able to. To descend, and to descend faster, it has to be high enough above ground.
+abbrev pub is_allowed : View → Sense → Strength → Choice → Bool
+is_allowed view sense Limit2000 choice = meets_floor view sense Limit2000
+is_allowed view sense Limit1000 choice = meets_floor view sense Limit1000
+is_allowed view sense Limit500 choice = meets_floor view sense Limit500
+is_allowed view sense Level choice = true
+is_allowed view Up Positive choice = view.climbs
+is_allowed view Down Positive choice = view.descends
+is_allowed view Up Increase choice = may_increase choice && view.climbs
+is_allowed view Down Increase choice = may_increase choice && view.descends_faster

@@ -120,8 +120,9 @@ pub enum Rank {
     Free,
 }
 
-/// A resolution advisory against one aircraft. `age` is in cycles, from 1. `turned` says that its sense was reversed
-/// geometrically, `crossing` that the sense crosses the other's altitude, `corrective` that own rate has to change.
+/// A resolution advisory against one aircraft. `age` is in cycles, from 1. `turned` says that its sense was reversed,
+/// and not for a complement; `crossing` that the sense crosses the other's altitude; `corrective` that own rate has to
+/// change.
 #[derive(Clone, Copy, PartialEq, Eq)]
 pub struct Intent {
     pub sense: Sense,

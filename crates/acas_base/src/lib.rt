@@ -4,6 +4,7 @@
 mod address;
 mod advisory;
 mod checks;
+mod choice;
 mod craft;
 mod encounter;
 mod entry;
@@ -19,6 +20,7 @@ mod view;
 
 pub use address::Address;
 pub use advisory::{Cell, Cells, Intent, Rank, ResMsg, Sense, Strength, Vrc};
+pub use choice::{BySense, Choice};
 pub use craft::{
     CraftSpec, Gains, Kind, Leg, Miss, USUAL_ALTITUDE_GAINS, USUAL_RANGE_GAINS, is_active_at,
     most_crafts, some_active,

@@ -3,12 +3,7 @@ ghost use Rattle.std.specs.Prelude.{◌≡◌};
 ghost use Rattle.acas_base.specs.Choice.{strongest};
 ghost use Rattle.acas_base.specs.Strengths.{meets_floor, is_allowed};
 
-use crate::{Sense, Strength, View};
-
-// Heights above ground in ft. Below them 1500 and 2500 ft/min down aren't advised.
-const DESCEND_ABOVE: i32 = 1_100;
-
-const INCREASE_DESCENT_ABOVE: i32 = 1_550;
+use crate::{Choice, Sense, Strength, View};
 
 /// Whether own rate meets the floor of this strength already. Where it doesn't, an advisory of this sense and strength
 /// is corrective (FAA, Introduction to TCAS II v7.1).
@@ -21,10 +16,9 @@ pub fn meets_floor(view: &View, sense: Sense, strength: Strength) -> bool
     }
 }
 
-/// Whether a choice may take this strength in this sense. The choice is `fresh` where an advisory starts or changes its
-/// sense, or was weaker than `Positive` (this project's profile).
-pub fn allowed(view: &View, sense: Sense, strength: Strength, fresh: bool) -> bool
-    ensures { result ≡ is_allowed view.now sense strength fresh }
+/// Whether a choice may take this strength in this sense (this project's profiles).
+pub fn allowed(view: &View, sense: Sense, strength: Strength, choice: Choice) -> bool
+    ensures { result ≡ is_allowed view.now sense strength choice }
 {
     match strength {
         Strength::Limit2000 | Strength::Limit1000 | Strength::Limit500 => {
@@ -33,22 +27,25 @@ pub fn allowed(view: &View, sense: Sense, strength: Strength, fresh: bool) -> bo
         Strength::Level => true,
         Strength::Positive => match sense {
             Sense::Up => view.climbs,
-            Sense::Down => DESCEND_ABOVE <= view.agl,
+            Sense::Down => view.descends,
         },
-        Strength::Increase => match sense {
-            Sense::Up => !fresh && view.climbs,
-            Sense::Down => !fresh && INCREASE_DESCENT_ABOVE <= view.agl,
-        },
+        Strength::Increase => {
+            choice.may_increase()
+                && match sense {
+                    Sense::Up => view.climbs,
+                    Sense::Down => view.descends_faster,
+                }
+        }
     }
 }
 
 /// The strongest strength that a choice may take in this sense; `Level` is always allowed.
-pub fn strongest(view: &View, sense: Sense, fresh: bool) -> Strength
-    ensures { result ≡ strongest view.now sense fresh }
+pub fn strongest(view: &View, sense: Sense, choice: Choice) -> Strength
+    ensures { result ≡ strongest view.now sense choice }
 {
-    if allowed(view, sense, Strength::Increase, fresh) {
+    if allowed(view, sense, Strength::Increase, choice) {
         Strength::Increase
-    } else if allowed(view, sense, Strength::Positive, fresh) {
+    } else if allowed(view, sense, Strength::Positive, choice) {
         Strength::Positive
     } else {
         Strength::Level

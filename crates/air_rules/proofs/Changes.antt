@@ -1,7 +1,7 @@
 -- How a cell follows the one before it.
 use Rattle.std.proofs.Common.{◌≡◌, ◌≢◌, ℕ, ◌+◌, ◌<◌, ◌≤◌, Bool, true, false, not, ◌&&◌, nat_lt, cond, eqb, List, [], ◌∷◌, length, Some, sym, refl, ap, ◌∙◌, subst, arith, inl, inr, eqb-true, eq-eqb}
 use Rattle.std.proofs.lemmas.Bool.{cond_both, and_parts, not-true, cases_lt}
-use Rattle.acas_base.specs.Choice.{calls_for_reversal}
+use Rattle.acas_base.specs.Choice.{has_to_reverse}
 use Rattle.acas_base.specs.Complements.{forbidden_sense, forbids}
 use Rattle.acas_base.specs.Next.{cell_after, changes_sense, continuation_of, continuing_cell, ends, following_cell, is_turned_after, new_advisory, reversal_of, starting_cell, starting_sense, traffic_cell}
 use Rattle.acas_base.specs.Senses.{other_sense, sense_of}
@@ -76,15 +76,15 @@ yields air J lj K i j cycle cells s t b second old new apart =
 -- ---- another aircraft
 
 abbrev Reverses : View → Intent → Cell → Type 0
-Reverses v old c = (new : Intent) → c ≡ Ra new → old.sense ≢ new.sense → (calls_for_reversal v old.sense ≡ true) × (old.turned ≡ false) × (new.turned ≡ true)
+Reverses v old c = (new : Intent) → c ≡ Ra new → old.sense ≢ new.sense → (has_to_reverse old v ≡ true) × (old.turned ≡ false) × (new.turned ≡ true)
 
 reverses-quiet : (v : View) (old : Intent) → Reverses v old (traffic_cell v)
 reverses-quiet v old = cond_both v.traffic Traffic Clear (Reverses v old) (λ _ n e h. absurd (cc)) (λ _ n e h. absurd (cc))
 
-reverses-turn : (v : View) (old : Intent) → Reverses v old (cond (calls_for_reversal v old.sense && not old.turned) (reversal_of old v true) (continuation_of old v))
+reverses-turn : (v : View) (old : Intent) → Reverses v old (cond (has_to_reverse old v && not old.turned) (reversal_of old v true) (continuation_of old v))
 reverses-turn v old =
-    cond_both (calls_for_reversal v old.sense && not old.turned) (reversal_of old v true) (continuation_of old v) (Reverses v old)
-    (λ h new e n. let parts = and_parts (calls_for_reversal v old.sense) (not old.turned) h in (parts.0, not-true _ parts.1, cc))
+    cond_both (has_to_reverse old v && not old.turned) (reversal_of old v true) (continuation_of old v) (Reverses v old)
+    (λ h new e n. let parts = and_parts (has_to_reverse old v) (not old.turned) h in (parts.0, not-true _ parts.1, cc))
     (λ h new e n. absurd (n (cc)))
 
 reverses-on : (v : View) (r : Vrc) (k : Rank) (old : Intent) → k ≢ Second → Reverses v old (continuing_cell old v r k)

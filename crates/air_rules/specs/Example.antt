@@ -5,7 +5,7 @@ use Rattle.std.specs.Prelude.{◌≡◌, ℕ, zero, suc, ◌+◌, ◌*◌, Bool,
 use Rattle.std.specs.List.{range_with_len}
 use Rattle.acas_base.specs.Complements.{forbidden_sense}
 use Rattle.acas_base.specs.Encounter.{plain_copy}
-use Rattle.acas_base.specs.Senses.{sense_of}
+use Rattle.acas_base.specs.Senses.{both, neither, sense_of}
 use Rattle.acas_base.specs.declared.advisory.Cell.{Cell}
 use Rattle.acas_base.specs.declared.advisory.Cell.TheVariants.{Clear, Ra}
 use Rattle.acas_base.specs.declared.advisory.ResMsg.{ResMsg}
@@ -42,13 +42,22 @@ view_of active = record {
   traffic = active;
   resolves = active;
   threat = active;
+  lasts = active;
+  far = false;
   climbs = active;
+  descends = active;
+  descends_faster = active;
   side = Up;
+  crosses = record { up = false; down = active };
   halves = 70;
+  hurries = both;
+  chases = neither;
+  settled_at = 5;
+  looks_ahead = false;
   alim = pos 614400;
+  enough = pos 614400;
   gap = pos 0;
   rate = pos 0;
-  agl = pos 35000;
   first = separations;
   later = separations;
 }

@@ -1,6 +1,6 @@
 -- Who changes its sense and why, how advisories start, and how long two senses can be equal.
 use Rattle.std.specs.Prelude.{◌≡◌, ◌≢◌, ◌⊎◌, ℕ, ◌+◌, ◌≤◌, Bool, true, false, ◌&&◌, ◌==◌, List, ◌∷◌, length, Some}
-use Rattle.acas_base.specs.Choice.{calls_for_reversal}
+use Rattle.acas_base.specs.Choice.{has_to_reverse}
 use Rattle.acas_base.specs.Complements.{forbidden_sense}
 use Rattle.acas_base.specs.Senses.{sense_of, has_sense}
 use Rattle.acas_base.specs.declared.advisory.Cell.TheVariants.{Ra}
@@ -24,13 +24,13 @@ YieldsOnlyWhereForbidden air journal = (earlier : List Entry) (own other cycle :
     sense_of (last_cell earlier own other) ≡ Some old → sense_of (cell_at cells other) ≡ Some new → old ≢ new →
     forbidden_sense (complement_from air earlier own other) ≡ Some old
 
--- A geometric reversal was called for, and it is the advisory's first.
+-- The advisory had to change its sense, by geometry or since it was in a chase, and it is its first reversal.
 pub record IsReversal (air : Air) (earlier : List Entry) (own other : ℕ) (old new : Intent) : Type 0 where
-  pub called_for : calls_for_reversal (air.view own other (commits earlier own + 1)) old.sense ≡ true
+  pub called_for : has_to_reverse old (air.view own other (commits earlier own + 1)) ≡ true
   pub first : old.turned ≡ false
   pub noted : new.turned ≡ true
 
--- An aircraft that doesn't give way changes the sense of an advisory only by a geometric reversal, once.
+-- An aircraft that doesn't give way changes the sense of an advisory only by a reversal of its own, once.
 abbrev pub ReversesOnce : Air → List Entry → Type 0
 ReversesOnce air journal = (earlier : List Entry) (own other cycle : ℕ) (cells : Cells) (old new : Intent) →
     Begins (Commit own cycle cells ∷ earlier) journal → rank_of air own other ≢ Second →

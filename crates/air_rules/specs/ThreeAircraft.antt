@@ -2,8 +2,9 @@
 -- the first one advises against both others: up against the second, and down against the third. In the third cycle the
 -- advisory against the second one ends. There the second one descends. It would choose to climb, but the first one
 -- asked it not to pass above. The third one climbs.
-use Rattle.std.specs.Prelude.{◌≡◌, ℕ, zero, suc, Bool, true, false, ◌&&◌, if◌then◌else◌, ◌==◌, List, [], ◌∷◌, ◌++◌, reverse, take, Option, Some, None, pos}
+use Rattle.std.specs.Prelude.{◌≡◌, ℕ, zero, suc, Bool, true, false, not, ◌&&◌, if◌then◌else◌, ◌==◌, List, [], ◌∷◌, ◌++◌, reverse, take, Option, Some, None, pos}
 use Rattle.acas_base.specs.Encounter.{plain_copy}
+use Rattle.acas_base.specs.Senses.{both, is_same_sense, neither}
 use Rattle.acas_base.specs.declared.advisory.Cell.{Cell}
 use Rattle.acas_base.specs.declared.advisory.Cell.TheVariants.{Clear, Traffic}
 use Rattle.acas_base.specs.declared.advisory.Sense.{Sense}
@@ -28,13 +29,22 @@ view_with traffic resolves threat side = record {
   traffic = traffic;
   resolves = resolves;
   threat = threat;
+  lasts = threat;
+  far = false;
   climbs = true;
+  descends = true;
+  descends_faster = true;
   side = side;
+  crosses = record { up = not (is_same_sense Up side); down = not (is_same_sense Down side) };
   halves = 70;
+  hurries = both;
+  chases = neither;
+  settled_at = 5;
+  looks_ahead = false;
   alim = pos 614400;
+  enough = pos 614400;
   gap = pos 0;
   rate = pos 0;
-  agl = pos 35000;
   first = separations;
   later = separations;
 }

@@ -1,14 +1,14 @@
 // The next cell of a pair.
 ghost use Rattle.std.specs.Prelude.{◌≡◌, ◌<◌};
-ghost use Rattle.acas_base.specs.Next.{starting_sense, crosses, advisory, new_advisory, reversal_of, continuation_of, changes_sense, is_turned_after, continuing_cell, traffic_cell, starting_cell, ends, cell_after, following_cell};
+ghost use Rattle.acas_base.specs.Next.{starting_sense, advisory, new_advisory, reversal_of, continuation_of, changes_sense, is_turned_after, continuing_cell, traffic_cell, starting_cell, ends, cell_after, following_cell};
 ghost use Rattle.acas_base.specs.declared.advisory.Intent.{Intent};
 
-use acas_base::{Cell, Intent, Rank, Sense, Strength, View, Vrc, meets_floor, strongest};
-use reversal::turns;
+use acas_base::{Cell, Choice, Intent, Rank, Sense, Strength, View, Vrc, meets_floor, strongest};
+use reversal::has_to_reverse;
 use sense_pick::pick;
 use strength_pick::{least, next_strength};
 
-// From this age on, in cycles, an advisory ends where there is no threat.
+// From this age on, in cycles, an advisory ends where it doesn't last.
 const ENDS_FROM: u16 = 5;
 
 // The sense in which an advisory starts. A complement in force decides it, whatever the rank.
@@ -20,13 +20,6 @@ fn starting_sense(view: &View, rac: Vrc) -> Sense
         Vrc::NotBelow => Sense::Up,
         Vrc::NotAbove => Sense::Down,
     }
-}
-
-// The sense crosses the other's altitude.
-fn crosses(view: &View, sense: Sense) -> bool
-    ensures { result ≡ crosses view.now sense }
-{
-    sense != view.side
 }
 
 // An advisory. It is corrective where own rate doesn't meet its floor.
@@ -54,8 +47,15 @@ fn advisory(
 fn new_advisory(view: &View, sense: Sense) -> Cell
     ensures { result ≡ new_advisory view.now sense }
 {
-    let strength = least(view, sense, true);
-    advisory(view, sense, strength, 1, false, crosses(view, sense))
+    let strength = least(view, sense, Choice::Fresh);
+    advisory(
+        view,
+        sense,
+        strength,
+        1,
+        false,
+        view.crosses.holds_of(sense),
+    )
 }
 
 // The advisory in the other sense.
@@ -64,14 +64,14 @@ fn reversal_of(prev: &Intent, view: &View, turned: bool) -> Cell
     ensures { result ≡ reversal_of prev.now view.now turned }
 {
     let sense = prev.sense.other();
-    let strength = strongest(view, sense, true);
+    let strength = strongest(view, sense, Choice::Fresh);
     advisory(
         view,
         sense,
         strength,
         prev.age + 1,
         turned,
-        crosses(view, sense),
+        view.crosses.holds_of(sense),
     )
 }
 
@@ -92,18 +92,17 @@ fn continuation_of(prev: &Intent, view: &View) -> Cell
 }
 
 /// Whether an advisory that goes on changes its sense. A `Second` aircraft changes it where the complement in force
-/// forbids it. Any other aircraft changes it once, by a geometric reversal.
+/// forbids it. Any other aircraft changes it once, by a reversal of its own.
 pub fn changes_sense(prev: &Intent, view: &View, rac: Vrc, rank: Rank) -> bool
     ensures { result ≡ changes_sense prev.now view.now rac rank }
 {
     match rank {
         Rank::Second => rac.forbids(prev.sense),
-        Rank::First | Rank::Free => turns(view, prev.sense) && !prev.turned,
+        Rank::First | Rank::Free => has_to_reverse(prev, view) && !prev.turned,
     }
 }
 
-// A geometric reversal is noted, and isn't made a second time. A change of sense for a complement isn't a geometric
-// reversal.
+// A reversal of its own is noted, and isn't made a second time. A change of sense for a complement isn't one.
 fn is_turned_after(prev: &Intent, rank: Rank) -> bool
     ensures { result ≡ is_turned_after prev.now rank }
 {
@@ -146,11 +145,11 @@ fn starting_cell(view: &View, rac: Vrc) -> Cell
 }
 
 /// Whether an advisory ends: own aircraft doesn't resolve any more, or the advisory is at least five cycles old and
-/// there is no threat.
+/// doesn't last.
 pub fn ends(prev: &Intent, view: &View) -> bool
     ensures { result ≡ ends prev.now view.now }
 {
-    !view.resolves || (!view.threat && prev.age >= ENDS_FROM)
+    !view.resolves || (!view.lasts && prev.age >= ENDS_FROM)
 }
 
 fn cell_after(prev: &Cell, view: &View, rac: Vrc, rank: Rank) -> Cell
@@ -178,9 +177,9 @@ fn cell_after(prev: &Cell, view: &View, rac: Vrc, rank: Rank) -> Cell
 /// - Without tracks it is Clear.
 /// - A threat starts an advisory. A complement in force decides its sense, whatever the rank. Without one it starts in
 ///   the chosen sense.
-/// - An advisory ends where own aircraft doesn't resolve any more, and from an age of five cycles on where there is no
-///   threat. Else it goes on. A `Second` aircraft changes its sense where the complement forbids it. Any other aircraft
-///   does so once, by a geometric reversal.
+/// - An advisory ends where own aircraft doesn't resolve any more, and from an age of five cycles on where it doesn't
+///   last. Else it goes on. A `Second` aircraft changes its sense where the complement forbids it. Any other aircraft
+///   does so once, by a reversal of its own.
 /// - Where no advisory starts or goes on, it is Traffic where the tests of a traffic advisory hold, else Clear.
 #[inline(always)]
 pub fn next_cell(prev: &Cell, view: &View, rac: Vrc, rank: Rank) -> Cell

@@ -7,11 +7,13 @@ use Rattle.std.proofs.lemmas.Int.{ints, clamps}
 use Rattle.acas_base.specs.Choice.{separation_of}
 use Rattle.acas_base.specs.Encounter.{Parts}
 use Rattle.acas_base.specs.Limits.{LimitsAskForOwnRate}
-use Rattle.acas_base.specs.Strengths.{floor_of, meets_floor, place_of, weakest_first}
+use Rattle.acas_base.specs.Strengths.{floor_of, is_fresh, meets_floor, place_of, weakest_first}
 use Rattle.acas_base.specs.declared.advisory.Sense.{Sense}
 use Rattle.acas_base.specs.declared.advisory.Sense.TheVariants.{Down, Up}
 use Rattle.acas_base.specs.declared.advisory.Strength.{Strength}
 use Rattle.acas_base.specs.declared.advisory.Strength.TheVariants.{Limit2000, Limit1000, Limit500, Level, Positive, Increase}
+use Rattle.acas_base.specs.declared.choice.Choice.{Choice}
+use Rattle.acas_base.specs.declared.choice.Choice.TheVariants.{Fresh, Steady, Urgent}
 use Rattle.acas_base.specs.declared.craft.CraftSpec.{CraftSpec}
 use Rattle.acas_base.specs.declared.level.Row.{Row}
 use Rattle.acas_base.specs.declared.view.View.{View}
@@ -61,20 +63,25 @@ at-place f Level = refl
 at-place f Positive = refl
 at-place f Increase = refl
 
-separation-read : (me : OwnAircraft) (m : Motion) (row : Row) (sense : Sense) (fresh : Bool) (strength : Strength)
-    → separation_of (resolving_view me m row) sense strength fresh ≡ separation m (halves_to m.range row) (cond fresh first_response later_response) sense strength
+abbrev response_of : Choice → Response
+response_of choice = cond (is_fresh choice) first_response later_response
+
+separation-read : (me : OwnAircraft) (m : Motion) (row : Row) (sense : Sense) (choice : Choice) (strength : Strength)
+    → separation_of (resolving_view me m row) sense strength choice ≡ separation m (halves_to m.range row) (response_of choice) sense strength
 unfolding separations
-separation-read me m row Up true strength = at-place (separation m (halves_to m.range row) first_response Up) strength
-separation-read me m row Up false strength = at-place (separation m (halves_to m.range row) later_response Up) strength
-separation-read me m row Down true strength = at-place (separation m (halves_to m.range row) first_response Down) strength
-separation-read me m row Down false strength = at-place (separation m (halves_to m.range row) later_response Down) strength
+separation-read me m row Up Fresh strength = at-place (separation m (halves_to m.range row) first_response Up) strength
+separation-read me m row Up Steady strength = at-place (separation m (halves_to m.range row) later_response Up) strength
+separation-read me m row Up Urgent strength = at-place (separation m (halves_to m.range row) later_response Up) strength
+separation-read me m row Down Fresh strength = at-place (separation m (halves_to m.range row) first_response Down) strength
+separation-read me m row Down Steady strength = at-place (separation m (halves_to m.range row) later_response Down) strength
+separation-read me m row Down Urgent strength = at-place (separation m (halves_to m.range row) later_response Down) strength
 
 limits-resolving : (me : OwnAircraft) (m : Motion) (row : Row) → LimitsAskForOwnRate (resolving_view me m row)
-limits-resolving me m row sense fresh limit is met =
+limits-resolving me m row sense choice limit is met =
     let own = asked-met (resolving_view me m row) sense limit met in
-    separation-read me m row sense fresh limit
-    ∙ alike m (halves_to m.range row) (cond fresh first_response later_response) sense limit Limit2000 own (meets-lower sense Limit2000 limit m.own.rate (lowest limit) own)
-    ∙ sym (separation-read me m row sense fresh Limit2000)
+    separation-read me m row sense choice limit
+    ∙ alike m (halves_to m.range row) (response_of choice) sense limit Limit2000 own (meets-lower sense Limit2000 limit m.own.rate (lowest limit) own)
+    ∙ sym (separation-read me m row sense choice Limit2000)
 
 -- A view that isn't tested, or doesn't resolve, has no separations.
 none-at : (strength : Strength) → get_or (replicate 6 (pos 0)) (place_of strength) (pos 0) ≡ pos 0
@@ -85,14 +92,16 @@ none-at Level = refl
 none-at Positive = refl
 none-at Increase = refl
 
-plain-read : (tested traffic resolves : Bool) (sense : Sense) (fresh : Bool) (strength : Strength) → separation_of (plain_view tested traffic resolves) sense strength fresh ≡ pos 0
-plain-read tested traffic resolves Up true strength = none-at strength
-plain-read tested traffic resolves Up false strength = none-at strength
-plain-read tested traffic resolves Down true strength = none-at strength
-plain-read tested traffic resolves Down false strength = none-at strength
+plain-read : (tested traffic resolves : Bool) (sense : Sense) (choice : Choice) (strength : Strength) → separation_of (plain_view tested traffic resolves) sense strength choice ≡ pos 0
+plain-read tested traffic resolves Up Fresh strength = none-at strength
+plain-read tested traffic resolves Up Steady strength = none-at strength
+plain-read tested traffic resolves Up Urgent strength = none-at strength
+plain-read tested traffic resolves Down Fresh strength = none-at strength
+plain-read tested traffic resolves Down Steady strength = none-at strength
+plain-read tested traffic resolves Down Urgent strength = none-at strength
 
 limits-plain : (tested traffic resolves : Bool) → LimitsAskForOwnRate (plain_view tested traffic resolves)
-limits-plain tested traffic resolves sense fresh limit is met = plain-read tested traffic resolves sense fresh limit ∙ sym (plain-read tested traffic resolves sense fresh Limit2000)
+limits-plain tested traffic resolves sense choice limit is met = plain-read tested traffic resolves sense choice limit ∙ sym (plain-read tested traffic resolves sense choice Limit2000)
 
 limits-by : (me : OwnAircraft) (mine : TrackState) (tracks : Tracks) → LimitsAskForOwnRate (view_by me mine tracks)
 unfolding view_by

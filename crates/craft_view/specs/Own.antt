@@ -1,5 +1,5 @@
 -- What own aircraft brings into each of its views.
-use Rattle.std.specs.Prelude.{Bool, true, ℤ, pos, ◌-ℤ◌, int_lt, slice_index_or, IfSome, Option, Some, None}
+use Rattle.std.specs.Prelude.{Bool, true, ℤ, pos, ◌-ℤ◌, int_le, int_lt, slice_index_or, IfSome, Option, Some, None}
 use Rattle.std.specs.Option.{option_map_or}
 use Rattle.acas_base.specs.declared.craft.Kind.{Kind}
 use Rattle.acas_base.specs.declared.craft.Kind.TheVariants.{Ra, Ta, Xpdr}
@@ -21,13 +21,16 @@ resolution_row (Some Xpdr) level = None
 abbrev pub may_climb : Option ℤ → ℤ → Bool
 may_climb ceiling altitude = option_map_or (int_lt altitude) ceiling true
 
--- What follows from own kind, ceiling and altitude, and the elevation of the ground, both in ft.
+-- What follows from own kind, ceiling and altitude, and the elevation of the ground, both in ft. To descend with 1500
+-- ft/min, an aircraft has to be 1,100 ft above ground, and with 2500 ft/min 1,550 ft.
 abbrev pub own_at : Option Kind → Option ℤ → ℤ → ℤ → OwnAircraft
 own_at kind ceiling altitude elevation = record {
   traffic = (level_at altitude (altitude -ℤ elevation)).ta;
   resolution = resolution_row kind (level_at altitude (altitude -ℤ elevation));
   alim = (level_at altitude (altitude -ℤ elevation)).alim;
   climbs = may_climb ceiling altitude;
+  descends = int_le (pos 1100) (altitude -ℤ elevation);
+  descends_faster = int_le (pos 1550) (altitude -ℤ elevation);
   height = altitude -ℤ elevation;
 }
 

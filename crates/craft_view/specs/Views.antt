@@ -5,10 +5,13 @@ use Rattle.std.specs.List.{range_with_len}
 use Rattle.std.specs.Option.{option_map_or}
 use Rattle.acas_base.specs.Encounter.{Parts}
 use Rattle.acas_base.specs.Messages.{has_advisory}
+use Rattle.acas_base.specs.Senses.{both, neither}
 use Rattle.acas_base.specs.declared.TheConstants.{CRAFTS}
 use Rattle.acas_base.specs.declared.advisory.Cell.TheVariants.{Clear}
 use Rattle.acas_base.specs.declared.advisory.Cells.{Cells}
+use Rattle.acas_base.specs.declared.advisory.Sense.{Sense}
 use Rattle.acas_base.specs.declared.advisory.Sense.TheVariants.{Up, Down}
+use Rattle.acas_base.specs.declared.choice.BySense.{BySense}
 use Rattle.acas_base.specs.declared.level.Row.{Row}
 use Rattle.acas_base.specs.declared.view.Picture.{Picture}
 use Rattle.acas_base.specs.declared.view.View.{View}
@@ -29,13 +32,22 @@ plain_view tested traffic resolves = record {
   traffic = traffic;
   resolves = resolves;
   threat = false;
+  lasts = false;
+  far = false;
   climbs = false;
+  descends = false;
+  descends_faster = false;
   side = Up;
+  crosses = neither;
   halves = 0;
+  hurries = neither;
+  chases = neither;
+  settled_at = 0;
+  looks_ahead = false;
   alim = pos 0;
+  enough = pos 0;
   gap = pos 0;
   rate = pos 0;
-  agl = pos 0;
   first = zeros;
   later = zeros;
 }
@@ -48,20 +60,40 @@ no_view = plain_view false false false
 abbrev pub SayNothingFrom : ℕ → List View → Type 0
 SayNothingFrom first views = (index : ℕ) (d : View) → first ≤ index → index < CRAFTS → slice_index_or views index d ≡ no_view
 
--- A view that is tested and resolves, with the thresholds of a resolution advisory.
+-- The sense that doesn't cross the other's altitude.
+abbrev pub side_of : Motion → Sense
+side_of m = if int_le m.target.est m.own.est then Up else Down
+
+-- Each sense but one.
+abbrev pub all_but : Sense → BySense
+all_but Up = record { up = false; down = true }
+all_but Down = record { up = true; down = false }
+
+-- A view that is tested and resolves, with the thresholds of a resolution advisory. An advisory goes on as long as one
+-- would start. Each may increase, weakens from an age of five cycles on, and is reversed where it can't give ALIM. Each
+-- sense but the side crosses the other's altitude.
 abbrev pub resolving_view : OwnAircraft → Motion → Row → View
 resolving_view own m row = record {
   tested = true;
   traffic = is_hit m own.traffic;
   resolves = true;
   threat = is_hit m row;
+  lasts = is_hit m row;
+  far = false;
   climbs = own.climbs;
-  side = if int_le m.target.est m.own.est then Up else Down;
+  descends = own.descends;
+  descends_faster = own.descends_faster;
+  side = side_of m;
+  crosses = all_but (side_of m);
   halves = halves_to m.range row;
+  hurries = both;
+  chases = neither;
+  settled_at = 5;
+  looks_ahead = false;
   alim = own.alim;
+  enough = own.alim;
   gap = m.own.est -ℤ m.target.est;
   rate = m.own.rate;
-  agl = own.height;
   first = separations m (halves_to m.range row) first_response;
   later = separations m (halves_to m.range row) later_response;
 }

@@ -11,15 +11,22 @@ use acas_base::{CraftSpec, Encounter, Kind, Level, Row, is_active_at};
 use flight::Places;
 use sens_table::level_of;
 
+// Heights above ground in ft. Below them 1500 and 2500 ft/min down aren't advised (FAA, Introduction to TCAS II v7.1).
+const DESCEND_ABOVE: i32 = 1_100;
+
+const INCREASE_DESCENT_ABOVE: i32 = 1_550;
+
 /// What own aircraft brings into its views: the thresholds of a TA at own altitude; the thresholds of an RA, none where
-/// own aircraft doesn't resolve; ALIM, in 1/1024 ft; whether own aircraft may climb; and its height above ground, in
-/// ft.
+/// own aircraft doesn't resolve; ALIM, in 1/1024 ft; whether own aircraft may climb; whether it is high enough to
+/// descend, and to increase a descent; and its height above ground, in ft.
 #[derive(Clone, Copy)]
 pub struct OwnAircraft {
     pub traffic: Row,
     pub resolution: Option<Row>,
     pub alim: i64,
     pub climbs: bool,
+    pub descends: bool,
+    pub descends_faster: bool,
     pub height: i32,
 }
 
@@ -52,12 +59,15 @@ fn own_at(spec: &CraftSpec, altitude: i32, elevation: i32) -> OwnAircraft
     ensures rows { AreRows result }
 {
     let level = level_of(altitude, elevation);
+    let height = height_over(altitude, elevation);
     OwnAircraft {
         traffic: level.ta,
         resolution: resolution_row(spec.kind, &level),
         alim: level.alim,
         climbs: may_climb(spec.ceiling, altitude),
-        height: height_over(altitude, elevation),
+        descends: DESCEND_ABOVE <= height,
+        descends_faster: INCREASE_DESCENT_ABOVE <= height,
+        height,
     }
 }
 

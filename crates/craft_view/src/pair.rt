@@ -1,10 +1,10 @@
 // The view of one other aircraft.
-ghost use Rattle.std.specs.Prelude.{◌≡◌, ◌<◌, false, if◌then◌else◌, int_le, option_copied, replicate};
+ghost use Rattle.std.specs.Prelude.{◌≡◌, ◌<◌, false, option_copied, replicate};
 ghost use Rattle.acas_base.specs.declared.TheConstants.{CRAFTS};
 ghost use Rattle.craft_view.specs.Hits.{is_hit};
 ghost use Rattle.craft_view.specs.Own.{AreRows};
 ghost use Rattle.craft_view.specs.KnownTracks.{IsMotion};
-ghost use Rattle.craft_view.specs.Views.{asks_for, no_view, outline_of, plain_view, resolving_view, shown, tested_view, view_by};
+ghost use Rattle.craft_view.specs.Views.{all_but, asks_for, no_view, outline_of, plain_view, resolving_view, shown, side_of, tested_view, view_by};
 ghost use Rattle.sens_table.specs.Levels.{IsTableRow};
 
 use crate::hits::is_hit;
@@ -12,7 +12,7 @@ use crate::motion::{Motion, difference, motion_of};
 use crate::own::OwnAircraft;
 use crate::separations::{FIRST_RESPONSE, LATER_RESPONSE, approach_of, halves_to, separations};
 use crate::tracks::Tracks;
-use acas_base::{CRAFTS, Cells, Picture, Row, Sense, Seps, View};
+use acas_base::{BySense, CRAFTS, Cells, Picture, Row, Sense, Seps, View};
 use alt_track::AltTrack;
 
 // Whether the separations to an aircraft are asked for after these cells.
@@ -25,6 +25,9 @@ fn asks_for(before: Option<&Cells>, target: u8) -> bool
         None => true,
     }
 }
+
+// The age, in cycles, from which on an advisory may weaken.
+const SETTLED_AT: u16 = 5;
 
 // Puts the view of an aircraft by its tracks and the track of own altitude. Each case puts its own view, since a view
 // that the cases share is moved once more.
@@ -130,12 +133,17 @@ fn put_outline(own: &OwnAircraft, motion: &Motion, row: &Row, view: &mut View)
 {
     put_plain(view, true, is_hit(motion, &own.traffic), true);
     view.climbs = own.climbs;
+    view.descends = own.descends;
+    view.descends_faster = own.descends_faster;
     view.side = side_of(motion);
+    view.crosses = all_but(view.side);
     view.halves = halves_to(&motion.range, row);
+    view.hurries = BySense::both();
+    view.settled_at = SETTLED_AT;
     view.alim = own.alim;
+    view.enough = own.alim;
     view.gap = difference(motion.own.est, motion.target.est);
     view.rate = motion.own.rate;
-    view.agl = own.height;
 }
 
 fn resolving_view(own: &OwnAircraft, motion: &Motion, row: &Row, threat: bool) -> View
@@ -146,18 +154,28 @@ fn resolving_view(own: &OwnAircraft, motion: &Motion, row: &Row, threat: bool) -
     ensures { result ≡ resolving_view own.now motion.now row.now }
 {
     let approach = approach_of(motion, row);
+    let side = side_of(motion);
     View {
         tested: true,
         traffic: is_hit(motion, &own.traffic),
         resolves: true,
         threat,
+        lasts: threat,
+        far: false,
         climbs: own.climbs,
-        side: side_of(motion),
+        descends: own.descends,
+        descends_faster: own.descends_faster,
+        side,
+        crosses: all_but(side),
         halves: approach.halves,
+        hurries: BySense::both(),
+        chases: BySense::neither(),
+        settled_at: SETTLED_AT,
+        looks_ahead: false,
         alim: own.alim,
+        enough: own.alim,
         gap: difference(motion.own.est, motion.target.est),
         rate: motion.own.rate,
-        agl: own.height,
         first: separations(motion, &approach, FIRST_RESPONSE),
         later: separations(motion, &approach, LATER_RESPONSE),
     }
@@ -165,12 +183,28 @@ fn resolving_view(own: &OwnAircraft, motion: &Motion, row: &Row, threat: bool) -
 
 // The sense that doesn't cross the other's altitude.
 fn side_of(motion: &Motion) -> Sense
-    ensures { result ≡ (if int_le motion.now.target.est motion.now.own.est then Sense.Up else Sense.Down) }
+    ensures { result ≡ side_of motion.now }
 {
     if motion.target.est <= motion.own.est {
         Sense::Up
     } else {
         Sense::Down
+    }
+}
+
+// Each sense but one.
+fn all_but(sense: Sense) -> BySense
+    ensures { result ≡ all_but sense }
+{
+    match sense {
+        Sense::Up => BySense {
+            up: false,
+            down: true,
+        },
+        Sense::Down => BySense {
+            up: true,
+            down: false,
+        },
     }
 }
 
@@ -189,13 +223,22 @@ fn put_plain(view: &mut View, tested: bool, traffic: bool, resolves: bool)
     view.traffic = traffic;
     view.resolves = resolves;
     view.threat = false;
+    view.lasts = false;
+    view.far = false;
     view.climbs = false;
+    view.descends = false;
+    view.descends_faster = false;
     view.side = Sense::Up;
+    view.crosses = BySense::neither();
     view.halves = 0;
+    view.hurries = BySense::neither();
+    view.chases = BySense::neither();
+    view.settled_at = 0;
+    view.looks_ahead = false;
     view.alim = 0;
+    view.enough = 0;
     view.gap = 0;
     view.rate = 0;
-    view.agl = 0;
     view.first.up = [0; 6];
     view.first.down = [0; 6];
     view.later.up = [0; 6];
@@ -214,13 +257,22 @@ fn plain_view(tested: bool, traffic: bool, resolves: bool) -> View
         traffic,
         resolves,
         threat: false,
+        lasts: false,
+        far: false,
         climbs: false,
+        descends: false,
+        descends_faster: false,
         side: Sense::Up,
+        crosses: BySense::neither(),
         halves: 0,
+        hurries: BySense::neither(),
+        chases: BySense::neither(),
+        settled_at: 0,
+        looks_ahead: false,
         alim: 0,
+        enough: 0,
         gap: 0,
         rate: 0,
-        agl: 0,
         first: zeros,
         later: zeros,
     }

@@ -1,12 +1,8 @@
 // Expected values: by hand from "The next cell" and "Messages" in docs/RULES.md.
-use acas_base::{Address, Cell, Intent, Kind, Rank, ResMsg, Sense, Seps, Strength, View, Vrc};
+use crate::threat::THREAT;
+use acas_base::{Address, Cell, Intent, Kind, Rank, ResMsg, Sense, Strength, Vrc};
 use coord_core::{next_cell, next_message, rank_of};
 use std::test::Fail;
-
-const NONE: Seps = Seps {
-    up: [0; 6],
-    down: [0; 6],
-};
 
 // An advisory that asks for another rate.
 const UP: Cell = Cell::Ra(Intent {
@@ -72,23 +68,6 @@ fn owes_messages(rt: HostRuntime) -> Result<(), Fail> {
     assert_eq!(rt; first_other(own, &OWED), None);
     Ok(())
 }
-
-// A threat at own level, 100 ft below.
-const THREAT: View = View {
-    tested: true,
-    traffic: true,
-    resolves: true,
-    threat: true,
-    climbs: true,
-    side: Sense::Up,
-    halves: 50,
-    alim: 600 * 1_024,
-    gap: 100 * 1_024,
-    rate: 0,
-    agl: 35_000,
-    first: NONE,
-    later: NONE,
-};
 
 const RANKS: [Rank; 3] = [Rank::First, Rank::Second, Rank::Free];
 

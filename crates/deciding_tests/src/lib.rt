@@ -11,3 +11,5 @@ mod reversal_tests;
 mod sense_pick_tests;
 #[cfg(test)]
 mod strength_pick_tests;
+#[cfg(test)]
+mod threat;

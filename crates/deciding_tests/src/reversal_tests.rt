@@ -1,4 +1,5 @@
 // Expected values: by hand from "Sense and strength" in docs/RULES.md.
+use crate::threat::THREAT;
 use acas_base::{Sense, Seps, View};
 use reversal::turns;
 
@@ -6,17 +7,9 @@ use reversal::turns;
 // first response gives the opposite.
 fn view(halves: u16, up: i64, down: i64) -> View {
     View {
-        tested: true,
-        traffic: true,
-        resolves: true,
-        threat: true,
-        climbs: true,
-        side: Sense::Up,
         halves,
         alim: 600,
-        gap: 0,
-        rate: 0,
-        agl: 35_000,
+        enough: 600,
         first: Seps {
             up: [700; 6],
             down: [0; 6],
@@ -25,6 +18,7 @@ fn view(halves: u16, up: i64, down: i64) -> View {
             up: [0, 0, 0, 0, 0, up],
             down: [0, 0, 0, 0, down, 0],
         },
+        ..THREAT
     }
 }
 

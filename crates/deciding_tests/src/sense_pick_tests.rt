@@ -1,8 +1,7 @@
 // Expected values: by hand from "Sense and strength" in docs/RULES.md.
+use crate::threat::{FOOT, THREAT};
 use acas_base::{Sense, Seps, View};
 use sense_pick::pick;
-
-const FOOT: i64 = 1024;
 
 // A view of an aircraft from above it, with ALIM 600 ft. The strongest fresh strength gives `up` or `down`, in 1/1024
 // ft.
@@ -12,19 +11,10 @@ fn view(up: i64, down: i64, climbs: bool) -> View {
         down: [0, 0, 0, 0, down, 0],
     };
     View {
-        tested: true,
-        traffic: true,
-        resolves: true,
-        threat: true,
         climbs,
-        side: Sense::Up,
-        halves: 50,
-        alim: 600 * FOOT,
-        gap: 0,
-        rate: 0,
-        agl: 35_000,
         first,
         later: first,
+        ..THREAT
     }
 }
 

@@ -1,22 +1,25 @@
 -- What the columns of a line say of one another.
 use Rattle.std.proofs.Common.{◌≡◌, ◌∙◌, ℕ, ◌*◌, ◌/◌, ◌≤◌, Bool, true, false, List, Option, Some, None, arith, refl, sym, ap, ap₂, subst}
-use Rattle.std.specs.Prelude.{◌&&◌, ℤ, pos, ◌*ℤ◌, ◌+ℤ◌, ◌-ℤ◌, ◌≤ℤ◌, ◌<ℤ◌, IfSome, if◌then◌else◌, int_le, is_some, nat_le, not, option_map, unsigned_abs}
+use Rattle.std.specs.Prelude.{◌&&◌, ◌||◌, ℤ, pos, ◌*ℤ◌, ◌+ℤ◌, ◌-ℤ◌, ◌≤ℤ◌, ◌<ℤ◌, IfSome, if◌then◌else◌, int_le, int_lt, is_some, nat_le, option_map, unsigned_abs}
 use Rattle.std.specs.Option.{option_map_or}
 use Rattle.std.proofs.lemmas.Bool.Decides.{nat_tests}
 use Rattle.std.proofs.lemmas.Int.{ints}
-use Rattle.acas_base.specs.Choice.{calls_for_reversal, chosen_sense, gives_alim, separation_of, strongest, weakens as weakens_to_level}
+use Rattle.acas_base.specs.Choice.{calls_for_reversal, chosen_sense, gives_alim, has_alim, has_enough_by_level, has_to_reverse, is_chase, separation_of, strongest, weakens as weakens_to_level}
 use Rattle.acas_base.specs.Encounter.{IsEncounter, Parts}
 use Rattle.acas_base.specs.Next.{new_advisory}
-use Rattle.acas_base.specs.Senses.{other_sense, sense_of}
+use Rattle.acas_base.specs.Senses.{holds_of, neither, other_sense, sense_of}
 use Rattle.acas_base.specs.declared.advisory.Cell.{Cell}
 use Rattle.acas_base.specs.declared.advisory.Cell.TheVariants as cells
 use Rattle.acas_base.specs.declared.advisory.Cells.{Cells}
 use Rattle.acas_base.specs.declared.advisory.Intent.{Intent}
 use Rattle.acas_base.specs.declared.advisory.Rank.{Rank}
 use Rattle.acas_base.specs.declared.advisory.Sense.{Sense}
+use Rattle.acas_base.specs.declared.advisory.Sense.TheVariants.{Down, Up}
 use Rattle.acas_base.specs.declared.advisory.Vrc.{Vrc}
 use Rattle.acas_base.specs.declared.entry.Entry.{Entry}
 use Rattle.acas_base.specs.declared.level.Row.{Row}
+use Rattle.acas_base.specs.declared.choice.BySense.{BySense}
+use Rattle.acas_base.specs.declared.choice.Choice.TheVariants.{Fresh, Steady, Urgent}
 use Rattle.acas_base.specs.declared.view.View.{View}
 use Rattle.acas_num.proofs.Quotients.{quotient}
 use Rattle.air_journal.specs.Airs.{air_of}
@@ -26,8 +29,8 @@ use Rattle.craft_view.specs.Sight.{sight_of}
 use Rattle.craft_view.specs.Views.{plain_view, resolving_view, tested_view}
 use Rattle.craft_view.specs.declared.motion.Motion.{Motion}
 use Rattle.craft_view.specs.declared.own.OwnAircraft.{OwnAircraft}
-use Rattle.reasons.proofs.Explaining.{both, commit-explained, not-so}
-use Rattle.reasons.proofs.Sighted.{IsSighted, alim-whole, sighted, threat-projects, view_by_motion}
+use Rattle.reasons.proofs.Explaining.{both, commit-explained}
+use Rattle.reasons.proofs.Sighted.{IsPlain, IsSighted, alim-whole, plain-seen, sighted, threat-projects, view_by_motion}
 use Rattle.reasons.specs.Agreeing.{Agrees, AreAgreeing, GoesBySeconds, are_within_tau, resolves}
 use Rattle.reasons.specs.Explained.{Explains, GoesOn, IsExplained, untested, starts, starts_as_told, traffic, quiet, ends_below_level, ends_without_threat, obeys, reverses, strengthens, keeps, weakens, capped}
 use Rattle.reasons.specs.Fields.{tenths_of}
@@ -133,7 +136,7 @@ record AsksToReverse (view : View) (before : Cell) : Type 0 where
   it : Intent
   before_is : before ≡ cells.Ra it
   goes : GoesOn it view
-  calls : calls_for_reversal view it.sense ≡ true
+  calls : has_to_reverse it view ≡ true
 
 asks-to-reverse : (view : View) (complement : Vrc) (rank : Rank) (before : Cell) (rule : Rule) (cell : Cell) → Explains view complement rank before rule cell → rule ≡ Reverses → AsksToReverse view before
 asks-to-reverse view complement rank before rule cell (untested h) e = absurd cc
@@ -155,7 +158,7 @@ asks-to-reverse view complement rank before rule cell (capped goes h g f d) e = 
 abbrev AreTenths : ℤ → ℤ → Type 0
 AreTenths n q = ((q *ℤ pos 1024) ≤ℤ (pos 10 *ℤ n)) × ((pos 10 *ℤ n) <ℤ ((q +ℤ pos 1) *ℤ pos 1024))
 
-below-feet : (feet : ℕ) (n q : ℤ) → AreTenths n q → int_le (pos (feet * 1024)) n ≡ false → q <ℤ pos (10 * feet)
+below-feet : (feet : ℕ) (n q : ℤ) → AreTenths n q → int_lt n (pos (feet * 1024)) ≡ true → q <ℤ pos (10 * feet)
 below-feet feet n q is less = let lower = is.0 in grind (arith, ints)
 
 above-feet : (feet : ℕ) (n q : ℤ) → AreTenths n q → int_le (pos (feet * 1024)) n ≡ true → pos (10 * feet) ≤ℤ q
@@ -183,30 +186,54 @@ alim-in-feet : (view : View) (feet : ℕ) → view.alim ≡ pos (feet * 1024) �
 unfolding projected_of
 alim-in-feet view feet e = ap (λ (n : ℤ). unsigned_abs n / 1024) e ∙ whole-feet feet
 
-weakens-has-alim : (view : View) (it : Intent) → weakens_to_level it view ≡ true → (continued_of view it).has_alim ≡ true
-unfolding continued_of
-weakens-has-alim view it level = (both _ _ (both _ _ level).1).1
+second-of : (a b : Bool) → a ≡ false → (a || b) ≡ true → b ≡ true
+second-of true b none h = absurd cc
+second-of false b none h = h
 
-reverses-same : (view : View) (it : Intent) (feet : ℕ) → view.alim ≡ pos (feet * 1024) → calls_for_reversal view it.sense ≡ true → (continued_of view it).same_later <ℤ pos (10 * feet)
+first-of : (a b : Bool) → b ≡ false → (a || b) ≡ true → a ≡ true
+first-of true b none h = refl
+first-of false b none h = absurd cc
+
+-- Where no aircraft passes far away, an advisory weakens since its sense has ALIM.
+weakens-has-alim : (view : View) (it : Intent) → IsPlain view → weakens_to_level it view ≡ true → (continued_of view it).has_alim ≡ true
+unfolding continued_of
+weakens-has-alim view it plain level =
+    let far_or_enough = (both _ _ (both _ _ level).1).1 in
+    let enough = second-of view.far (has_enough_by_level view it.sense) plain.far far_or_enough in
+    (both (has_alim view it.sense) _ enough).0
+
+-- Where there is no chase, an advisory is reversed by geometry.
+no-chase : (view : View) (it : Intent) → view.chases ≡ neither → is_chase it view ≡ false
+no-chase view it e = ap (λ (marks : BySense). nat_le 12 it.age && holds_of marks it.sense) e ∙ none (nat_le 12 it.age) it.sense
+  where
+    none : (b : Bool) (sense : Sense) → (b && holds_of neither sense) ≡ false
+    none true Up = refl
+    none true Down = refl
+    none false sense = refl
+
+by-geometry : (view : View) (it : Intent) → IsPlain view → has_to_reverse it view ≡ true → calls_for_reversal view it.sense ≡ true
+by-geometry view it plain h = first-of (calls_for_reversal view it.sense) (is_chase it view) (no-chase view it plain.chases) h
+
+reverses-same : (view : View) (it : Intent) (feet : ℕ) → view.enough ≡ pos (feet * 1024) → calls_for_reversal view it.sense ≡ true → (continued_of view it).same_later <ℤ pos (10 * feet)
 unfolding continued_of
 reverses-same view it feet e calls =
-    let gives = not-so _ (both _ _ (both _ _ calls).1).0 in
-    let n = separation_of view it.sense (strongest view it.sense false) false in
-    below-feet feet n (tenths_of n) (tenths-are n) (subst (λ (alim : ℤ). int_le alim n ≡ false) e gives)
+    let less = (both _ _ (both _ _ calls).1).0 in
+    let n = separation_of view it.sense (strongest view it.sense Urgent) Urgent in
+    below-feet feet n (tenths_of n) (tenths-are n) (subst (λ (enough : ℤ). int_lt n enough ≡ true) e less)
 
 reverses-other : (view : View) (it : Intent) (feet : ℕ) → view.alim ≡ pos (feet * 1024) → calls_for_reversal view it.sense ≡ true → pos (10 * feet) ≤ℤ (continued_of view it).other_later
 unfolding continued_of
 reverses-other view it feet e calls =
     let gives = (both _ _ (both _ _ calls).1).1 in
     let other = other_sense it.sense in
-    let n = separation_of view other (strongest view other true) false in
+    let n = separation_of view other (strongest view other Fresh) Steady in
     above-feet feet n (tenths_of n) (tenths-are n) (subst (λ (alim : ℤ). int_le alim n ≡ true) e gives)
 
 time-left : (view : View) (sense : Sense) → calls_for_reversal view sense ≡ true → 8 ≤ (projected_of view).halves
 unfolding projected_of
 time-left view sense calls =
     let other = other_sense sense in
-    let enough = (both (nat_le 8 view.halves) (not (gives_alim view sense (strongest view sense false) false) && gives_alim view other (strongest view other true) false) calls).0 in
+    let enough = (both (nat_le 8 view.halves) (int_lt (separation_of view sense (strongest view sense Urgent) Urgent) view.enough && gives_alim view other (strongest view other Fresh) Steady) calls).0 in
     grind (arith, nat_tests)
 
 chosen-is : (view : View) → sense_of (new_advisory view (chosen_sense view)) ≡ Some (projected_of view).chosen
@@ -233,11 +260,13 @@ agrees e K own cycle made other explained =
           record {
             continued = continued_of seen.view asks.it;
             is_continued = continued-is seen.view _ asks.it asks.before_is (goes-projected seen.view asks.it asks.goes);
-            has_alim = weakens-has-alim seen.view asks.it asks.level;
+            has_alim = weakens-has-alim seen.view asks.it (plain-seen seen is) asks.level;
           };
       reverses = λ rule.
           let asks = asks-to-reverse seen.view _ _ _ _ _ explained rule in
           let there = goes-projected seen.view asks.it asks.goes in
+          let plain = plain-seen seen is in
+          let calls = by-geometry seen.view asks.it plain asks.calls in
           let alim = alim-whole seen is there in
           let feet = alim-in-feet seen.view is.feet alim in
           record {
@@ -245,9 +274,9 @@ agrees e K own cycle made other explained =
             is_projected = on-projected (is_projected seen.view) (projected_of seen.view) there;
             continued = continued_of seen.view asks.it;
             is_continued = continued-is seen.view _ asks.it asks.before_is there;
-            left = time-left seen.view asks.it.sense asks.calls;
-            same = subst (λ (n : ℕ). (continued_of seen.view asks.it).same_later <ℤ pos (10 * n)) (sym feet) (reverses-same seen.view asks.it is.feet alim asks.calls);
-            other = subst (λ (n : ℕ). pos (10 * n) ≤ℤ (continued_of seen.view asks.it).other_later) (sym feet) (reverses-other seen.view asks.it is.feet alim asks.calls);
+            left = time-left seen.view asks.it.sense calls;
+            same = subst (λ (n : ℕ). (continued_of seen.view asks.it).same_later <ℤ pos (10 * n)) (sym feet) (reverses-same seen.view asks.it is.feet (plain.enough ∙ alim) calls);
+            other = subst (λ (n : ℕ). pos (10 * n) ≤ℤ (continued_of seen.view asks.it).other_later) (sym feet) (reverses-other seen.view asks.it is.feet alim calls);
           };
     }
 

@@ -3,7 +3,7 @@ use Rattle.std.proofs.Common.{◌≡◌, ◌≢◌, ◌+◌, ◌<◌, ◌∙◌,
 use Rattle.std.specs.Prelude.{◌==◌, ◌&&◌, ◌||◌, if◌then◌else◌, nat_le, nat_lt, not}
 use Rattle.std.proofs.lemmas.Bool.Decides.{nat_tests}
 use Rattle.std.proofs.lemmas.List.FromFn.{get_or-map-range_with_len}
-use Rattle.acas_base.specs.Choice.{calls_for_reversal, is_fresh_after, strength_after, weakens as weakens_to_level}
+use Rattle.acas_base.specs.Choice.{choice_after, has_to_reverse, strength_after, weakens as weakens_to_level}
 use Rattle.acas_base.specs.Encounter.{IsEncounter, Parts}
 use Rattle.acas_base.specs.Next.{cell_after, changes_sense, continuation_of, continuing_cell, ends, following_cell, is_turned_after, new_advisory, reversal_of, starting_cell, starting_sense, traffic_cell}
 use Rattle.acas_base.specs.Strengths.{is_allowed, place_of}
@@ -81,10 +81,10 @@ starting view complement rank before none tested = go view.threat refl
 
 -- Where the next strength is weaker and doesn't weaken to Level, the strength before isn't allowed any more: else the
 -- choice would reach it.
-not-allowed : (it : Intent) (view : View) → weakens_to_level it view ≡ false → place_of (strength_after it view) < place_of it.strength → is_allowed view it.sense it.strength (is_fresh_after it.strength) ≡ false
-not-allowed it view stays less = go (is_allowed view it.sense it.strength (is_fresh_after it.strength)) refl
+not-allowed : (it : Intent) (view : View) → weakens_to_level it view ≡ false → place_of (strength_after it view) < place_of it.strength → is_allowed view it.sense it.strength (choice_after it view) ≡ false
+not-allowed it view stays less = go (is_allowed view it.sense it.strength (choice_after it view)) refl
   where
-    go : (b : Bool) → is_allowed view it.sense it.strength (is_fresh_after it.strength) ≡ b → b ≡ false
+    go : (b : Bool) → is_allowed view it.sense it.strength (choice_after it view) ≡ b → b ≡ false
     go false e = refl
     go true e = elim (next-found it view (ap not stays)) [
       | inl w ↦ (let reached = w.0.1 in absurd (omega arith))
@@ -114,8 +114,8 @@ by-strength it view complement rank goes stays = stronger (nat_lt was is) refl
 
 reversing : (it : Intent) (view : View) (complement : Vrc) (rank : Rank) → GoesOn it view → changes_sense it view complement rank ≡ true → Explains view complement rank (cells.Ra it) (turning_rule rank) (reversal_of it view (is_turned_after it rank))
 reversing it view complement Second goes turns = obeys goes refl turns
-reversing it view complement First goes turns = let h = both (calls_for_reversal view it.sense) (not it.turned) turns in reverses goes (λ e. cc) h.0 (not-so it.turned h.1)
-reversing it view complement Free goes turns = let h = both (calls_for_reversal view it.sense) (not it.turned) turns in reverses goes (λ e. cc) h.0 (not-so it.turned h.1)
+reversing it view complement First goes turns = let h = both (has_to_reverse it view) (not it.turned) turns in reverses goes (λ e. cc) h.0 (not-so it.turned h.1)
+reversing it view complement Free goes turns = let h = both (has_to_reverse it view) (not it.turned) turns in reverses goes (λ e. cc) h.0 (not-so it.turned h.1)
 
 going-on : (it : Intent) (view : View) (complement : Vrc) (rank : Rank) → GoesOn it view
     → Explains view complement rank (cells.Ra it) (if changes_sense it view complement rank then turning_rule rank else strength_rule it view) (continuing_cell it view complement rank)
@@ -133,15 +133,15 @@ advised it view complement rank tested = by_level view.resolves refl
     rest : Rule
     rest = if changes_sense it view complement rank then turning_rule rank else strength_rule it view
 
-    by_threat : (b : Bool) → (not view.threat && nat_le 5 it.age) ≡ b → view.resolves ≡ true
+    by_threat : (b : Bool) → (not view.lasts && nat_le 5 it.age) ≡ b → view.resolves ≡ true
         → Explains view complement rank (cells.Ra it) (if b then EndsWithoutThreat else rest) (if b then traffic_cell view else continuing_cell it view complement rank)
-    by_threat true e resolves = let h = both (not view.threat) (nat_le 5 it.age) e in ends_without_threat tested resolves (not-so view.threat h.0) h.1
+    by_threat true e resolves = let h = both (not view.lasts) (nat_le 5 it.age) e in ends_without_threat tested resolves (not-so view.lasts h.0) h.1
     by_threat false e resolves = going-on it view complement rank (record { tested = tested; resolves = resolves; lasts = e })
 
     by_level : (b : Bool) → view.resolves ≡ b
-        → Explains view complement rank (cells.Ra it) (if not b then EndsBelowLevel else if not b || (not view.threat && nat_le 5 it.age) then EndsWithoutThreat else rest)
-        (if not b || (not view.threat && nat_le 5 it.age) then traffic_cell view else continuing_cell it view complement rank)
-    by_level true e = by_threat (not view.threat && nat_le 5 it.age) refl e
+        → Explains view complement rank (cells.Ra it) (if not b then EndsBelowLevel else if not b || (not view.lasts && nat_le 5 it.age) then EndsWithoutThreat else rest)
+        (if not b || (not view.lasts && nat_le 5 it.age) then traffic_cell view else continuing_cell it view complement rank)
+    by_level true e = by_threat (not view.lasts && nat_le 5 it.age) refl e
     by_level false e = ends_below_level tested e
 
 -- ---- all together
@@ -219,7 +219,7 @@ from-advisory view complement rank it goes =
     let lasts = goes.lasts in
     rw (tested, resolves, lasts) (refl, refl)
 
-turned-round : (view : View) (complement : Vrc) (rank : Rank) (it : Intent) → rank ≢ Second → calls_for_reversal view it.sense ≡ true → it.turned ≡ false
+turned-round : (view : View) (complement : Vrc) (rank : Rank) (it : Intent) → rank ≢ Second → has_to_reverse it view ≡ true → it.turned ≡ false
     → (changes_sense it view complement rank ≡ true) × (turning_rule rank ≡ Reverses) × (is_turned_after it rank ≡ true)
 turned-round view complement First it other calls turned = (rw (calls, turned) refl, refl, refl)
 turned-round view complement Second it other calls turned = absurd (other refl)

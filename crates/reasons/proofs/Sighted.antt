@@ -2,6 +2,7 @@
 use Rattle.std.proofs.Common.{◌≡◌, ◌∙◌, ℕ, Bool, true, false, Option, Some, None, refl, sym, ap, subst}
 use Rattle.std.specs.Prelude.{◌*◌, ◌-ℤ◌, ℤ, if◌then◌else◌, int_lt, is_some, option_map, pos, unwrap_or}
 use Rattle.std.specs.Option.{option_map_or}
+use Rattle.acas_base.specs.Senses.{neither}
 use Rattle.acas_base.specs.declared.level.Level.{Level}
 use Rattle.acas_base.specs.declared.level.Row.{Row}
 use Rattle.acas_base.specs.declared.view.View.{View}
@@ -42,6 +43,23 @@ pub record IsSighted (seen : Seen) : Type 0 where
   pub view_is : seen.view ≡ view_by_motion seen.own.aircraft resolves seen.motion
   pub feet : ℕ
   pub alim_is : seen.own.aircraft.alim ≡ pos (feet * 1024)
+
+-- No aircraft passes far away, none is in a chase, and enough is ALIM.
+pub record IsPlain (view : View) : Type 0 where
+  pub far : view.far ≡ false
+  pub chases : view.chases ≡ neither
+  pub enough : view.enough ≡ view.alim
+
+plain-by-row : (own : OwnAircraft) (m : Motion) (o : Option Row) → IsPlain (option_map_or (resolving_view own m) o (plain_view true (is_hit m own.traffic) false))
+plain-by-row own m None = record { far = refl; chases = refl; enough = refl }
+plain-by-row own m (Some row) = record { far = refl; chases = refl; enough = refl }
+
+plain-by-motion : (own : OwnAircraft) (resolves : Bool) (o : Option Motion) → IsPlain (view_by_motion own resolves o)
+plain-by-motion own resolves None = record { far = refl; chases = refl; enough = refl }
+plain-by-motion own resolves (Some m) = plain-by-row own m own.resolution
+
+pub plain-seen : (seen : Seen) → IsSighted seen → IsPlain seen.view
+plain-seen seen is = subst IsPlain (sym is.view_is) (plain-by-motion seen.own.aircraft is.resolves seen.motion)
 
 -- ---- ALIM in whole feet
 

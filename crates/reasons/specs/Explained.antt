@@ -1,6 +1,6 @@
 -- What holds where a cell followed by a rule, and what the rule gives.
 use Rattle.std.specs.Prelude.{◌≡◌, ◌≢◌, ℕ, ◌<◌, ◌&&◌, true, false, not, nat_le, List, ◌∷◌, length}
-use Rattle.acas_base.specs.Choice.{calls_for_reversal, chosen_sense, is_fresh_after, strength_after, weakens as weakens_to_level}
+use Rattle.acas_base.specs.Choice.{choice_after, chosen_sense, has_to_reverse, strength_after, weakens as weakens_to_level}
 use Rattle.acas_base.specs.Complements.{forbids}
 use Rattle.acas_base.specs.Next.{changes_sense, continuation_of, new_advisory, reversal_of, starting_sense, traffic_cell}
 use Rattle.acas_base.specs.Strengths.{is_allowed, place_of}
@@ -30,11 +30,11 @@ AdvisesNothing cells.Clear = Unit {0}
 AdvisesNothing cells.Traffic = Unit {0}
 AdvisesNothing (cells.Ra it) = ⊥
 
--- An advisory goes on: own aircraft resolves, and there is a threat or the advisory is younger than five cycles.
+-- An advisory goes on: own aircraft resolves, and the advisory lasts or is younger than five cycles.
 pub record GoesOn (it : Intent) (view : View) : Type 0 where
   pub tested : view.tested ≡ true
   pub resolves : view.resolves ≡ true
-  pub lasts : (not view.threat && nat_le 5 it.age) ≡ false
+  pub lasts : (not view.lasts && nat_le 5 it.age) ≡ false
 
 -- After a cell, by this view, complement in force and rank, this rule applies and gives this cell.
 pub data Explains (view : View) (complement : Vrc) (rank : Rank) : Cell → Rule → Cell → Type 0 where
@@ -44,13 +44,13 @@ pub data Explains (view : View) (complement : Vrc) (rank : Rank) : Cell → Rule
   traffic : {before : Cell} → AdvisesNothing before → view.tested ≡ true → view.threat ≡ false → view.traffic ≡ true → Explains view complement rank before Traffic cells.Traffic
   quiet : {before : Cell} → AdvisesNothing before → view.tested ≡ true → view.threat ≡ false → view.traffic ≡ false → Explains view complement rank before Quiet cells.Clear
   ends_below_level : {it : Intent} → view.tested ≡ true → view.resolves ≡ false → Explains view complement rank (cells.Ra it) EndsBelowLevel (traffic_cell view)
-  ends_without_threat : {it : Intent} → view.tested ≡ true → view.resolves ≡ true → view.threat ≡ false → nat_le 5 it.age ≡ true → Explains view complement rank (cells.Ra it) EndsWithoutThreat (traffic_cell view)
+  ends_without_threat : {it : Intent} → view.tested ≡ true → view.resolves ≡ true → view.lasts ≡ false → nat_le 5 it.age ≡ true → Explains view complement rank (cells.Ra it) EndsWithoutThreat (traffic_cell view)
   obeys : {it : Intent} → GoesOn it view → rank ≡ Second → forbids complement it.sense ≡ true → Explains view complement rank (cells.Ra it) Obeys (reversal_of it view it.turned)
-  reverses : {it : Intent} → GoesOn it view → rank ≢ Second → calls_for_reversal view it.sense ≡ true → it.turned ≡ false → Explains view complement rank (cells.Ra it) Reverses (reversal_of it view true)
+  reverses : {it : Intent} → GoesOn it view → rank ≢ Second → has_to_reverse it view ≡ true → it.turned ≡ false → Explains view complement rank (cells.Ra it) Reverses (reversal_of it view true)
   strengthens : {it : Intent} → GoesOn it view → changes_sense it view complement rank ≡ false → place_of it.strength < place_of (strength_after it view) → Explains view complement rank (cells.Ra it) Strengthens (continuation_of it view)
   keeps : {it : Intent} → GoesOn it view → changes_sense it view complement rank ≡ false → place_of it.strength ≡ place_of (strength_after it view) → Explains view complement rank (cells.Ra it) Keeps (continuation_of it view)
   weakens : {it : Intent} → GoesOn it view → changes_sense it view complement rank ≡ false → place_of (strength_after it view) < place_of it.strength → weakens_to_level it view ≡ true → Explains view complement rank (cells.Ra it) Weakens (continuation_of it view)
-  capped : {it : Intent} → GoesOn it view → changes_sense it view complement rank ≡ false → place_of (strength_after it view) < place_of it.strength → weakens_to_level it view ≡ false → is_allowed view it.sense it.strength (is_fresh_after it.strength) ≡ false → Explains view complement rank (cells.Ra it) Capped (continuation_of it view)
+  capped : {it : Intent} → GoesOn it view → changes_sense it view complement rank ≡ false → place_of (strength_after it view) < place_of it.strength → weakens_to_level it view ≡ false → is_allowed view it.sense it.strength (choice_after it view) ≡ false → Explains view complement rank (cells.Ra it) Capped (continuation_of it view)
 
 -- By one view, complement and rank, and after one cell, at most one rule applies, and it gives one cell.
 abbrev pub ExplainsOnce : Type 0

@@ -1,12 +1,14 @@
 -- What a line tells of what own aircraft saw. Lengths and rates of tracks and separations are in tenths, rounded down.
-use Rattle.std.specs.Prelude.{Bool, true, false, ◌&&◌, if◌then◌else◌, ◌/◌, ◌-ℤ◌, unsigned_abs, Option, Some, None, option_map}
-use Rattle.acas_base.specs.Choice.{chosen_sense, is_fresh_after, least_strength, separation_of, strongest}
+use Rattle.std.specs.Prelude.{Bool, ◌&&◌, if◌then◌else◌, ◌/◌, ◌-ℤ◌, unsigned_abs, Option, Some, None, option_map}
+use Rattle.acas_base.specs.Choice.{choice_after, chosen_sense, has_alim, least_strength, separation_of, strongest}
 use Rattle.acas_base.specs.Senses.{other_sense}
+use Rattle.acas_base.specs.Strengths.{is_fresh}
 use Rattle.acas_base.specs.declared.advisory.Cell.{Cell}
 use Rattle.acas_base.specs.declared.advisory.Cell.TheVariants.{Clear, Traffic, Ra}
 use Rattle.acas_base.specs.declared.advisory.Intent.{Intent}
 use Rattle.acas_base.specs.declared.advisory.Sense.{Sense}
 use Rattle.acas_base.specs.declared.advisory.Sense.TheVariants.{Up, Down}
+use Rattle.acas_base.specs.declared.choice.Choice.TheVariants.{Fresh, Steady, Urgent}
 use Rattle.acas_base.specs.declared.view.View.{View}
 use Rattle.craft_view.specs.declared.motion.Motion.{Motion}
 use Rattle.craft_view.specs.declared.own.OwnAircraft.{OwnAircraft}
@@ -17,7 +19,6 @@ use Rattle.reasons.specs.declared.shown.Continued.{Continued}
 use Rattle.reasons.specs.declared.shown.Projected.{Projected}
 use Rattle.reasons.specs.declared.shown.Shown.{Shown}
 use Rattle.reasons.specs.declared.shown.Tested.{Tested}
-use Rattle.strength_pick.specs.Alim.{has_alim}
 use Rattle.test_seconds.specs.Pair.{pair_seconds}
 
 -- ---- where the pair is tested
@@ -44,7 +45,7 @@ is_projected view = view.tested && view.resolves
 
 -- The strongest allowed strength of a fresh choice, and what it gives.
 unfoldable pub best_of : View → Sense → Best
-best_of view sense = record { strength = strongest view sense true; separation = tenths_of (separation_of view sense (strongest view sense true) true) }
+best_of view sense = record { strength = strongest view sense Fresh; separation = tenths_of (separation_of view sense (strongest view sense Fresh) Fresh) }
 
 -- What the senses would give, and the sense that a new choice has.
 unfoldable pub projected_of : View → Projected
@@ -62,15 +63,15 @@ projected_of view = record {
 -- in the other one; and whether its sense has ALIM already.
 unfoldable pub continued_of : View → Intent → Continued
 continued_of view before =
-    let fresh = is_fresh_after before.strength in
-    let need = least_strength view before.sense fresh in
+    let choice = choice_after before view in
+    let need = least_strength view before.sense choice in
     let other = other_sense before.sense in
     record {
-      fresh = fresh;
+      fresh = is_fresh choice;
       need = need;
-      separation = tenths_of (separation_of view before.sense need fresh);
-      same_later = tenths_of (separation_of view before.sense (strongest view before.sense false) false);
-      other_later = tenths_of (separation_of view other (strongest view other true) false);
+      separation = tenths_of (separation_of view before.sense need choice);
+      same_later = tenths_of (separation_of view before.sense (strongest view before.sense Urgent) Urgent);
+      other_later = tenths_of (separation_of view other (strongest view other Fresh) Steady);
       has_alim = has_alim view before.sense;
     }
 

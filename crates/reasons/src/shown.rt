@@ -10,11 +10,11 @@ ghost use Rattle.test_seconds.specs.Pair.{pair_seconds};
 
 use crate::seen::Seen;
 use crate::tenths::{tenths_a_minute_of, tenths_of};
-use acas_base::{Cell, Intent, Rank, Sense, Strength, View, separation, strongest};
+use acas_base::{Cell, Choice, Intent, Rank, Sense, Strength, View, separation, strongest};
 use craft_view::{Motion, OwnAircraft};
 use flight::Meas;
 use sense_pick::pick;
-use strength_pick::{has_alim, is_fresh_after, least};
+use strength_pick::{choice_after, has_alim, least};
 use test_seconds::{TestSeconds, height_of, height_rate_of, pair_seconds};
 
 /// What own aircraft saw of a pair that is tested: what is tracked, and what the tests gave.
@@ -134,11 +134,11 @@ fn tested_if_any(own: &OwnAircraft, view: &View, motion: &Option<Motion>) -> Opt
 }
 
 // What a strength gives, in tenths of a foot.
-fn separation_in_tenths(view: &View, sense: Sense, strength: Strength, fresh: bool) -> i32
+fn separation_in_tenths(view: &View, sense: Sense, strength: Strength, choice: Choice) -> i32
     requires { IsModerate view.now }
-    ensures { result ≡ tenths_of (separation_of view.now sense strength fresh) }
+    ensures { result ≡ tenths_of (separation_of view.now sense strength choice) }
 {
-    tenths_of(separation(view, sense, strength, fresh))
+    tenths_of(separation(view, sense, strength, choice))
 }
 
 // The strongest allowed strength of a fresh choice, and what it gives.
@@ -147,10 +147,10 @@ fn best_of(view: &View, sense: Sense) -> Best
     requires { IsModerate view.now }
     ensures { result ≡ best_of view.now sense }
 {
-    let strength = strongest(view, sense, true);
+    let strength = strongest(view, sense, Choice::Fresh);
     Best {
         strength,
-        separation: separation_in_tenths(view, sense, strength, true),
+        separation: separation_in_tenths(view, sense, strength, Choice::Fresh),
     }
 }
 
@@ -188,18 +188,18 @@ fn continued_of(view: &View, before: &Intent) -> Continued
     requires { IsModerate view.now }
     ensures { result ≡ continued_of view.now before.now }
 {
-    let fresh = is_fresh_after(before.strength);
+    let choice = choice_after(before, view);
     let same = before.sense;
     let other = same.other();
-    let need = least(view, same, fresh);
-    let kept = strongest(view, same, false);
-    let turned = strongest(view, other, true);
+    let need = least(view, same, choice);
+    let kept = strongest(view, same, Choice::Urgent);
+    let turned = strongest(view, other, Choice::Fresh);
     Continued {
-        fresh,
+        fresh: choice.is_fresh(),
         need,
-        separation: separation_in_tenths(view, same, need, fresh),
-        same_later: separation_in_tenths(view, same, kept, false),
-        other_later: separation_in_tenths(view, other, turned, false),
+        separation: separation_in_tenths(view, same, need, choice),
+        same_later: separation_in_tenths(view, same, kept, Choice::Urgent),
+        other_later: separation_in_tenths(view, other, turned, Choice::Steady),
         has_alim: has_alim(view, same),
     }
 }

@@ -1,6 +1,6 @@
-//! The geometric reversal: when an advisory changes its sense.
+//! Reversals: when an advisory has to change its sense.
 #![tactic(auto)]
 
 mod geometric;
 
-pub use geometric::turns;
+pub use geometric::{has_to_reverse, is_chase, turns};

@@ -159,7 +159,7 @@ fn low(address: u32, x: i32, ceiling: i32) -> Result<CraftSpec, Fail> {
 fn is_from_the_ceiling(view: &View) -> bool {
     view.halves == 30
         && view.alim == 300 * FOOT
-        && view.agl == 1_099
+        && !view.descends
         && view.side == Sense::Down
         && view.first.down[LEVEL] == FOOT
         && view.first.up[POSITIVE] == 216 * FOOT
@@ -175,5 +175,36 @@ fn separates_two_near_the_ground(rt: HostRuntime) -> Result<(), Fail> {
     let met = meeting(rt.alloc(), 17, own, other, 200)?;
     assert!(rt; is_from_the_ceiling(&view_in(&met, 0, 1, 16)?));
     assert!(rt; view_in(&met, 1, 0, 16)?.climbs);
+    Ok(())
+}
+
+// A height above ground, and whether own aircraft is high enough to descend, and to increase a descent.
+type Height = (i32, bool, bool);
+
+const HEIGHTS: [Height; 4] = [
+    (1_099, false, false),
+    (1_100, true, false),
+    (1_549, true, false),
+    (1_550, true, true),
+];
+
+fn descends(met: &Encounter, height: Height) -> Result<bool, Fail> {
+    let (_, descends, descends_faster) = height;
+    let view = view_in(met, 0, 1, 16)?;
+    Ok(view.descends == descends && view.descends_faster == descends_faster)
+}
+
+fn descends_at(alloc: Global, height: Height) -> Result<bool, Fail> {
+    let own = aircraft(0x40_0A01, 0, height.0)?;
+    let other = aircraft(0x40_0B02, 12_000, height.0)?;
+    let met = meeting(alloc, 17, own, other, 200)?;
+    descends(&met, height)
+}
+
+#[test]
+fn descends_from_a_height(rt: HostRuntime) -> Result<(), Fail> {
+    for place in 0..HEIGHTS.len() {
+        assert!(rt; descends_at(rt.alloc(), HEIGHTS[place])?, "{place}");
+    }
     Ok(())
 }

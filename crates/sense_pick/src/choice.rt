@@ -2,13 +2,18 @@
 ghost use Rattle.std.specs.Prelude.{◌≡◌};
 ghost use Rattle.acas_base.specs.Choice.{best_separation, chosen_sense};
 
-use acas_base::{Sense, View, separation, strongest};
+use acas_base::{Choice, Sense, View, separation, strongest};
 
 // The separation, in 1/1024 ft, that the strongest allowed strength of a fresh choice gives in this sense.
 fn best_separation(view: &View, sense: Sense) -> i64
     ensures { result ≡ best_separation view.now sense }
 {
-    separation(view, sense, strongest(view, sense, true), true)
+    separation(
+        view,
+        sense,
+        strongest(view, sense, Choice::Fresh),
+        Choice::Fresh,
+    )
 }
 
 /// The chosen sense: the one that doesn't cross the other's altitude, unless it doesn't give ALIM and the other sense

@@ -2,11 +2,12 @@
 use Rattle.std.proofs.Common.{◌≡◌, ◌⊎◌, inl, inr, refl, ℕ, ◌<◌, ◌≤◌, Bool, true, false, cond, IsTrue, ◌&&◌, Option, Some, None, arith, rules, subst, sym, ◌∙◌, true≢false, leb→le}
 use Rattle.std.specs.Prelude.{find, unwrap_or, not}
 use Rattle.acas_base.specs.Strengths.{place_of, weakest_first, is_allowed, is_at_most}
-use Rattle.acas_base.specs.Choice.{strongest, least_strength, gives_alim, weakens, strength_after, is_fresh_after, reaches_both, least_of_both}
+use Rattle.acas_base.specs.Choice.{strongest, least_strength, gives_alim, weakens, strength_after, choice_after, reaches_both, least_of_both}
 use Rattle.acas_base.specs.declared.advisory.Intent.{Intent}
 use Rattle.acas_base.specs.declared.advisory.Sense.{Sense}
 use Rattle.acas_base.specs.declared.advisory.Strength.{Strength}
 use Rattle.acas_base.specs.declared.advisory.Strength.TheVariants.{Limit2000, Limit1000, Limit500, Level, Positive, Increase}
+use Rattle.acas_base.specs.declared.choice.Choice.{Choice}
 use Rattle.acas_base.specs.declared.view.View.{View}
 use Rattle.strength_pick.specs.Extremes.{IsWeakest, IsAllowed, IsStrongestAllowed, IsWeakestOrStrongest, Serves, IsLeast, Reaches, IsNext}
 
@@ -55,9 +56,9 @@ pub weakest-found : (test : Strength → Bool) (otherwise : Strength) → Found 
 weakest-found test otherwise = by-answers test otherwise (test Limit2000) (test Limit1000) (test Limit500) (test Level) (test Positive) (test Increase) refl refl refl refl refl refl
 
 -- The strongest that a choice may take.
-by-two : (view : View) (sense : Sense) (fresh : Bool) (f g : Bool) → is_allowed view sense Positive fresh ≡ f → is_allowed view sense Increase fresh ≡ g →
-    IsStrongestAllowed view sense fresh (cond g Increase (cond f Positive Level))
-by-two view sense fresh f true hf hg = (passes hg, λ other h. absurd (above other h))
+by-two : (view : View) (sense : Sense) (choice : Choice) (f g : Bool) → is_allowed view sense Positive choice ≡ f → is_allowed view sense Increase choice ≡ g →
+    IsStrongestAllowed view sense choice (cond g Increase (cond f Positive Level))
+by-two view sense choice f true hf hg = (passes hg, λ other h. absurd (above other h))
   where
     above : (other : Strength) → 5 < place_of other → ⊥
     above Limit2000 h = omega arith
@@ -66,18 +67,18 @@ by-two view sense fresh f true hf hg = (passes hg, λ other h. absurd (above oth
     above Level h = omega arith
     above Positive h = omega arith
     above Increase h = omega arith
-by-two view sense fresh true false hf hg = (passes hf, above)
+by-two view sense choice true false hf hg = (passes hf, above)
   where
-    above : (other : Strength) → 4 < place_of other → ¬ IsAllowed view sense fresh other
+    above : (other : Strength) → 4 < place_of other → ¬ IsAllowed view sense choice other
     above Limit2000 h = absurd (omega arith)
     above Limit1000 h = absurd (omega arith)
     above Limit500 h = absurd (omega arith)
     above Level h = absurd (omega arith)
     above Positive h = absurd (omega arith)
     above Increase h = fails hg
-by-two view sense fresh false false hf hg = (refl, above)
+by-two view sense choice false false hf hg = (refl, above)
   where
-    above : (other : Strength) → 3 < place_of other → ¬ IsAllowed view sense fresh other
+    above : (other : Strength) → 3 < place_of other → ¬ IsAllowed view sense choice other
     above Limit2000 h = absurd (omega arith)
     above Limit1000 h = absurd (omega arith)
     above Limit500 h = absurd (omega arith)
@@ -90,10 +91,10 @@ computed f true rest = refl
 computed true false rest = refl
 computed false false rest = refl
 
-pub strongest-found : (view : View) (sense : Sense) (fresh : Bool) → IsStrongestAllowed view sense fresh (strongest view sense fresh)
-strongest-found view sense fresh =
-    let f = is_allowed view sense Positive fresh in let g = is_allowed view sense Increase fresh in
-    subst (IsStrongestAllowed view sense fresh) (sym (computed f g None)) (by-two view sense fresh f g refl refl)
+pub strongest-found : (view : View) (sense : Sense) (choice : Choice) → IsStrongestAllowed view sense choice (strongest view sense choice)
+strongest-found view sense choice =
+    let f = is_allowed view sense Positive choice in let g = is_allowed view sense Increase choice in
+    subst (IsStrongestAllowed view sense choice) (sym (computed f g None)) (by-two view sense choice f g refl refl)
 
 -- a test of two parts.
 both : (a b : Bool) → IsTrue (a && b) → IsTrue a × IsTrue b
@@ -105,15 +106,15 @@ joined true b t u = u
 joined false b t u = absurd (fails refl t)
 
 -- a kind that a test tells.
-of-kind : (Is : Strength → Type 0) (test : Strength → Bool) (view : View) (sense : Sense) (fresh : Bool) (found : Strength) →
-    ((s : Strength) → IsTrue (test s) → Is s) → ((s : Strength) → Is s → IsTrue (test s)) → Found test (strongest view sense fresh) found → IsWeakestOrStrongest Is view sense fresh found
-of-kind Is test view sense fresh found to from (inl w) = inl (to found w.0, λ other h is. w.1 other h (from other is))
-of-kind Is test view sense fresh found to from (inr n) = inr ((λ other is. n.0 other (from other is)), subst (IsStrongestAllowed view sense fresh) (sym n.1) (strongest-found view sense fresh))
+of-kind : (Is : Strength → Type 0) (test : Strength → Bool) (view : View) (sense : Sense) (choice : Choice) (found : Strength) →
+    ((s : Strength) → IsTrue (test s) → Is s) → ((s : Strength) → Is s → IsTrue (test s)) → Found test (strongest view sense choice) found → IsWeakestOrStrongest Is view sense choice found
+of-kind Is test view sense choice found to from (inl w) = inl (to found w.0, λ other h is. w.1 other h (from other is))
+of-kind Is test view sense choice found to from (inr n) = inr ((λ other is. n.0 other (from other is)), subst (IsStrongestAllowed view sense choice) (sym n.1) (strongest-found view sense choice))
 
-pub least-found : (view : View) (sense : Sense) (fresh : Bool) → IsLeast view sense fresh (least_strength view sense fresh)
-least-found view sense fresh =
-    let test = λ (s : Strength). is_allowed view sense s fresh && gives_alim view sense s fresh in
-    of-kind (Serves view sense fresh) test view sense fresh _ (λ s t. both _ _ t) (λ s is. joined _ _ is.0 is.1) (weakest-found test (strongest view sense fresh))
+pub least-found : (view : View) (sense : Sense) (choice : Choice) → IsLeast view sense choice (least_strength view sense choice)
+least-found view sense choice =
+    let test = λ (s : Strength). is_allowed view sense s choice && gives_alim view sense s choice in
+    of-kind (Serves view sense choice) test view sense choice _ (λ s t. both _ _ t) (λ s is. joined _ _ is.0 is.1) (weakest-found test (strongest view sense choice))
 
 at-most : (one two : Strength) → IsTrue (is_at_most one two) → place_of one ≤ place_of two
 at-most one two t = leb→le (place_of one) (place_of two) (search (rules, t))
@@ -121,18 +122,18 @@ at-most one two t = leb→le (place_of one) (place_of two) (search (rules, t))
 at-most-told : (one two : Strength) → place_of one ≤ place_of two → IsTrue (is_at_most one two)
 at-most-told one two h = search (rules, h)
 
-reached : (view : View) (sense : Sense) (fresh : Bool) (one two s : Strength) → IsTrue (reaches_both view sense fresh one two s) → Reaches view sense fresh one two s
-reached view sense fresh one two s t =
-    let a = both (is_allowed view sense s fresh) (is_at_most one s && is_at_most two s) t in
+reached : (view : View) (sense : Sense) (choice : Choice) (one two s : Strength) → IsTrue (reaches_both view sense choice one two s) → Reaches view sense choice one two s
+reached view sense choice one two s t =
+    let a = both (is_allowed view sense s choice) (is_at_most one s && is_at_most two s) t in
     let b = both (is_at_most one s) (is_at_most two s) a.1 in
     (a.0, at-most one s b.0, at-most two s b.1)
 
-reached-told : (view : View) (sense : Sense) (fresh : Bool) (one two s : Strength) → Reaches view sense fresh one two s → IsTrue (reaches_both view sense fresh one two s)
-reached-told view sense fresh one two s is = joined _ _ is.0 (joined _ _ (at-most-told one s is.1) (at-most-told two s is.2))
+reached-told : (view : View) (sense : Sense) (choice : Choice) (one two s : Strength) → Reaches view sense choice one two s → IsTrue (reaches_both view sense choice one two s)
+reached-told view sense choice one two s is = joined _ _ is.0 (joined _ _ (at-most-told one s is.1) (at-most-told two s is.2))
 
-both-found : (view : View) (sense : Sense) (fresh : Bool) (one two : Strength) → IsWeakestOrStrongest (Reaches view sense fresh one two) view sense fresh (least_of_both view sense fresh one two)
-both-found view sense fresh one two =
-    of-kind (Reaches view sense fresh one two) (reaches_both view sense fresh one two) view sense fresh _ (reached view sense fresh one two) (reached-told view sense fresh one two) (weakest-found (reaches_both view sense fresh one two) (strongest view sense fresh))
+both-found : (view : View) (sense : Sense) (choice : Choice) (one two : Strength) → IsWeakestOrStrongest (Reaches view sense choice one two) view sense choice (least_of_both view sense choice one two)
+both-found view sense choice one two =
+    of-kind (Reaches view sense choice one two) (reaches_both view sense choice one two) view sense choice _ (reached view sense choice one two) (reached-told view sense choice one two) (weakest-found (reaches_both view sense choice one two) (strongest view sense choice))
 
 -- What a condition leaves.
 otherwise : (b : Bool) (one two : Strength) → IsTrue (not b) → cond b one two ≡ two
@@ -148,5 +149,5 @@ weakened before view h = indeed (weakens before view) Level _ h
 
 pub next-found : (before : Intent) (view : View) → IsTrue (not (weakens before view)) → IsNext before view (strength_after before view)
 next-found before view h =
-    let fresh = is_fresh_after before.strength in let need = least_strength view before.sense fresh in
-    subst (IsNext before view) (sym (otherwise (weakens before view) Level (least_of_both view before.sense fresh before.strength need) h)) (both-found view before.sense fresh before.strength need)
+    let choice = choice_after before view in let need = least_strength view before.sense choice in
+    subst (IsNext before view) (sym (otherwise (weakens before view) Level (least_of_both view before.sense choice before.strength need) h)) (both-found view before.sense choice before.strength need)

@@ -5,13 +5,14 @@ use Rattle.std.specs.Bool.{Decides}
 use Rattle.std.proofs.lemmas.Int.{ints}
 use Rattle.std.proofs.lemmas.Bool.{and_from, and_parts, cond_both}
 use Rattle.acas_base.specs.Strengths.{floor_of, is_allowed, is_at_most, meets_floor, weakest_first}
-use Rattle.acas_base.specs.Choice.{gives_alim, is_fresh_after, least_of_both, least_strength, reaches_both, strength_after, strongest, weakens}
+use Rattle.acas_base.specs.Choice.{choice_after, gives_alim, least_of_both, least_strength, reaches_both, strength_after, strongest, weakens}
 use Rattle.acas_base.specs.Limits.{LimitsAskForOwnRate, is_stricter_limit}
 use Rattle.acas_base.specs.declared.advisory.Intent.{Intent}
 use Rattle.acas_base.specs.declared.advisory.Sense.{Sense}
 use Rattle.acas_base.specs.declared.advisory.Sense.TheVariants.{Down, Up}
 use Rattle.acas_base.specs.declared.advisory.Strength.{Strength}
 use Rattle.acas_base.specs.declared.advisory.Strength.TheVariants.{Limit2000, Limit1000, Limit500, Level, Positive, Increase}
+use Rattle.acas_base.specs.declared.choice.Choice.{Choice}
 use Rattle.acas_base.specs.declared.view.View.{View}
 
 -- ---- the first of the strengths that passes a test
@@ -37,8 +38,8 @@ of-two f true = refl
 of-two true false = refl
 of-two false false = refl
 
-pub strongest-skips : (view : View) (sense : Sense) (fresh : Bool) → is_stricter_limit (strongest view sense fresh) ≡ false
-strongest-skips view sense fresh = of-two (is_allowed view sense Positive fresh) (is_allowed view sense Increase fresh)
+pub strongest-skips : (view : View) (sense : Sense) (choice : Choice) → is_stricter_limit (strongest view sense choice) ≡ false
+strongest-skips view sense choice = of-two (is_allowed view sense Positive choice) (is_allowed view sense Increase choice)
 
 -- ---- the least
 
@@ -66,16 +67,16 @@ meets-weakest view Down Level is e = absurd (cc)
 meets-weakest view Down Positive is e = absurd (cc)
 meets-weakest view Down Increase is e = absurd (cc)
 
-serves-weakest : (view : View) (sense : Sense) (fresh : Bool) (limit : Strength) → LimitsAskForOwnRate view → is_stricter_limit limit ≡ true → (meets_floor view sense limit && gives_alim view sense limit fresh) ≡ true →
-    (meets_floor view sense Limit2000 && gives_alim view sense Limit2000 fresh) ≡ true
-serves-weakest view sense fresh limit alike is e =
-    let parts = and_parts (meets_floor view sense limit) (gives_alim view sense limit fresh) e in
-    and_from _ _ (meets-weakest view sense limit is parts.0) (subst (λ (z : ℤ). int_le view.alim z ≡ true) (alike sense fresh limit is parts.0) parts.1)
+serves-weakest : (view : View) (sense : Sense) (choice : Choice) (limit : Strength) → LimitsAskForOwnRate view → is_stricter_limit limit ≡ true → (meets_floor view sense limit && gives_alim view sense limit choice) ≡ true →
+    (meets_floor view sense Limit2000 && gives_alim view sense Limit2000 choice) ≡ true
+serves-weakest view sense choice limit alike is e =
+    let parts = and_parts (meets_floor view sense limit) (gives_alim view sense limit choice) e in
+    and_from _ _ (meets-weakest view sense limit is parts.0) (subst (λ (z : ℤ). int_le view.alim z ≡ true) (alike sense choice limit is parts.0) parts.1)
 
-pub least-skips : (view : View) (sense : Sense) (fresh : Bool) → LimitsAskForOwnRate view → is_stricter_limit (least_strength view sense fresh) ≡ false
-least-skips view sense fresh alike =
-    first-found (λ (s : Strength). is_allowed view sense s fresh && gives_alim view sense s fresh) (strongest view sense fresh)
-    (serves-weakest view sense fresh Limit1000 alike refl) (serves-weakest view sense fresh Limit500 alike refl) (strongest-skips view sense fresh)
+pub least-skips : (view : View) (sense : Sense) (choice : Choice) → LimitsAskForOwnRate view → is_stricter_limit (least_strength view sense choice) ≡ false
+least-skips view sense choice alike =
+    first-found (λ (s : Strength). is_allowed view sense s choice && gives_alim view sense s choice) (strongest view sense choice)
+    (serves-weakest view sense choice Limit1000 alike refl) (serves-weakest view sense choice Limit500 alike refl) (strongest-skips view sense choice)
 
 -- ---- the next
 
@@ -112,9 +113,9 @@ reaches-weakest view sense one two limit is first second e =
 pub next-skips : (before : Intent) (view : View) → LimitsAskForOwnRate view → is_stricter_limit before.strength ≡ false → is_stricter_limit (strength_after before view) ≡ false
 next-skips before view alike not =
     let sense = before.sense in
-    let fresh = is_fresh_after before.strength in
-    let need = least_strength view sense fresh in
-    let needed : is_stricter_limit need ≡ false = least-skips view sense fresh alike in
-    cond_both (weakens before view) Level (least_of_both view sense fresh before.strength need) (λ (s : Strength). is_stricter_limit s ≡ false) (λ _. refl)
-    (λ _. first-found (reaches_both view sense fresh before.strength need) (strongest view sense fresh)
-    (reaches-weakest view sense before.strength need Limit1000 refl not needed) (reaches-weakest view sense before.strength need Limit500 refl not needed) (strongest-skips view sense fresh))
+    let choice = choice_after before view in
+    let need = least_strength view sense choice in
+    let needed : is_stricter_limit need ≡ false = least-skips view sense choice alike in
+    cond_both (weakens before view) Level (least_of_both view sense choice before.strength need) (λ (s : Strength). is_stricter_limit s ≡ false) (λ _. refl)
+    (λ _. first-found (reaches_both view sense choice before.strength need) (strongest view sense choice)
+    (reaches-weakest view sense before.strength need Limit1000 refl not needed) (reaches-weakest view sense before.strength need Limit500 refl not needed) (strongest-skips view sense choice))

@@ -1,4 +1,3 @@
-pub mod Alim
 pub mod Extremes
 pub use Rattle.acas_base.specs.Strengths
 pub use Rattle.acas_base.specs.Choice

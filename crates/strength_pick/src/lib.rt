@@ -7,5 +7,5 @@ mod weakest;
 
 pub use acas_base::allowed;
 pub use laws::{least_law, limits_law, next_law, strongest_law};
-pub use next::{has_alim, is_fresh_after, next_strength, weakens};
+pub use next::{choice_after, has_alim, next_strength, weakens};
 pub use weakest::least;
