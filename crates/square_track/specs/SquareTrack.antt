@@ -79,7 +79,8 @@ share gain surprise = int_div_euclid (pos gain *ℤ surprise) (pos 1024)
 abbrev pub predicted : ℤ → ℤ → ℤ → ℤ
 predicted square rate second = kept_square (square +ℤ (rate +ℤ half second))
 
--- How many measurements in a row were without a surprise. One is a surprise where it is above that of 16 ft in the range.
+-- How many measurements in a row were without a surprise. A difference is one where it is above what 16 ft in the range
+-- make of a square.
 abbrev pub calm_after : ℕ → ℤ → ℕ → ℕ
 calm_after range surprise calm = if nat_le (unsigned_abs surprise) (32 * range) then min most_calm (calm + 1) else 0
 

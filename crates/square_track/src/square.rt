@@ -8,8 +8,9 @@ use crate::measuring::MeasuredSquare;
 use crate::state::SquareState;
 use std::marker::Model;
 
-/// The track of the square of the horizontal range to one other aircraft. Where both fly straight, this square is of the
-/// second degree in time, whatever the miss distance; so it is tracked without a delay (this project's profile 2).
+/// The track of the square of the horizontal range to one other aircraft. Where both fly straight, this square is of
+/// the second degree in time, whatever the miss distance. So the track follows it without a delay (this project's
+/// profile 2).
 #[derive(Clone, Copy)]
 pub struct SquareTrack {
     state: SquareState,

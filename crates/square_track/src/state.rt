@@ -20,8 +20,8 @@ const MOST_MISSED: u8 = 5;
 // The most cycles without a surprise that are counted.
 const MOST_CALM: u8 = 15;
 
-// The parts of a surprise that the square, its rate and its second rate take over, in 1/1024: those of a fading memory of
-// 0.7 a second.
+// The parts of a surprise that the square, its rate and its second rate take over, in 1/1024: those of a fading memory
+// of 0.7 a second.
 const SQUARE_GAIN: u16 = 673;
 
 const RATE_GAIN: u16 = 235;
@@ -42,8 +42,8 @@ pub enum SquareState {
         square: i64,
         change: i64,
     },
-    /// The track runs: its square, rate and second rate; the measurements missed in a row; and the measurements in a row
-    /// without a surprise.
+    /// The track runs: its square, rate and second rate; the measurements missed in a row; and the measurements in a
+    /// row without a surprise.
     Run {
         square: i64,
         rate: i64,
@@ -56,8 +56,8 @@ pub enum SquareState {
 impl SquareState {
     /// The state one second later, after a measurement or after a miss.
     ///
-    /// A track runs after three measurements in a row. A running track that misses a sixth measurement in a row is given
-    /// up. A miss keeps the count of measurements without a surprise.
+    /// A track runs after three measurements in a row. A running track that misses a sixth measurement in a row is
+    /// given up. A miss keeps the count of measurements without a surprise.
     pub fn step(self, measurement: Option<MeasuredSquare>) -> SquareState
         requires state { IsWithinLimits self }
         requires measurement { IfSome measurement IsMeasured }
@@ -179,7 +179,8 @@ fn predicted(square: i64, rate: i64, second: i64) -> i64
     kept_square(sum(square, sum(rate, half(second))))
 }
 
-// How many measurements in a row were without a surprise. One is a surprise where it is above that of 16 ft in the range.
+// How many measurements in a row were without a surprise. A difference is one where it is above what 16 ft in the range
+// make of a square.
 fn calm_after(range: u32, surprise: i64, calm: u8) -> u8
     requires range { range ≤ 182280 }
     requires calm { calm ≤ 15 }
