@@ -1,3 +1,4 @@
+pub mod Labels
 pub mod Rising
 pub mod Apart
 pub mod KeyOrder

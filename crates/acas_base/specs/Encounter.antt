@@ -1,9 +1,10 @@
 -- What an encounter is.
-use Rattle.std.specs.Prelude.{◌≡◌, ◌≢◌, ℕ, ◌<◌, ◌≤◌, ◌==◌, if◌then◌else◌, Bool, true, false, IsTrue, ℤ, pos, neg_ℤ, List, [], All, AllPairs, length, None, IfSome, count_ones, slice_get}
+use Rattle.std.specs.Prelude.{◌≡◌, ◌≢◌, ℕ, ◌<◌, ◌≤◌, ◌==◌, if◌then◌else◌, Bool, true, false, IsTrue, ℤ, pos, neg_ℤ, List, [], All, AllPairs, length, Option, None, IfSome, count_ones, slice_get}
 use Rattle.std.specs.List.{list_any}
 use Rattle.std.specs.Option.{option_map_or}
+use Rattle.acas_base.specs.Labels.{is_call_sign, is_label}
 use Rattle.acas_base.specs.Ranges.{IsAddress, IsBetween, IsCycle, IsWithin}
-use Rattle.acas_base.specs.Order.{IsRising, leg_below, miss_below, plan_below, fate_below}
+use Rattle.acas_base.specs.Order.{IsRising, call_below, leg_below, miss_below, plan_below, fate_below}
 use Rattle.acas_base.specs.declared.TheConstants.{CRAFTS}
 use Rattle.acas_base.specs.declared.craft.CraftSpec.{CraftSpec}
 use Rattle.acas_base.specs.declared.craft.Gains.{Gains}
@@ -11,38 +12,68 @@ use Rattle.acas_base.specs.declared.craft.Kind.{Kind}
 use Rattle.acas_base.specs.declared.craft.Kind.TheVariants.{Ra, Ta, Xpdr}
 use Rattle.acas_base.specs.declared.craft.Leg.{Leg}
 use Rattle.acas_base.specs.declared.craft.Miss.{Miss}
+use Rattle.acas_base.specs.declared.label.Call.{Call}
 use Rattle.acas_base.specs.declared.link.CopyPlan.{CopyPlan}
 use Rattle.acas_base.specs.declared.link.Fate.{Fate}
 use Rattle.acas_base.specs.declared.link.LinkPlan.{LinkPlan}
+use Rattle.acas_base.specs.declared.setting.Profile.{Profile}
+use Rattle.acas_base.specs.declared.setting.Profile.TheVariants as profile
+use Rattle.acas_base.specs.declared.setting.Setting.{Setting}
 
--- The parts of an encounter: the version of its format, how many cycles it has, the elevation of the ground in ft,
--- the gains of the range tracks and of the altitude tracks, and five lists.
+-- The parts of an encounter: the version of its format, its profile, how many cycles it has, the elevation of the
+-- ground in ft, the gains of the range tracks and of the altitude tracks, its name, the time of day in cycle 1 in seconds
+-- after midnight, and six lists.
 pub record Parts : Type 0 where
   pub version : ℕ
+  pub profile : Profile
   pub cycles : ℕ
   pub elevation : ℤ
   pub range : Gains
   pub altitude : Gains
+  pub name : Option (List ℕ)
+  pub clock : Option ℕ
+  pub calls : List Call
   pub crafts : List CraftSpec
   pub legs : List Leg
   pub misses : List Miss
   pub plans : List LinkPlan
   pub fates : List Fate
 
--- The encounter of these parts.
-abbrev pub encounter_of : ℕ → ℕ → ℤ → Gains → Gains → List CraftSpec → List Leg → List Miss → List LinkPlan → List Fate → Parts
-encounter_of version cycles elevation range altitude crafts legs misses plans fates = record {
-  version = version;
-  cycles = cycles;
-  elevation = elevation;
-  range = range;
-  altitude = altitude;
+-- The encounter of a setting and these lists.
+abbrev pub encounter_of : Setting → List Call → List CraftSpec → List Leg → List Miss → List LinkPlan → List Fate → Parts
+encounter_of setting calls crafts legs misses plans fates = record {
+  version = setting.version;
+  profile = setting.profile;
+  cycles = setting.cycles;
+  elevation = setting.elevation;
+  range = setting.range;
+  altitude = setting.altitude;
+  name = setting.name;
+  clock = setting.clock;
+  calls = calls;
   crafts = crafts;
   legs = legs;
   misses = misses;
   plans = plans;
   fates = fates;
 }
+
+-- The setting of an encounter.
+abbrev pub setting_of : Parts → Setting
+setting_of e = record {
+  version = e.version;
+  profile = e.profile;
+  cycles = e.cycles;
+  elevation = e.elevation;
+  range = e.range;
+  altitude = e.altitude;
+  name = e.name;
+  clock = e.clock;
+}
+
+-- The encounter without its labels: what it and its aircraft are called, and the time of day.
+abbrev pub unlabelled : Parts → Parts
+unlabelled e = record e { name = None; clock = None; calls = [] }
 
 -- The address of the aircraft at an index.
 abbrev pub address_in : List CraftSpec → ℕ → ℕ
@@ -127,6 +158,11 @@ pub record IsPair (count a b : ℕ) : Type 0 where
   pub second : b < count
   pub apart : a ≢ b
 
+-- The call sign of one of `count` aircraft.
+pub record IsCall (count : ℕ) (call : Call) : Type 0 where
+  pub craft : call.craft < count
+  pub sign : IsTrue (is_call_sign call.sign)
+
 pub record IsMiss (count : ℕ) (miss : Miss) : Type 0 where
   pub pair : IsPair count miss.own miss.target
   pub from : IsCycle miss.from
@@ -162,6 +198,13 @@ pub record IsPlain (crafts : List CraftSpec) (plans : List LinkPlan) : Type 0 wh
   pub no_ceiling : All (λ (craft : CraftSpec). craft.ceiling ≡ None) crafts
   pub no_plan : plans ≡ []
 
+-- What a text of formats 1 and 2 can say: profile 1, and no labels.
+pub record IsUnlabelled (e : Parts) : Type 0 where
+  pub profile : e.profile ≡ profile.One
+  pub name : e.name ≡ None
+  pub clock : e.clock ≡ None
+  pub calls : e.calls ≡ []
+
 -- The numbers of a run are in their ranges.
 pub record IsRun (version cycles : ℕ) (elevation : ℤ) : Type 0 where
   pub format : IsVersion version
@@ -188,6 +231,17 @@ pub record AreRecords (count : ℕ) (xs : List Leg) (ys : List Miss) (zs : List 
   pub plans : AreListed IsPlan plan_below count zs
   pub fates : AreListed IsFate fate_below count ws
 
+-- Two aircraft of different call signs.
+abbrev pub AreCalledApart : Call → Call → Type 0
+AreCalledApart a b = a.sign ≢ b.sign
+
+-- The labels of an encounter with `count` aircraft. No two aircraft have one call sign.
+pub record AreLabels (count : ℕ) (title : Option (List ℕ)) (start : Option ℕ) (signs : List Call) : Type 0 where
+  pub name : IfSome title (λ text. IsTrue (is_label text))
+  pub clock : IfSome start (λ second. second < 86400)
+  pub calls : AreListed IsCall call_below count signs
+  pub apart : AllPairs AreCalledApart signs
+
 -- These parts are an encounter.
 pub record IsEncounter (e : Parts) : Type 0 where
   pub run : IsRun e.version e.cycles e.elevation
@@ -195,4 +249,6 @@ pub record IsEncounter (e : Parts) : Type 0 where
   pub altitude : IsGains e.altitude
   pub crafts : AreCrafts e.version e.crafts
   pub format : e.version ≡ 1 → IsPlain e.crafts e.plans
+  pub older : e.version ≤ 2 → IsUnlabelled e
+  pub labels : AreLabels (length e.crafts) e.name e.clock e.calls
   pub records : AreRecords (length e.crafts) e.legs e.misses e.plans e.fates

@@ -3,6 +3,7 @@ use Rattle.std.specs.Prelude.{ℕ, Bool, ◌==◌, ◌&&◌, ◌||◌, nat_lt, I
 use Rattle.std.specs.List.{AllAdjacentBelow}
 use Rattle.acas_base.specs.declared.craft.Leg.{Leg}
 use Rattle.acas_base.specs.declared.craft.Miss.{Miss}
+use Rattle.acas_base.specs.declared.label.Call.{Call}
 use Rattle.acas_base.specs.declared.link.LinkPlan.{LinkPlan}
 use Rattle.acas_base.specs.declared.link.Fate.{Fate}
 
@@ -22,6 +23,13 @@ below_by key_of a b = is_below (key_of a) (key_of b)
 
 abbrev pub has_key : {X : Type 0} → (X → Key) → Key → X → Bool
 has_key key_of wanted it = is_same_key (key_of it) wanted
+
+-- Call signs stand by aircraft.
+abbrev pub call_key : Call → Key
+call_key call = (call.craft, 0, 0)
+
+abbrev pub call_below : Call → Call → Bool
+call_below a b = below_by call_key a b
 
 -- Legs stand by aircraft and first cycle.
 abbrev pub leg_key : Leg → Key

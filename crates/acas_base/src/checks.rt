@@ -1,9 +1,15 @@
 // Whether the parts of an encounter are in their ranges and orders.
-ghost use Rattle.std.specs.Prelude.{◌≡◌, ◌≢◌, ◌↔◌, ◌≤◌, All, AllPairs, IsTrue, IfSome, None};
-ghost use Rattle.acas_base.specs.Encounter.{AreApart, AreCopies, AreCrafts, AreRates, IsAltitude, IsCopy, IsCraft, IsElevation, IsGains, IsPair, IsPlain, IsRun, IsVersion, most_crafts};
+ghost use Rattle.std.specs.Prelude.{◌≡◌, ◌≢◌, ◌↔◌, ◌<◌, ◌≤◌, ℕ, List, Option, [], All, AllPairs, IsTrue, IfSome, None};
+ghost use Rattle.acas_base.specs.Labels.{is_label};
+ghost use Rattle.acas_base.specs.declared.setting.Profile.{Profile};
+ghost use Rattle.acas_base.specs.Encounter.{AreApart, AreCalledApart, AreCopies, AreCrafts, AreLabels, AreRates, IsAltitude, IsCopy, IsCraft, IsElevation, IsGains, IsPair, IsPlain, IsRun, IsVersion, most_crafts};
 ghost use Rattle.acas_base.specs.Ranges.{IsBetween, IsCycle};
 
-use crate::{Address, CopyPlan, CraftSpec, Gains, Leg, LinkPlan, most_crafts, some_active};
+use crate::records::are_records;
+use crate::{
+    Address, Call, CopyPlan, CraftSpec, Gains, Leg, LinkPlan, Profile, Setting, most_crafts,
+    some_active,
+};
 
 fn is_between(low: i32, value: i32, high: i32) -> bool
     ensures { IsTrue result ↔ IsBetween low high value }
@@ -35,7 +41,7 @@ pub(crate) fn is_cycle(value: u16) -> bool
     1 <= value && value <= 600
 }
 
-pub(crate) fn are_gains(gains: Gains) -> bool
+fn are_gains(gains: Gains) -> bool
     ensures { IsTrue result ↔ IsGains gains }
 {
     gains.alpha <= 1024 && gains.beta <= 1024
@@ -135,10 +141,19 @@ pub(crate) fn are_crafts(version: u8, crafts: &[CraftSpec]) -> bool
         && some_active(crafts)
 }
 
-pub(crate) fn is_run(version: u8, cycles: u16, elevation: i32) -> bool
+fn is_run(version: u8, cycles: u16, elevation: i32) -> bool
     ensures { IsTrue result ↔ IsRun version cycles elevation }
 {
     is_version(version) && is_cycle(cycles) && is_elevation(elevation)
+}
+
+// Whether the numbers of a setting are in their ranges.
+pub(crate) fn is_setting(setting: &Setting) -> bool
+    ensures { IsTrue result ↔ (IsRun setting.now.version setting.now.cycles setting.now.elevation × IsGains setting.now.range × IsGains setting.now.altitude) }
+{
+    is_run(setting.version, setting.cycles, setting.elevation)
+        && are_gains(setting.range)
+        && are_gains(setting.altitude)
 }
 
 fn have_no_ceiling(crafts: &[CraftSpec]) -> bool
@@ -153,8 +168,64 @@ fn is_plain(crafts: &[CraftSpec], plans: &[LinkPlan]) -> bool
     have_no_ceiling(crafts) && plans.is_empty()
 }
 
-pub(crate) fn suits_format(version: u8, crafts: &[CraftSpec], plans: &[LinkPlan]) -> bool
-    ensures { IsTrue result ↔ (version ≡ 1 → IsPlain crafts.now plans.now) }
+// Whether a setting and call signs are those of a format without them.
+fn is_unlabelled(setting: &Setting, calls: &[Call]) -> bool
+    ensures { IsTrue result ↔ ((setting.now.profile ≡ Profile.One) × (setting.now.name ≡ None) × (setting.now.clock ≡ None) × (calls.now ≡ [])) }
 {
-    version != 1 || is_plain(crafts, plans)
+    setting.profile == Profile::One
+        && setting.name.is_none()
+        && setting.clock.is_none()
+        && calls.is_empty()
+}
+
+// Whether a text of the format can say these parts.
+pub(crate) fn suits_format(
+    setting: &Setting,
+    calls: &[Call],
+    crafts: &[CraftSpec],
+    plans: &[LinkPlan],
+) -> bool
+    ensures { IsTrue result ↔ ((setting.now.version ≡ 1 → IsPlain crafts.now plans.now) × (setting.now.version ≤ 2 → (setting.now.profile ≡ Profile.One) × (setting.now.name ≡ None) × (setting.now.clock ≡ None) × (calls.now ≡ []))) }
+{
+    (setting.version != 1 || is_plain(crafts, plans))
+        && (2 < setting.version || is_unlabelled(setting, calls))
+}
+
+fn is_clock(clock: Option<u32>) -> bool
+    ensures { IsTrue result ↔ IfSome clock (λ second. second < 86400) }
+{
+    match clock {
+        Some(second) => second < 86_400,
+        None => true,
+    }
+}
+
+// Whether none of these is this call sign.
+fn is_new_sign(earlier: &[Call], sign: &[u8]) -> bool
+    ensures { IsTrue result ↔ All (λ call. call.sign ≢ sign.now) earlier.now }
+{
+    earlier.iter().all(|call| call.sign.bytes() != sign)
+}
+
+// Whether no two aircraft have one call sign.
+fn are_called_apart(calls: &[Call]) -> bool
+    ensures { IsTrue result ↔ AllPairs AreCalledApart calls.now }
+{
+    for i in 0..calls.len() {
+        if !is_new_sign(&calls[..i], calls[i].sign.bytes()) {
+            return false;
+        }
+    }
+    true
+}
+
+// Whether these are the labels of an encounter with `count` aircraft. By its type a name is a label.
+pub(crate) fn are_labels(count: usize, setting: &Setting, calls: &[Call]) -> bool
+    ensures { IsTrue result ↔ AreLabels count setting.now.name setting.now.clock calls.now }
+{
+    // For the proof: a name is a label by its type.
+    if let Some(name) = &setting.name {
+        let _bytes = name.bytes();
+    }
+    is_clock(setting.clock) && are_records(count, calls) && are_called_apart(calls)
 }

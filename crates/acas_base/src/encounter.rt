@@ -1,12 +1,12 @@
 // Encounters.
 ghost use Rattle.std.specs.Prelude.{◌≡◌, ◌↔◌, IsSome, IsTrue, IfSome, IfOk};
-ghost use Rattle.acas_base.specs.Encounter.{IsEncounter, encounter_of};
+ghost use Rattle.acas_base.specs.Encounter.{IsEncounter, encounter_of, setting_of};
 ghost use Rattle.acas_base.specs.Fates.{fate_of};
 
-use crate::checks::{are_crafts, are_gains, is_run, suits_format};
+use crate::checks::{are_crafts, are_labels, is_setting, suits_format};
 use crate::fates::{fate_by, find_fate, find_plan, plain_fate};
 use crate::records::are_all_records;
-use crate::{CraftSpec, Fate, Gains, Leg, LinkPlan, Miss};
+use crate::{Call, CraftSpec, Fate, Gains, Label, Leg, LinkPlan, Miss, Profile, Setting};
 use std::alloc::{AllocError, Global};
 use std::marker::Model;
 
@@ -14,11 +14,8 @@ use std::marker::Model;
 /// canonical text.
 #[derive(Drop)]
 pub struct Encounter {
-    version: u8,
-    cycles: u16,
-    ground: i32,
-    range: Gains,
-    altitude: Gains,
+    setting: Setting,
+    calls: Vec<Call>,
     crafts: Vec<CraftSpec>,
     legs: Vec<Leg>,
     misses: Vec<Miss>,
@@ -40,65 +37,55 @@ impl Model for Encounter {
 
 // Whether these are the parts of an encounter.
 fn are_parts(
-    version: u8,
-    cycles: u16,
-    elevation: i32,
-    range: Gains,
-    altitude: Gains,
+    setting: &Setting,
+    calls: &[Call],
     crafts: &[CraftSpec],
     legs: &[Leg],
     misses: &[Miss],
     plans: &[LinkPlan],
     fates: &[Fate],
 ) -> bool
-    ensures { IsTrue result ↔ IsEncounter (encounter_of version cycles elevation range altitude crafts.now legs.now misses.now plans.now fates.now) }
+    ensures { IsTrue result ↔ IsEncounter (encounter_of setting.now calls.now crafts.now legs.now misses.now plans.now fates.now) }
 {
-    is_run(version, cycles, elevation)
-        && are_gains(range)
-        && are_gains(altitude)
-        && are_crafts(version, crafts)
-        && suits_format(version, crafts, plans)
+    is_setting(setting)
+        && are_crafts(setting.version, crafts)
+        && suits_format(setting, calls, crafts, plans)
+        && are_labels(crafts.len(), setting, calls)
         && are_all_records(crafts.len(), legs, misses, plans, fates)
 }
 
 impl Encounter {
-    /// The encounter of these parts, where they are in their ranges and orders: `elevation` in ft, the gains of the
-    /// range tracks and of the altitude tracks, and the lists in the order of the canonical text. None where
+    /// The encounter of these parts, where they are in their ranges and orders. The lists stand in the order of the
+    /// canonical text. None where
     ///
     /// - a part breaks its range, or the version isn't 1 or 2;
     /// - there is no aircraft, there are more than 8 in version 1 or more than [`crate::CRAFTS`], two have one address,
     ///   or none is active;
     /// - version 1 has a ceiling or a plan;
+    /// - version 1 or 2 has profile 2, a name, a time of day or a call sign;
+    /// - two aircraft have one call sign;
     /// - an index names no aircraft, or a pair names one aircraft twice;
     /// - a list isn't in its order, with rising keys, or a miss of a pair begins before the miss before it is over;
     /// - a fate or a plan has more than three copies, a copy past its count that isn't zero, or a mask of more than
     ///   three bits.
     pub fn make(
-        version: u8,
-        cycles: u16,
-        elevation: i32,
-        range: Gains,
-        altitude: Gains,
+        setting: Setting,
+        calls: Vec<Call>,
         crafts: Vec<CraftSpec>,
         legs: Vec<Leg>,
         misses: Vec<Miss>,
         plans: Vec<LinkPlan>,
         fates: Vec<Fate>,
     ) -> Option<Encounter>
-        ensures some { IsSome result ↔ IsEncounter (encounter_of version cycles elevation range altitude crafts.items legs.items misses.items plans.items fates.items) }
-        ensures value { IfSome result (λ e. e ≡ encounter_of version cycles elevation range altitude crafts.items legs.items misses.items plans.items fates.items) }
+        ensures some { IsSome result ↔ IsEncounter (encounter_of setting calls.items crafts.items legs.items misses.items plans.items fates.items) }
+        ensures value { IfSome result (λ e. e ≡ encounter_of setting calls.items crafts.items legs.items misses.items plans.items fates.items) }
     {
-        if !are_parts(
-            version, cycles, elevation, range, altitude, &crafts, &legs, &misses, &plans, &fates,
-        ) {
+        if !are_parts(&setting, &calls, &crafts, &legs, &misses, &plans, &fates) {
             return None;
         }
         Some(Encounter {
-            version,
-            cycles,
-            ground: elevation,
-            range,
-            altitude,
+            setting,
+            calls,
             crafts,
             legs,
             misses,
@@ -112,7 +99,7 @@ impl Encounter {
         ensures { IsEncounter self.now }
     {
         // For the proof: a field is read, so the invariant is known.
-        let _version = self.version;
+        let _version = self.setting.version;
     }
 
     /// An equal encounter.
@@ -120,11 +107,8 @@ impl Encounter {
         ensures { IfOk result (λ e. e ≡ self.now) }
     {
         Ok(Encounter {
-            version: self.version,
-            cycles: self.cycles,
-            ground: self.ground,
-            range: self.range,
-            altitude: self.altitude,
+            setting: self.setting,
+            calls: Vec::from_slice(alloc, &self.calls)?,
             crafts: Vec::from_slice(alloc, &self.crafts)?,
             legs: Vec::from_slice(alloc, &self.legs)?,
             misses: Vec::from_slice(alloc, &self.misses)?,
@@ -133,11 +117,47 @@ impl Encounter {
         })
     }
 
+    /// How it is run, and what it is called.
+    pub fn setting(&self) -> Setting
+        ensures { result ≡ setting_of self.now }
+    {
+        self.setting
+    }
+
     /// The version of its format, 1 or 2.
     pub fn version(&self) -> u8
         ensures { result ≡ self.now.version }
     {
-        self.version
+        self.setting.version
+    }
+
+    /// The rules by which its aircraft advise.
+    pub fn profile(&self) -> Profile
+        ensures { result ≡ self.now.profile }
+    {
+        self.setting.profile
+    }
+
+    /// Its name, if it has one.
+    pub fn name(&self) -> Option<Label>
+        ensures { result ≡ self.now.name }
+    {
+        self.setting.name
+    }
+
+    /// The time of day in cycle 1, in seconds after midnight, if it is given.
+    pub fn clock(&self) -> Option<u32>
+        ensures { result ≡ self.now.clock }
+    {
+        self.setting.clock
+    }
+
+    /// The call signs of aircraft, by aircraft.
+    pub fn calls(&self) -> &[Call]
+        ensures value { result.now ≡ self.now.calls }
+        ensures valid { IsEncounter self.now }
+    {
+        self.calls.as_slice()
     }
 
     /// How many cycles it has, 1 to 600.
@@ -145,7 +165,7 @@ impl Encounter {
         ensures value { result ≡ self.now.cycles }
         ensures valid { IsEncounter self.now }
     {
-        self.cycles
+        self.setting.cycles
     }
 
     /// The elevation of the ground, in ft.
@@ -153,21 +173,21 @@ impl Encounter {
         ensures value { result ≡ self.now.elevation }
         ensures valid { IsEncounter self.now }
     {
-        self.ground
+        self.setting.elevation
     }
 
     /// The gains of the range tracks.
     pub fn range_gains(&self) -> Gains
         ensures { result ≡ self.now.range }
     {
-        self.range
+        self.setting.range
     }
 
     /// The gains of the altitude tracks.
     pub fn altitude_gains(&self) -> Gains
         ensures { result ≡ self.now.altitude }
     {
-        self.altitude
+        self.setting.altitude
     }
 
     /// The aircraft.

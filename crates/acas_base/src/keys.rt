@@ -1,8 +1,8 @@
 // The order of keys.
 ghost use Rattle.std.specs.Prelude.{◌≡◌, ℕ};
-ghost use Rattle.acas_base.specs.Order.{fate_key, is_below, is_same_key, leg_key, plan_key};
+ghost use Rattle.acas_base.specs.Order.{call_key, fate_key, is_below, is_same_key, leg_key, plan_key};
 
-use crate::{Fate, Leg, LinkPlan};
+use crate::{Call, Fate, Leg, LinkPlan};
 
 /// Three numbers. The first counts most.
 pub(crate) type Key = (u16, u16, u16);
@@ -32,6 +32,14 @@ pub(crate) trait Keyed {
 
     fn key(&self) -> Key
         ensures { result ≡ key_of self.now };
+}
+
+impl Keyed for Call {
+    ghost key_of = { call_key };
+
+    fn key(&self) -> Key {
+        key(self.craft, 0, 0)
+    }
 }
 
 impl Keyed for Leg {

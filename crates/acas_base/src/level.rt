@@ -10,11 +10,20 @@ pub struct Row {
 }
 
 /// A sensitivity level: its number, its thresholds, and `alim`, the least vertical separation to aim for, in 1/1024 ft.
-/// Level 2 has no resolution advisories, and its `alim` is 0.
+///
+/// Three more numbers are read in profile 2 alone. `slow_tau` is the time threshold of the altitude test of a resolution
+/// advisory where own aircraft is level, or moves the other's way and slower, in s. `increase_tau` is the time to the
+/// closest approach at which an advisory may increase, in s. `product` is the product of range and range rate above
+/// which a range that grows opens, in ft2/s.
+///
+/// Level 2 has no resolution advisories. There `alim`, `slow_tau` and `increase_tau` are 0.
 #[derive(Clone, Copy)]
 pub struct Level {
     pub sl: u8,
     pub ta: Row,
     pub ra: Option<Row>,
     pub alim: i64,
+    pub slow_tau: i64,
+    pub increase_tau: i64,
+    pub product: i64,
 }

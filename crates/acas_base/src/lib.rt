@@ -10,11 +10,13 @@ mod encounter;
 mod entry;
 mod fates;
 mod keys;
+mod label;
 mod level;
 mod link;
 mod pairs;
 mod records;
 mod separations;
+mod setting;
 mod strengths;
 mod view;
 
@@ -27,11 +29,13 @@ pub use craft::{
 };
 pub use encounter::Encounter;
 pub use entry::Entry;
+pub use label::{Call, LABEL_BYTES, Label, NAME_BYTES, is_call_sign, is_name};
 pub use level::{Level, Row};
 pub use link::{CopyPlan, Fate, LinkPlan};
 pub use pairs::{PAIRS, pair_of};
 pub use records::Record;
 pub use separations::{gives_alim, separation};
+pub use setting::{Profile, Setting};
 pub use strengths::{allowed, meets_floor, strongest};
 pub use view::{Picture, Seps, View};
 

@@ -1,11 +1,11 @@
 // The records that stand in the lists of an encounter.
 ghost use Rattle.std.specs.Prelude.{◌≡◌, ◌↔◌, ℕ, Bool, All, IsTrue};
-ghost use Rattle.acas_base.specs.Encounter.{AreListed, AreRecords, IsFate, IsLeg, IsMiss, IsPlan};
-ghost use Rattle.acas_base.specs.Order.{IsRising, fate_below, leg_below, miss_below, plan_below};
+ghost use Rattle.acas_base.specs.Encounter.{AreListed, AreRecords, IsCall, IsFate, IsLeg, IsMiss, IsPlan};
+ghost use Rattle.acas_base.specs.Order.{IsRising, call_below, fate_below, leg_below, miss_below, plan_below};
 
 use crate::checks::{are_copies, are_rates, is_cycle, is_pair};
 use crate::keys::{Keyed, is_below, key};
-use crate::{Fate, Leg, LinkPlan, Miss};
+use crate::{Call, Fate, Leg, LinkPlan, Miss, is_call_sign};
 
 /// A record of one of an encounter's lists. It names aircraft by their indices, and its list has an order.
 pub trait Record {
@@ -39,8 +39,8 @@ pub(crate) fn are_all_records(
         && are_records(count, fates)
 }
 
-// Whether these are a list of an encounter with `count` aircraft.
-fn are_records<T: Record>(count: usize, records: &[T]) -> bool
+/// Whether these are a list of an encounter with `count` aircraft.
+pub(crate) fn are_records<T: Record>(count: usize, records: &[T]) -> bool
     ensures { IsTrue result ↔ AreListed T.fits T.below count records.now }
 {
     all_fit(count, records) && are_rising(records)
@@ -56,6 +56,20 @@ fn are_rising<T: Record>(records: &[T]) -> bool
     ensures { IsTrue result ↔ IsRising T.below records.now }
 {
     records.is_sorted_by(|a, b| a.is_below(b))
+}
+
+impl Record for Call {
+    ghost fits = { IsCall };
+
+    ghost below = { call_below };
+
+    fn fits(&self, count: usize) -> bool {
+        usize::from(self.craft) < count && is_call_sign(self.sign.bytes())
+    }
+
+    fn is_below(&self, other: &Call) -> bool {
+        is_below(self.key(), other.key())
+    }
 }
 
 impl Record for Leg {

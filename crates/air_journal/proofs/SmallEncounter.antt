@@ -2,7 +2,7 @@
 use Rattle.std.proofs.Common.{ℕ, zero, suc, ◌≤◌, [], ◌∷◌, AllPairs, refl, arith}
 use Rattle.std.specs.Int.Count.{ones}
 use Rattle.std.proofs.lemmas.List.Elements.{All-cons, All-nil}
-use Rattle.acas_base.specs.Encounter.{AreApart, AreCopies, IsCopy, IsCraft, IsEncounter, IsFate, IsLeg, IsMiss, IsPair, IsPlan, plain_copy}
+use Rattle.acas_base.specs.Encounter.{AreApart, AreCopies, IsCall, IsCopy, IsCraft, IsEncounter, IsFate, IsLeg, IsMiss, IsPair, IsPlan, plain_copy}
 use Rattle.air_journal.specs.Pinned.{craft_at, damaged, fate, later, plan, small}
 
 is-craft : (address : ℕ) → 1 ≤ address → address ≤ 16777214 → IsCraft (craft_at address)
@@ -39,6 +39,13 @@ is-encounter = record {
     active = refl;
   };
   format = λ e. absurd (omega (arith, e));
+  older = λ early. record { profile = refl; name = refl; clock = refl; calls = refl };
+  labels = record {
+    name = tt;
+    clock = tt;
+    calls = (All-nil (IsCall 2), λ k d h. absurd (omega arith));
+    apart = λ i j d order h. absurd (omega arith);
+  };
   records = record {
     legs = (All-nil (IsLeg 2), λ k d h. absurd (omega arith));
     misses = (All-nil (IsMiss 2), λ k d h. absurd (omega arith));

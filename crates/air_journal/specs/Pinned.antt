@@ -8,6 +8,7 @@ use Rattle.acas_base.specs.declared.craft.Kind.TheVariants as kinds
 use Rattle.acas_base.specs.declared.link.CopyPlan.{CopyPlan}
 use Rattle.acas_base.specs.declared.link.Fate.{Fate}
 use Rattle.acas_base.specs.declared.link.LinkPlan.{LinkPlan}
+use Rattle.acas_base.specs.declared.setting.Profile.TheVariants.{One}
 use Rattle.air_journal.specs.Airs.{air_of}
 use Rattle.air_rules.specs.Air.{Air}
 use Rattle.craft_view.specs.Views.{view_of}
@@ -46,10 +47,14 @@ fate = record { sender = 0; receiver = 1; number = 2; copies = 2; first = plain_
 abbrev pub small : Parts
 small = record {
   version = 2;
+  profile = One;
   cycles = 3;
   elevation = pos 0;
   range = record { alpha = 683; beta = 200 };
   altitude = record { alpha = 600; beta = 256 };
+  name = None;
+  clock = None;
+  calls = [];
   crafts = craft_at 10 ∷ craft_at 20 ∷ [];
   legs = [];
   misses = [];

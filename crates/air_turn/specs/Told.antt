@@ -1,7 +1,9 @@
 -- What a seat knows after each step.
-use Rattle.std.specs.Prelude.{◌≡◌, ◌≢◌, ℕ, ◌+◌, ◌%◌, ◌≤◌, pos, List, [], ◌∷◌, ◌++◌, Option, Some, if◌then◌else◌, ltb}
+use Rattle.std.specs.Prelude.{◌≡◌, ◌≢◌, ℕ, ◌+◌, ◌%◌, ◌≤◌, pos, List, [], ◌∷◌, ◌++◌, Option, Some, None, if◌then◌else◌, ltb}
 use Rattle.acas_base.specs.Encounter.{Parts, encounter_of}
 use Rattle.acas_base.specs.declared.entry.Entry.{Entry}
+use Rattle.acas_base.specs.declared.setting.Profile.TheVariants.{One}
+use Rattle.acas_base.specs.declared.setting.Setting.{Setting}
 use Rattle.air_journal.specs.Airs.{air_of}
 use Rattle.air_journal.specs.States.{IsJournalOf, State}
 use Rattle.air_rules.specs.Journal.{Begins, entries_of}
@@ -84,9 +86,22 @@ first_alone v = knowledge v.encounter Idle (first v.claims ∷ []) []
 abbrev pub joined : Knowledge → Knowledge → Knowledge
 joined v w = knowledge v.encounter v.stage (v.claims ++ w.claims) v.notes
 
+-- A setting that says nothing.
+abbrev pub no_setting : Setting
+no_setting = record {
+  version = 0;
+  profile = One;
+  cycles = 0;
+  elevation = pos 0;
+  range = record { alpha = 0; beta = 0 };
+  altitude = record { alpha = 0; beta = 0 };
+  name = None;
+  clock = None;
+}
+
 -- What is left of a seat that was joined to another one. It has no claim.
 abbrev pub spent : Knowledge
-spent = knowledge (encounter_of 0 0 (pos 0) (record { alpha = 0; beta = 0 }) (record { alpha = 0; beta = 0 }) [] [] [] [] []) Idle [] []
+spent = knowledge (encounter_of no_setting [] [] [] [] [] []) Idle [] []
 
 -- A note of what a seat has seen.
 abbrev pub note_of : Knowledge → Knowledge

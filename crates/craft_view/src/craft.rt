@@ -12,7 +12,7 @@ ghost use Rattle.flight.specs.Inside.{IsInside};
 use crate::motion::{Motion, motion_of};
 use crate::others::{is_other, step_tracks};
 use crate::own::{OwnAircraft, own_of};
-use crate::pair::{no_picture, put_no_view, put_view};
+use crate::pair::{no_picture, no_view, put_no_view, put_view};
 use crate::tracks::Tracks;
 use acas_base::{CRAFTS, Cells, Encounter, Picture, View};
 use acas_num::TrackState;
@@ -120,6 +120,40 @@ impl Craft {
     {
         self.step(places);
         self.put_picture(places, before, picture);
+    }
+
+    /// Does the same as [`Craft::look_among`], and gives the view of the aircraft at an index alone.
+    pub fn look_at(&mut self, places: &Places, target: u8) -> View
+        requires belongs { Belongs places.now.encounter self.old }
+        requires left { self.old.cycle < places.now.encounter.cycles }
+        requires next { places.now.cycle ≡ self.old.cycle + 1 }
+        requires target { target < CRAFTS }
+        ensures view { result ≡ view_of places.now.encounter self.old.own target (self.old.cycle + 1) }
+        ensures own { self.new.own ≡ self.old.own }
+        ensures cycle { self.new.cycle ≡ self.old.cycle + 1 }
+        ensures belongs { Belongs places.now.encounter self.new }
+    {
+        self.step(places);
+        self.view_of(places, target)
+    }
+
+    // The view of the aircraft at an index in the present cycle.
+    fn view_of(&self, places: &Places, target: u8) -> View
+        requires belongs { Belongs places.now.encounter self.now }
+        requires begun { 1 ≤ self.now.cycle }
+        requires present { places.now.cycle ≡ self.now.cycle }
+        requires target { target < CRAFTS }
+        ensures { result ≡ view_of places.now.encounter self.now.own target self.now.cycle }
+    {
+        let encounter = places.encounter();
+        // No encounter has more than 16 aircraft.
+        encounter.valid_law();
+        let own = own_of(places, self.own);
+        let mut view = no_view();
+        if usize::from(target) < encounter.crafts().len() {
+            self.put_view(encounter, &own, target, None, &mut view);
+        }
+        view
     }
 
     // Each track goes on by what is measured in the next cycle.

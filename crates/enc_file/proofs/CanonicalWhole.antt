@@ -1,7 +1,7 @@
 -- The canonical records of an encounter are read as that encounter.
-use Rattle.std.proofs.Common.{◌≡◌, ℕ, ◌||◌, not, Bool, true, false, if◌then◌else◌, ◌*◌, is_none, List, [], ◌∷◌, ◌++◌, map, Option, Some, None, Ok, IsTrue, refl, ap, ◌∙◌}
+use Rattle.std.proofs.Common.{◌≡◌, ℕ, ◌||◌, not, Bool, true, false, if◌then◌else◌, ◌*◌, is_none, List, [], ◌∷◌, ◌++◌, map, Option, Some, None, Ok, IsTrue, refl, sym, ap, ◌∙◌}
 use Rattle.std.specs.List.{flat_map, list_any}
-use Rattle.acas_base.specs.Encounter.{IsEncounter, Parts, encounter_of, is_active}
+use Rattle.acas_base.specs.Encounter.{IsEncounter, IsUnlabelled, Parts, encounter_of, is_active}
 use Rattle.acas_base.specs.declared.TheConstants.{CRAFTS}
 use Rattle.acas_base.specs.declared.craft.CraftSpec.{CraftSpec}
 use Rattle.acas_base.specs.declared.craft.Leg.{Leg}
@@ -9,7 +9,7 @@ use Rattle.acas_base.specs.declared.craft.Miss.{Miss}
 use Rattle.acas_base.specs.declared.link.Fate.{Fate}
 use Rattle.acas_base.specs.declared.link.LinkPlan.{LinkPlan}
 use Rattle.enc_file.specs.Canonical.{canonical_records, canonical_text}
-use Rattle.enc_file.specs.Earlier.{all_gains, by_group, crafts_of, encounter_by, fate_group, gains_of, leg_group, legs_of, miss_group, plan_group, run_of, version_of, whole_run}
+use Rattle.enc_file.specs.Earlier.{all_gains, by_group, crafts_of, encounter_by, fate_group, gains_of, leg_group, legs_of, miss_group, plan_group, run_of, setting_by, version_of, whole_run}
 use Rattle.flight.specs.Inside.{stays_inside}
 use Rattle.enc_file.specs.Faults.{fault_of}
 use Rattle.enc_file.specs.Reading.{Says, next_record, read_from}
@@ -50,9 +50,9 @@ goes-middle e h =
 -- The encounter that the records say.
 
 parts-are : (e : Parts) (version : ℕ) (run : Run) (gains : TrackGains) (crafts : List CraftSpec) (legs : List Leg) (misses : List Miss) (plans : List LinkPlan) (fates : List Fate)
-    → version ≡ e.version → run ≡ record { cycles = e.cycles; elevation = e.elevation } → gains ≡ record { range = e.range; altitude = e.altitude } → crafts ≡ e.crafts
-    → legs ≡ e.legs → misses ≡ e.misses → plans ≡ e.plans → fates ≡ e.fates → encounter_of version run.cycles run.elevation gains.range gains.altitude crafts legs misses plans fates ≡ e
-parts-are e version run gains crafts legs misses plans fates a b c d f g h i = rw (a, b, c, d, f, g, h, i) refl
+    → IsUnlabelled e → version ≡ e.version → run ≡ record { cycles = e.cycles; elevation = e.elevation } → gains ≡ record { range = e.range; altitude = e.altitude } → crafts ≡ e.crafts
+    → legs ≡ e.legs → misses ≡ e.misses → plans ≡ e.plans → fates ≡ e.fates → encounter_of (setting_by version run gains) [] crafts legs misses plans fates ≡ e
+parts-are e version run gains crafts legs misses plans fates u a b c d f g h i = rw (sym u.profile, sym u.name, sym u.clock, sym u.calls, a, b, c, d, f, g, h, i) refl
 
 run-is : (earlier : List Record) (run : Run) → run_of earlier ≡ Some run → whole_run earlier ≡ run
 run-is earlier run h = rw h refl
@@ -63,7 +63,7 @@ gains-are earlier gains h = rw h refl
 encounter-is : (e : Parts) → IsEncounter e → (earlier : List Record) → Gives earlier (whole e) → encounter_by earlier ≡ e
 encounter-is e h earlier g =
     parts-are e (version_of earlier) (whole_run earlier) (all_gains earlier) (crafts_of earlier) (by_group leg_group CRAFTS (legs_of earlier)) _ _ _
-    g.version (run-is earlier _ g.run) (gains-are earlier _ g.gains) g.crafts
+    (h.older h.run.format.1) g.version (run-is earlier _ g.run) (gains-are earlier _ g.gains) g.crafts
     (ap (by_group leg_group CRAFTS) g.legs ∙ (legs-own e h).own)
     (ap (by_group miss_group (CRAFTS * CRAFTS)) g.misses ∙ (misses-own e h).own)
     (ap (by_group plan_group (CRAFTS * CRAFTS)) g.plans ∙ (plans-own e h).own)

@@ -4,7 +4,7 @@ use Rattle.std.specs.Prelude.{IsTrue, IfSome, is_none, unwrap_or}
 use Rattle.std.specs.List.{list_any}
 use Rattle.std.proofs.lemmas.Bool.{cases_lt, false≢true, not-false, or_parts, true≢false}
 use Rattle.std.proofs.lemmas.List.Elements.{All-nil, All-push}
-use Rattle.acas_base.specs.Encounter.{AreCrafts, AreListed, AreRecords, IsEncounter, IsFate, IsLeg, IsMiss, IsPlain, IsPlan, IsVersion, is_active}
+use Rattle.acas_base.specs.Encounter.{AreCrafts, AreLabels, AreListed, AreRecords, IsCall, IsEncounter, IsFate, IsLeg, IsMiss, IsPlain, IsPlan, IsVersion, is_active}
 use Rattle.acas_base.specs.Order.{fate_below, leg_below, miss_below, plan_below}
 use Rattle.acas_base.specs.declared.TheConstants.{CRAFTS}
 use Rattle.acas_base.specs.declared.craft.CraftSpec.{CraftSpec}
@@ -97,6 +97,10 @@ are-records count xs ys zs ws few read = record {
   fates = group-listed IsFate fate_group (CRAFTS * CRAFTS) fate_below count ws (fate-order count few) read.fates;
 }
 
+-- No labels are given.
+no-labels : (count : ℕ) → AreLabels count None None []
+no-labels count = record { name = tt; clock = tt; calls = (All-nil (IsCall count), λ k d h. absurd (omega arith)); apart = λ i j d order h. absurd (omega arith) }
+
 -- What was read up to a good end is an encounter.
 pub encounter-said : (earlier : List Record) → AreRead earlier → miscounts earlier said.End ≡ false → IsEncounter (encounter_by earlier)
 encounter-said [] read end = absurd (true≢false end)
@@ -116,6 +120,8 @@ encounter-said (last ∷ before) read end =
         no_ceiling = (plain-read earlier read is).no_ceiling;
         no_plan = no-group plan_group (CRAFTS * CRAFTS) (plans_of earlier) (plain-read earlier read is).no_plan;
       };
+      older = λ few. record { profile = refl; name = refl; clock = refl; calls = refl };
+      labels = no-labels (length (crafts_of earlier));
       records =
           are-records (length (crafts_of earlier)) (legs_of earlier) (misses_of earlier) (plans_of earlier) (fates_of earlier)
           (omega (arith, crafts.few, most-few (version_of earlier))) (lists-read earlier read);

@@ -1,6 +1,6 @@
 -- What the tables hold after one more record.
-use Rattle.std.proofs.Common.{◌≡◌, ℕ, ◌+◌, ◌*◌, ◌<◌, ◌≤◌, Bool, true, false, ℤ, pos, neg_ℤ, w32, List, [], ◌∷◌, ◌++◌, length, map, set, get_or, Option, Some, None, Vec, Global, refl, sym, ap, ◌∙◌, arith, subst}
-use Rattle.std.specs.Prelude.{FitsSigned, Result, Ok, Err, if◌then◌else◌, is_none, option_map, unwrap_or}
+use Rattle.std.proofs.Common.{◌≡◌, ℕ, ◌+◌, ◌*◌, ◌<◌, ◌≤◌, Bool, true, false, ℤ, List, [], ◌∷◌, ◌++◌, length, map, set, get_or, Option, Some, None, Vec, Global, refl, sym, ap, ◌∙◌, arith, subst}
+use Rattle.std.specs.Prelude.{Result, Ok, Err, if◌then◌else◌, is_none, option_map, unwrap_or}
 use Rattle.std.specs.List.{flat_map, list_any}
 use Rattle.std.specs.Option.{option_to_list}
 use Rattle.std.proofs.lemmas.Bool.{false≢true}
@@ -12,9 +12,11 @@ use Rattle.acas_base.specs.declared.TheConstants.{CRAFTS}
 use Rattle.acas_base.specs.declared.craft.CraftSpec.{CraftSpec}
 use Rattle.acas_base.specs.declared.craft.Leg.{Leg}
 use Rattle.acas_base.specs.declared.craft.Miss.{Miss}
+use Rattle.acas_base.specs.declared.label.Call.{Call}
 use Rattle.acas_base.specs.declared.link.Fate.{Fate}
 use Rattle.acas_base.specs.declared.link.LinkPlan.{LinkPlan}
-use Rattle.enc_file.specs.Earlier.{all_gains, by_group, crafts_of, encounter_by, fate_by, fate_group, fates_of, for_index, for_pair, has_ended, in_group, index_of, leg_by, leg_group, legs_of, miss_by, miss_group, misses_of, pair_number, plan_by, plan_group, plans_of, run_of, usual_gains, version_of, whole_run, with_ceiling}
+use Rattle.acas_base.specs.declared.setting.Setting.{Setting}
+use Rattle.enc_file.specs.Earlier.{all_gains, by_group, crafts_of, encounter_by, fate_by, fate_group, fates_of, for_index, for_pair, has_ended, in_group, index_of, leg_by, leg_group, legs_of, miss_by, miss_group, misses_of, pair_number, plan_by, plan_group, plans_of, run_of, setting_by, usual_gains, version_of, with_ceiling}
 use Rattle.enc_file.specs.Faults.{comes_late, fault_of, miscounts}
 use Rattle.enc_file.specs.Groups.{Lists, fate_masked, group_at, is_late, last_of, leg_masked, listed_fault, miss_masked, plan_masked}
 use Rattle.enc_file.specs.Reading.{refusal_after}
@@ -33,12 +35,10 @@ use Rattle.enc_file.specs.declared.refusal.ReadError.{ReadError}
 use Rattle.enc_file.specs.declared.refusal.ReadError.TheVariants.{Refused}
 use Rattle.enc_file.specs.declared.tables.Tables.{Tables}
 use Rattle.enc_file.proofs.Crafted.{crafts-few}
-use Rattle.enc_file.proofs.Encountered.{encounter-said}
 use Rattle.enc_file.proofs.Grouped.{groups-add, groups-at, groups-joined}
 use Rattle.enc_file.proofs.Orders.{pair-within}
 use Rattle.enc_file.proofs.Refused.{fate-fault, leg-fault, miss-fault, plan-fault, refuses}
 use Rattle.enc_file.proofs.Repeated.{fate-late, leg-late, miss-late, plan-late}
-use Rattle.enc_file.proofs.Spelled.{fits-between}
 use Rattle.enc_file.proofs.Named.{for-pair-some, index-within, pair-known, pair-of}
 
 read-more : (earlier : List Record) (now : Record) → AreRead earlier → 1 ≤ length earlier → IsNext earlier now → AreRead (now ∷ earlier)
@@ -243,16 +243,18 @@ parts-are : (earlier : List Record) (version : ℕ) (run : Run) (gains : TrackGa
     → version ≡ version_of earlier → run_of earlier ≡ Some run → gains ≡ all_gains earlier → crafts ≡ crafts_of earlier
     → legs ≡ by_group leg_group CRAFTS (legs_of earlier) → misses ≡ by_group miss_group (CRAFTS * CRAFTS) (misses_of earlier)
     → plans ≡ by_group plan_group (CRAFTS * CRAFTS) (plans_of earlier) → fates ≡ by_group fate_group (CRAFTS * CRAFTS) (fates_of earlier)
-    → encounter_of version run.cycles run.elevation gains.range gains.altitude crafts legs misses plans fates ≡ encounter_by earlier
+    → encounter_of (setting_by version run gains) [] crafts legs misses plans fates ≡ encounter_by earlier
 parts-are earlier version run gains crafts legs misses plans fates v r g c l m p f = rw (v, r, g, c, l, m, p, f) refl
 
 -- The parts that the tables give are those of the encounter that the records say.
-pub parts-held : (earlier : List Record) (tables : Tables) (run : Run) (gains : TrackGains) (crafts : List CraftSpec) (legs : List Leg) (misses : List Miss) (plans : List LinkPlan) (fates : List Fate)
-    → Holds earlier tables → tables.run ≡ Some run → gains ≡ unwrap_or tables.gains usual_gains → crafts ≡ tables.crafts.items
+pub parts-held : (earlier : List Record) (tables : Tables) (run : Run) (gains : TrackGains) (setting : Setting) (calls : List Call) (crafts : List CraftSpec) (legs : List Leg) (misses : List Miss) (plans : List LinkPlan) (fates : List Fate)
+    → Holds earlier tables → tables.run ≡ Some run → gains ≡ unwrap_or tables.gains usual_gains → setting ≡ setting_by tables.version run gains → calls ≡ [] → crafts ≡ tables.crafts.items
     → legs ≡ flat_map (λ list. list) tables.legs → misses ≡ flat_map (λ list. list) tables.misses → plans ≡ flat_map (λ list. list) tables.plans → fates ≡ flat_map (λ list. list) tables.fates
-    → encounter_of tables.version run.cycles run.elevation gains.range gains.altitude crafts legs misses plans fates ≡ encounter_by earlier
-parts-held earlier tables run gains crafts legs misses plans fates h r g c l m p f =
-    parts-are earlier tables.version run gains crafts legs misses plans fates h.version (sym h.run ∙ r) (g ∙ ap (λ o. unwrap_or o usual_gains) h.gains) (c ∙ h.crafts)
+    → encounter_of setting calls crafts legs misses plans fates ≡ encounter_by earlier
+parts-held earlier tables run gains setting calls crafts legs misses plans fates h r g s none c l m p f =
+    ap (λ (it : Setting). encounter_of it calls crafts legs misses plans fates) s
+    ∙ ap (λ (signs : List Call). encounter_of (setting_by tables.version run gains) signs crafts legs misses plans fates) none
+    ∙ parts-are earlier tables.version run gains crafts legs misses plans fates h.version (sym h.run ∙ r) (g ∙ ap (λ o. unwrap_or o usual_gains) h.gains) (c ∙ h.crafts)
     (joined-are leg_group CRAFTS (legs_of earlier) legs tables.legs l h.legs) (joined-are miss_group (CRAFTS * CRAFTS) (misses_of earlier) misses tables.misses m h.misses)
     (joined-are plan_group (CRAFTS * CRAFTS) (plans_of earlier) plans tables.plans p h.plans) (joined-are fate_group (CRAFTS * CRAFTS) (fates_of earlier) fates tables.fates f h.fates)
 
@@ -262,16 +264,6 @@ nothing-missing earlier tables run h r active =
     let given : is_none (run_of earlier) ≡ false = ap is_none (sym h.run ∙ r) in
     let some : list_any is_active (crafts_of earlier) ≡ true = ap (list_any is_active) (sym h.crafts) ∙ active in
     rw (given, some) refl
-
-abbrev whole : Option Run → Run
-whole o = unwrap_or o (record { cycles = 0; elevation = pos 0 })
-
--- Its elevation fits.
-pub run-fits : (earlier : List Record) (tables : Tables) (run : Run) → Holds earlier tables → tables.run ≡ Some run → list_any is_active tables.crafts.items ≡ true → FitsSigned w32 run.elevation
-run-fits earlier tables run h r active =
-    let valid = encounter-said earlier h.read (nothing-missing earlier tables run h r active) in
-    let same : (whole_run earlier).elevation ≡ run.elevation = ap (λ (o : Option Run). (whole o).elevation) (sym h.run ∙ r) in
-    fits-between (neg_ℤ (pos 1000)) (pos 15000) run.elevation (record { sfits = omega arith }) (record { sfits = omega arith }) (rw same at valid.run.terrain)
 
 pub held-end : (earlier : List Record) (tables : Tables) (e : Parts) → Holds earlier tables → AreGoing earlier → fault_of earlier said.End ≡ None → e ≡ encounter_by earlier
     → Holds (said.End ∷ earlier) (record tables { made = Some e; count = tables.count + 1 })

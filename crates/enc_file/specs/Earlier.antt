@@ -10,6 +10,8 @@ use Rattle.acas_base.specs.declared.craft.Leg.{Leg}
 use Rattle.acas_base.specs.declared.craft.Miss.{Miss}
 use Rattle.acas_base.specs.declared.link.Fate.{Fate}
 use Rattle.acas_base.specs.declared.link.LinkPlan.{LinkPlan}
+use Rattle.acas_base.specs.declared.setting.Profile.TheVariants.{One}
+use Rattle.acas_base.specs.declared.setting.Setting.{Setting}
 use Rattle.enc_file.specs.declared.record.Addresses.{Addresses}
 use Rattle.enc_file.specs.declared.record.Copies.{Copies}
 use Rattle.enc_file.specs.declared.record.Course.{Course}
@@ -146,9 +148,23 @@ all_gains earlier = unwrap_or (gains_of earlier) usual_gains
 abbrev pub whole_run : List Record → Run
 whole_run earlier = unwrap_or (run_of earlier) (record { cycles = 0; elevation = pos 0 })
 
--- The encounter that these records say.
+-- The setting of a text of format 1 or 2 with this version, run and gains. It has profile 1, no name and no time of
+-- day, since these formats have no records for them.
+abbrev pub setting_by : ℕ → Run → TrackGains → Setting
+setting_by version run gains = record {
+  version = version;
+  profile = One;
+  cycles = run.cycles;
+  elevation = run.elevation;
+  range = gains.range;
+  altitude = gains.altitude;
+  name = None;
+  clock = None;
+}
+
+-- The encounter that these records say. They say no call signs.
 abbrev pub encounter_by : List Record → Parts
 encounter_by earlier =
-    encounter_of (version_of earlier) (whole_run earlier).cycles (whole_run earlier).elevation (all_gains earlier).range (all_gains earlier).altitude (crafts_of earlier)
+    encounter_of (setting_by (version_of earlier) (whole_run earlier) (all_gains earlier)) [] (crafts_of earlier)
     (by_group leg_group CRAFTS (legs_of earlier)) (by_group miss_group (CRAFTS * CRAFTS) (misses_of earlier))
     (by_group plan_group (CRAFTS * CRAFTS) (plans_of earlier)) (by_group fate_group (CRAFTS * CRAFTS) (fates_of earlier))

@@ -1,13 +1,13 @@
 // What may be wrong with a record after those before it, and what it gives.
 ghost use Rattle.std.specs.Prelude.{◌≡◌, ◌<◌, ◌↔◌, IsTrue, length};
 ghost use Rattle.acas_base.specs.Encounter.{address_in};
-ghost use Rattle.enc_file.specs.Earlier.{fate_by, index_of, leg_by, miss_by, plan_by};
+ghost use Rattle.enc_file.specs.Earlier.{fate_by, index_of, leg_by, miss_by, plan_by, setting_by};
 ghost use Rattle.enc_file.specs.Faults.{are_masks_bad, has_ceiling, is_mask_bad};
 ghost use Rattle.enc_file.specs.Reading.{missing_after};
 
-use crate::record::{Copies, Course};
+use crate::record::{Copies, Course, Run, TrackGains};
 use crate::refusal::Code;
-use acas_base::{Address, CopyPlan, CraftSpec, Fate, Leg, LinkPlan, Miss};
+use acas_base::{Address, CopyPlan, CraftSpec, Fate, Leg, LinkPlan, Miss, Profile, Setting};
 
 // The most bits that a mask flips.
 const BITS: u32 = 3;
@@ -108,5 +108,21 @@ pub(crate) fn fate_by(number: u16, copies: Copies, sender: u8, receiver: u8) -> 
         first: copies.first,
         second: copies.second,
         third: copies.third,
+    }
+}
+
+// It has profile 1, no name and no time of day, since formats 1 and 2 have no records for them.
+pub(crate) fn setting_by(version: u8, run: Run, gains: TrackGains) -> Setting
+    ensures { result ≡ setting_by version run gains }
+{
+    Setting {
+        version,
+        profile: Profile::One,
+        cycles: run.cycles,
+        elevation: run.elevation,
+        range: gains.range,
+        altitude: gains.altitude,
+        name: None,
+        clock: None,
     }
 }

@@ -12,6 +12,7 @@ ghost use Rattle.enc_file.specs.declared.record.Record.{Record};
 
 use crate::conditions::{
     fate_by, has_address, has_ceiling, index_of, leg_by, miss_by, missing_after, plan_by,
+    setting_by,
 };
 use crate::groups::Groups;
 use crate::record::{Addresses, Copies, Course, Record, Run, TrackGains};
@@ -283,11 +284,8 @@ impl Tables {
     {
         let gains = self.gains.unwrap_or(USUAL_GAINS);
         let made = Encounter::make(
-            self.version,
-            run.cycles,
-            run.elevation,
-            gains.range,
-            gains.altitude,
+            setting_by(self.version, run, gains),
+            Vec::new(alloc),
             Vec::from_slice(alloc, &self.crafts)?,
             self.legs.joined(alloc)?,
             self.misses.joined(alloc)?,

@@ -5,14 +5,16 @@ use Rattle.std.specs.List.{flat_map}
 use Rattle.std.proofs.lemmas.Bool.Decides.{nat_tests}
 use Rattle.std.proofs.lemmas.Int.{ints}
 use Rattle.std.proofs.lemmas.List.{get_or-map, length-map}
-use Rattle.acas_base.specs.Encounter.{IsEncounter, IsVersion, encounter_of, most_crafts, usual_altitude_gains, usual_range_gains}
+use Rattle.acas_base.specs.Encounter.{IsEncounter, IsVersion, encounter_of, most_crafts}
 use Rattle.acas_base.specs.Ranges.{IsCycle}
 use Rattle.acas_base.specs.declared.craft.CraftSpec.{CraftSpec}
 use Rattle.acas_base.specs.declared.craft.Kind.TheVariants.{Ra}
 use Rattle.acas_base.specs.declared.craft.Leg.{Leg}
 use Rattle.acas_base.specs.declared.craft.Miss.{Miss}
+use Rattle.acas_base.specs.declared.label.Call.{Call}
 use Rattle.acas_base.specs.declared.link.Fate.{Fate}
 use Rattle.acas_base.specs.declared.link.LinkPlan.{LinkPlan}
+use Rattle.acas_base.specs.declared.setting.Setting.{Setting}
 use Rattle.enc_gen.proofs.Drafts.{crafts-listed, crafts-plain, drafts-at, drafts-few, drafts-long, drafts-near, drafts-rise}
 use Rattle.enc_gen.proofs.Fated.{fates-listed}
 use Rattle.enc_gen.proofs.Legs.{legs-listed, legs-there}
@@ -21,7 +23,7 @@ use Rattle.enc_gen.proofs.Swinging.{stays-near}
 use Rattle.enc_gen.specs.Crafts.{draft, legs_of, spec_of}
 use Rattle.enc_gen.specs.Draws.{seed}
 use Rattle.enc_gen.specs.Fates.{fates}
-use Rattle.enc_gen.specs.Generated.{generated, version_of}
+use Rattle.enc_gen.specs.Generated.{generated, setting_for, version_of}
 use Rattle.enc_gen.specs.Making.{Makes, each}
 use Rattle.enc_gen.specs.Misses.{misses}
 use Rattle.enc_gen.specs.Near.{IsNear, StaysNear}
@@ -85,6 +87,13 @@ made-valid number crafts cycles some few run =
       altitude = (omega arith, omega arith);
       crafts = crafts-listed (version_of crafts) crafts (seed number) some few (few-enough crafts few);
       format = λ first. record { no_ceiling = crafts-plain drafts.items; no_plan = refl };
+      older = λ early. record { profile = refl; name = refl; clock = refl; calls = refl };
+      labels = record {
+        name = tt;
+        clock = tt;
+        calls = (λ k d h. absurd (omega arith), λ k d h. absurd (omega arith));
+        apart = λ i j d order h. absurd (omega arith);
+      };
       records = record {
         legs = legs-listed (length list) cycles drafts.items (drafts-near crafts (seed number)) (λ k d h. let small = drafts-few crafts (seed number) k d h in omega (arith, long)) (drafts-rise crafts (seed number));
         misses = misses-listed list cycles drafts.state run;
@@ -109,8 +118,8 @@ pub record AreMade (number crafts cycles s t u v : ℕ) (ds dr ds2 : List Draft)
 
 -- They make up the encounter.
 pub parts-made : (number crafts cycles s t u v : ℕ) (ds dr ds2 : List Draft) (list one two : List CraftSpec) (legs : List Leg) (missed : List Miss) (fated : List Fate)
-    → (version : ℕ) (plans : List LinkPlan) → AreMade number crafts cycles s t u v ds dr ds2 list one two legs missed fated → version ≡ version_of crafts → plans ≡ []
-    → encounter_of version cycles (pos 0) usual_range_gains usual_altitude_gains list legs missed plans fated ≡ generated number crafts cycles
+    → (setting : Setting) (calls : List Call) (plans : List LinkPlan) → AreMade number crafts cycles s t u v ds dr ds2 list one two legs missed fated → setting ≡ setting_for crafts cycles → calls ≡ [] → plans ≡ []
+    → encounter_of setting calls list legs missed plans fated ≡ generated number crafts cycles
 unfolding generated
-parts-made number crafts cycles s t u v ds dr ds2 list one two legs missed fated version plans made first none =
-    rw (first, none, made.fate.items, made.miss.state, made.miss.items, made.second, made.first, made.flown, made.listed, made.again, made.read, made.drawn.items, made.drawn.state, made.seeded) refl
+parts-made number crafts cycles s t u v ds dr ds2 list one two legs missed fated setting calls plans made first uncalled none =
+    rw (first, uncalled, none, made.fate.items, made.miss.state, made.miss.items, made.second, made.first, made.flown, made.listed, made.again, made.read, made.drawn.items, made.drawn.state, made.seeded) refl

@@ -1,7 +1,9 @@
 -- The encounter that is generated from a number.
-use Rattle.std.specs.Prelude.{ℕ, nat_le, if◌then◌else◌, pos, [], map}
+use Rattle.std.specs.Prelude.{ℕ, nat_le, if◌then◌else◌, pos, [], None, map}
 use Rattle.std.specs.List.{flat_map}
-use Rattle.acas_base.specs.Encounter.{Parts, most_crafts, usual_altitude_gains, usual_range_gains}
+use Rattle.acas_base.specs.Encounter.{Parts, encounter_of, most_crafts, usual_altitude_gains, usual_range_gains}
+use Rattle.acas_base.specs.declared.setting.Profile.TheVariants.{One}
+use Rattle.acas_base.specs.declared.setting.Setting.{Setting}
 use Rattle.enc_gen.specs.Crafts.{draft, legs_of, spec_of}
 use Rattle.enc_gen.specs.Draws.{seed}
 use Rattle.enc_gen.specs.Fates.{fates}
@@ -13,6 +15,19 @@ use Rattle.enc_gen.specs.declared.crafts.Draft.{Draft}
 abbrev pub version_of : ℕ → ℕ
 version_of crafts = if nat_le crafts (most_crafts 1) then 1 else 2
 
+-- How an encounter is run that has so many aircraft and cycles. It is called nothing.
+abbrev pub setting_for : ℕ → ℕ → Setting
+setting_for crafts cycles = record {
+  version = version_of crafts;
+  profile = One;
+  cycles = cycles;
+  elevation = pos 0;
+  range = usual_range_gains;
+  altitude = usual_altitude_gains;
+  name = None;
+  clock = None;
+}
+
 -- What is drawn for the aircraft.
 abbrev pub drafts_of : ℕ → ℕ → Made Draft
 drafts_of number crafts = each draft crafts (seed number)
@@ -23,16 +38,7 @@ unfoldable pub generated : ℕ → ℕ → ℕ → Parts
 generated number crafts cycles =
     let drafts = drafts_of number crafts in
     let list = map spec_of drafts.items in
+    let legs = flat_map (legs_of cycles) drafts.items in
     let missed = misses list cycles drafts.state in
-    record {
-      version = version_of crafts;
-      cycles = cycles;
-      elevation = pos 0;
-      range = usual_range_gains;
-      altitude = usual_altitude_gains;
-      crafts = list;
-      legs = flat_map (legs_of cycles) drafts.items;
-      misses = missed.items;
-      plans = [];
-      fates = (fates list cycles missed.state).items;
-    }
+    let fated = fates list cycles missed.state in
+    encounter_of (setting_for crafts cycles) [] list legs missed.items [] fated.items

@@ -3,7 +3,7 @@ ghost use Rattle.std.specs.Prelude.{◌≡◌, ◌≤◌, ℕ, IfOk};
 ghost use Rattle.acas_base.specs.Encounter.{IsEncounter};
 ghost use Rattle.acas_base.specs.Ranges.{IsCycle};
 ghost use Rattle.acas_base.specs.declared.TheConstants.{CRAFTS};
-ghost use Rattle.enc_gen.specs.Generated.{generated, version_of};
+ghost use Rattle.enc_gen.specs.Generated.{generated, setting_for, version_of};
 ghost use Rattle.enc_gen.specs.Near.{StaysNear};
 ghost use Rattle.flight.specs.Inside.{IsInside};
 
@@ -11,7 +11,9 @@ use crate::crafts::{crafts_of, draw_drafts, legs_of};
 use crate::draws::Draws;
 use crate::fates::draw_fates;
 use crate::misses::draw_misses;
-use acas_base::{Encounter, USUAL_ALTITUDE_GAINS, USUAL_RANGE_GAINS, most_crafts};
+use acas_base::{
+    Encounter, Profile, Setting, USUAL_ALTITUDE_GAINS, USUAL_RANGE_GAINS, most_crafts,
+};
 use std::alloc::{AllocError, Global};
 
 // The version of the format: version 1 where it has room for all aircraft, else version 2.
@@ -25,8 +27,24 @@ fn version_of(crafts: u8) -> u8
     }
 }
 
+// How it is run. It is called nothing.
+fn setting_for(crafts: u8, cycles: u16) -> Setting
+    ensures { result ≡ setting_for crafts cycles }
+{
+    Setting {
+        version: version_of(crafts),
+        profile: Profile::One,
+        cycles,
+        elevation: 0,
+        range: USUAL_RANGE_GAINS,
+        altitude: USUAL_ALTITUDE_GAINS,
+        name: None,
+        clock: None,
+    }
+}
+
 /// The encounter of a number, with `crafts` aircraft and `cycles` cycles. It has version 1 up to eight aircraft, and
-/// version 2 above (this project's profile). It is in the box, and has no ceiling and no plan.
+/// version 2 above (this project's profile). It is in the box, and has profile 1, no labels, no ceiling and no plan.
 ///
 /// The error says that memory was wanting.
 pub fn make(alloc: Global, number: u32, crafts: u8, cycles: u16) -> Result<Encounter, AllocError>
@@ -44,19 +62,9 @@ pub fn make(alloc: Global, number: u32, crafts: u8, cycles: u16) -> Result<Encou
     let misses = draw_misses(alloc, &mut draws, &list, cycles)?;
     let fates = draw_fates(alloc, &mut draws, &list, cycles)?;
     let plans = Vec::new(alloc);
-    let version = version_of(crafts);
-    match Encounter::make(
-        version,
-        cycles,
-        0,
-        USUAL_RANGE_GAINS,
-        USUAL_ALTITUDE_GAINS,
-        list,
-        legs,
-        misses,
-        plans,
-        fates,
-    ) {
+    let calls = Vec::new(alloc);
+    let setting = setting_for(crafts, cycles);
+    match Encounter::make(setting, calls, list, legs, misses, plans, fates) {
         Some(encounter) => Ok(encounter),
         None => unreachable!(),
     }

@@ -27,7 +27,7 @@ along-one start rate legs index cycle k d course within some low high =
     assoc : (a b c : ℤ) → a +ℤ (b +ℤ c) ≡ (a +ℤ b) +ℤ c
     assoc a b c = omega (arith, ints)
 
-same-place : (p q : Place) → p.x ≡ q.x → p.y ≡ q.y → p.z ≡ q.z → p ≡ q
+pub same-place : (p q : Place) → p.x ≡ q.x → p.y ≡ q.y → p.z ≡ q.z → p ≡ q
 same-place p q x y z = grind arith
 
 -- Some way along a leg.

@@ -3,6 +3,7 @@ pub mod Latest
 pub mod Carrying
 pub mod Along
 pub mod Between
+pub mod Stepping
 pub mod Missing
 pub mod Slants
 pub mod Staying

@@ -1,5 +1,5 @@
 // How one aircraft flies.
-ghost use Rattle.std.specs.Prelude.{◌≡◌, ◌↔◌, ℕ, ◌+◌, ◌-◌, ◌<◌, ◌≤◌, ◌^◌, ◌==◌, nat_lt, true, false, IsTrue, filter, length};
+ghost use Rattle.std.specs.Prelude.{◌≡◌, ◌↔◌, ℕ, ◌+◌, ◌-◌, ◌<◌, ◌≤◌, ◌^◌, ◌==◌, nat_le, nat_lt, true, false, IsTrue, filter, length};
 ghost use Rattle.std.specs.List.Sorted.{IsPartitionPoint};
 ghost use Rattle.acas_base.specs.Order.{IsRising, leg_below};
 ghost use Rattle.acas_base.specs.Ranges.{IsCycle};
@@ -50,6 +50,21 @@ impl<'a> Course<'a> {
         place
     }
 
+    // The place one cycle later, where this is the place in a cycle.
+    pub(crate) fn place_after(&self, place: Place, cycle: u16) -> Place
+        requires cycle { IsCycle cycle }
+        requires more { cycle < 600 }
+        requires place { place ≡ place_in self.now.start self.now.legs.now cycle }
+        ensures value { result ≡ place_in self.now.start self.now.legs.now (cycle + 1) }
+        ensures bounds { IsReachable result }
+    {
+        let begun = count_begun(self.legs, cycle);
+        if begun == 0 {
+            return place;
+        }
+        place.flown(&self.legs[begun - 1], 1)
+    }
+
     // Whether all places up to a cycle are in the box. The places on a leg lie between its ends.
     pub(crate) fn stays_inside(&self, cycles: u16) -> bool
         requires { IsCycle cycles }
@@ -88,6 +103,15 @@ fn count_before(legs: &[Leg], craft: usize) -> usize
     ensures parted { IsPartitionPoint (λ (leg : Leg). nat_lt leg.craft craft ≡ true) (λ (leg : Leg). nat_lt leg.craft craft ≡ false) legs.now result }
 {
     legs.partition_point(|leg| usize::from(leg.craft) < craft)
+}
+
+// How many legs begin in a cycle or before it.
+fn count_begun(legs: &[Leg], cycle: u16) -> usize
+    requires { IsCourse legs.now }
+    ensures bound { result ≤ length legs.now }
+    ensures parted { IsPartitionPoint (λ (leg : Leg). nat_le leg.from cycle ≡ true) (λ (leg : Leg). nat_le leg.from cycle ≡ false) legs.now result }
+{
+    legs.partition_point(|leg| leg.from <= cycle)
 }
 
 // The cycle in which the leg at an index begins, but no later than `cycle`. Where there is no such leg it is `cycle`.

@@ -1,5 +1,5 @@
 // Where all aircraft are in one cycle.
-ghost use Rattle.std.specs.Prelude.{◌≡◌, ℕ, ◌<◌, ◌≤◌, pos, neg_ℤ, IfSome, length};
+ghost use Rattle.std.specs.Prelude.{◌≡◌, ℕ, ◌+◌, ◌<◌, ◌≤◌, pos, neg_ℤ, IfSome, length};
 ghost use Rattle.acas_base.specs.Ranges.{IsCycle};
 ghost use Rattle.acas_base.specs.declared.TheConstants.{CRAFTS};
 ghost use Rattle.acas_num.specs.Clamp.{LiesBetween};
@@ -9,6 +9,7 @@ ghost use Rattle.flight.specs.Flight.{ArePlaces, nowhere, position};
 ghost use Rattle.flight.specs.Inside.{IsInBox, IsInside};
 ghost use Rattle.flight.specs.Measurement.{is_missed, measurement, own_altitude};
 
+use crate::course::Course;
 use crate::measuring::{feet, measured};
 use crate::misses::{is_missed, owns_missing};
 use crate::ranges::{put_ranges, ranges_of};
@@ -67,13 +68,28 @@ impl<'a> Places<'a> {
         // For the proof: no encounter has more than 16 aircraft.
         self.encounter.valid_law();
         let count = self.encounter.crafts().len() as u8;
-        put_places(&mut self.list, self.encounter, cycle);
+        if cycle == self.cycle + 1 {
+            step_places(&mut self.list, self.encounter, self.cycle);
+        } else {
+            put_places(&mut self.list, self.encounter, cycle);
+        }
         self.cycle = cycle;
         self.missing = owns_missing(self.encounter, cycle);
         match &mut self.ranges {
             Some(ranges) => put_ranges(ranges, &self.list, count),
             None => self.ranges = Some(ranges_of(&self.list, count)),
         }
+    }
+
+    /// Goes to the next cycle, and measures no ranges. It serves a caller in which few aircraft look in a cycle.
+    pub fn go_on(&mut self)
+        requires { self.old.cycle < 600 }
+        ensures { self.new ≡ record { encounter = self.old.encounter; cycle = self.old.cycle + 1 } }
+    {
+        step_places(&mut self.list, self.encounter, self.cycle);
+        self.cycle += 1;
+        self.missing = owns_missing(self.encounter, self.cycle);
+        self.ranges = None;
     }
 
     /// The encounter.
@@ -164,6 +180,33 @@ fn put_places(places: &mut [Place; CRAFTS], encounter: &Encounter, cycle: u16)
     for craft in 0..encounter.crafts().len() {
         places[craft] = position(encounter, craft as u8, cycle);
     }
+}
+
+// Puts the places of all aircraft one cycle later where those in a cycle stood. An aircraft with many legs takes no more
+// time than one with few.
+fn step_places(places: &mut [Place; CRAFTS], encounter: &Encounter, cycle: u16)
+    requires cycle { IsCycle cycle }
+    requires more { cycle < 600 }
+    requires places { ArePlaces encounter.now cycle places.old }
+    ensures { ArePlaces encounter.now (cycle + 1) places.new }
+{
+    // No encounter has more than 16 aircraft.
+    encounter.valid_law();
+    for craft in 0..encounter.crafts().len() {
+        places[craft] = place_later(encounter, craft, places[craft], cycle);
+    }
+}
+
+// Where an aircraft is one cycle later.
+fn place_later(encounter: &Encounter, craft: usize, place: Place, cycle: u16) -> Place
+    requires craft { craft < length encounter.now.crafts }
+    requires cycle { IsCycle cycle }
+    requires more { cycle < 600 }
+    requires place { place ≡ position encounter.now craft cycle }
+    ensures value { result ≡ position encounter.now craft (cycle + 1) }
+    ensures bounds { IsReachable result }
+{
+    Course::of(encounter, craft).place_after(place, cycle)
 }
 
 // Where the aircraft at an index is in a cycle.

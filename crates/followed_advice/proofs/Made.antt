@@ -1,18 +1,19 @@
 -- An encounter whose named aircraft fly through what is kept of their rows.
-use Rattle.std.proofs.Common.{◌≡◌, ℕ, zero, suc, ◌+◌, ◌<◌, ◌≤◌, ℤ, Bool, true, false, List, [], ◌∷◌, ◌++◌, length, get_or, refl, sym, ap, ◌∙◌, subst, arith, inl, inr, eqb-true, add-one, append_assoc}
+use Rattle.std.proofs.Common.{◌≡◌, ℕ, zero, suc, ◌+◌, ◌<◌, ◌≤◌, Bool, true, false, List, [], ◌∷◌, ◌++◌, length, get_or, refl, sym, ap, ◌∙◌, subst, arith, inl, inr, eqb-true, add-one, append_assoc}
 use Rattle.std.specs.Prelude.{All, filter, ◌==◌}
 use Rattle.std.specs.List.{flat_map, range_with_len}
 use Rattle.std.proofs.lemmas.Bool.{cases_Bool, cases_eq, cond-false, cond-true, cond_both, eq-eqb, ne_eqb}
 use Rattle.std.proofs.lemmas.List.{append-nil}
 use Rattle.std.proofs.lemmas.List.Elements.{All-append, All-filter, All-nil, filter-append, filter_passes}
-use Rattle.acas_base.specs.Encounter.{AreListed, IsEncounter, IsLeg, Parts, encounter_of}
+use Rattle.acas_base.specs.Encounter.{AreListed, IsEncounter, IsLeg, Parts, encounter_of, setting_of}
 use Rattle.acas_base.specs.Order.{leg_below}
 use Rattle.acas_base.specs.declared.craft.CraftSpec.{CraftSpec}
-use Rattle.acas_base.specs.declared.craft.Gains.{Gains}
 use Rattle.acas_base.specs.declared.craft.Leg.{Leg}
 use Rattle.acas_base.specs.declared.craft.Miss.{Miss}
+use Rattle.acas_base.specs.declared.label.Call.{Call}
 use Rattle.acas_base.specs.declared.link.Fate.{Fate}
 use Rattle.acas_base.specs.declared.link.LinkPlan.{LinkPlan}
+use Rattle.acas_base.specs.declared.setting.Setting.{Setting}
 use Rattle.flight.proofs.Courses.{course-of}
 use Rattle.flight.specs.Flight.{legs_of, place_in, position, start_of}
 use Rattle.flight.specs.Inside.{IsInBox, IsInside}
@@ -154,6 +155,8 @@ made-valid read named rows valid inside are start = record {
   altitude = valid.altitude;
   crafts = valid.crafts;
   format = valid.format;
+  older = λ early. let h = valid.older early in record { profile = h.profile; name = h.name; clock = h.clock; calls = h.calls };
+  labels = valid.labels;
   records = record {
     legs = listed read named rows (record { valid = valid; inside = inside; are = are; start = start });
     misses = valid.records.misses;
@@ -212,9 +215,8 @@ flies-kept read named rows valid inside are start =
     }
 
 -- The parts of which the encounter is made.
-pub parts-are : (e : Parts) (named : List ℕ) (rows : List (List Place)) (version cycles : ℕ) (elevation : ℤ) (range altitude : Gains) (crafts : List CraftSpec) (legs : List Leg)
+pub parts-are : (e : Parts) (named : List ℕ) (rows : List (List Place)) (setting : Setting) (calls : List Call) (crafts : List CraftSpec) (legs : List Leg)
     (misses : List Miss) (plans : List LinkPlan) (fates : List Fate)
-    → version ≡ e.version → cycles ≡ e.cycles → elevation ≡ e.elevation → range ≡ e.range → altitude ≡ e.altitude
-    → crafts ≡ e.crafts → legs ≡ all_legs e named rows → misses ≡ e.misses → plans ≡ e.plans → fates ≡ e.fates
-    → encounter_of version cycles elevation range altitude crafts legs misses plans fates ≡ made-of e named rows
-parts-are e named rows version cycles elevation range altitude crafts legs misses plans fates a b c d f g h i j k = rw (a, b, c, d, f, g, h, i, j, k) refl
+    → setting ≡ setting_of e → calls ≡ e.calls → crafts ≡ e.crafts → legs ≡ all_legs e named rows → misses ≡ e.misses → plans ≡ e.plans → fates ≡ e.fates
+    → encounter_of setting calls crafts legs misses plans fates ≡ made-of e named rows
+parts-are e named rows setting calls crafts legs misses plans fates a b c d f g h = rw (a, b, c, d, f, g, h) refl

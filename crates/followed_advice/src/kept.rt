@@ -113,11 +113,8 @@ pub(crate) fn fly_kept(
     ensures { IfOk result (FliesKept encounter.now named.now (map (λ row. row.items) rows.now)) }
 {
     let made = Encounter::make(
-        encounter.version(),
-        encounter.cycles(),
-        encounter.ground(),
-        encounter.range_gains(),
-        encounter.altitude_gains(),
+        encounter.setting(),
+        Vec::from_slice(alloc, encounter.calls())?,
         Vec::from_slice(alloc, encounter.crafts())?,
         all_legs(alloc, encounter, named, rows)?,
         Vec::from_slice(alloc, encounter.misses())?,

@@ -5,14 +5,15 @@ use Rattle.std.specs.Int.{int_div_euclid}
 use Rattle.std.specs.List.{list_any}
 use Rattle.std.proofs.lemmas.Int.{ints}
 use Rattle.std.proofs.lemmas.List.{get_or-map, length-map}
-use Rattle.acas_base.specs.Encounter.{AreCrafts, IsCraft, IsEncounter, IsPlain, Parts, encounter_of, is_active}
+use Rattle.acas_base.specs.Encounter.{AreCrafts, IsCraft, IsEncounter, IsPlain, Parts, encounter_of, is_active, setting_of}
 use Rattle.acas_base.specs.Ranges.{IsWithin}
 use Rattle.acas_base.specs.declared.craft.CraftSpec.{CraftSpec}
-use Rattle.acas_base.specs.declared.craft.Gains.{Gains}
 use Rattle.acas_base.specs.declared.craft.Leg.{Leg}
 use Rattle.acas_base.specs.declared.craft.Miss.{Miss}
+use Rattle.acas_base.specs.declared.label.Call.{Call}
 use Rattle.acas_base.specs.declared.link.Fate.{Fate}
 use Rattle.acas_base.specs.declared.link.LinkPlan.{LinkPlan}
+use Rattle.acas_base.specs.declared.setting.Setting.{Setting}
 use Rattle.flight.specs.Bounds.{IsReachable}
 use Rattle.flight.specs.Flight.{start_of}
 use Rattle.flight.specs.Inside.{IsInBox}
@@ -103,6 +104,8 @@ flown-encounter e rows is can = record {
   altitude = is.altitude;
   crafts = crafts-are e rows is can;
   format = λ first. plain-kept e rows can (is.format first);
+  older = λ early. let h = is.older early in record { profile = h.profile; name = h.name; clock = h.clock; calls = h.calls };
+  labels = rw long is.labels;
   records = record {
     legs = rw (long, ← can.count) (all-listed rows (λ i d h. omega (arith, can.long i d h, is.run.length.1)) can.flyable);
     misses = rw long is.records.misses;
@@ -126,10 +129,14 @@ pub flown-through : (e : Parts) (rows : List (List Place)) → CanFly e rows →
 flown-through e rows can = record {
   alike = record {
     version = refl;
+    profile = refl;
     cycles = refl;
     terrain = refl;
     range = refl;
     altitude = refl;
+    name = refl;
+    clock = refl;
+    calls = refl;
     crafts = kinds-kept e.crafts rows (sym can.count);
     misses = refl;
     plans = refl;
@@ -157,9 +164,8 @@ box-near p box = record {
   altitude-abs z low high = omega (arith, ints, low, high)
 
 -- The parts of which the encounter is made.
-pub parts-are : (e : Parts) (rows : List (List Place)) (version cycles : ℕ) (elevation : ℤ) (range altitude : Gains) (crafts : List CraftSpec) (legs : List Leg)
+pub parts-are : (e : Parts) (rows : List (List Place)) (setting : Setting) (calls : List Call) (crafts : List CraftSpec) (legs : List Leg)
     (misses : List Miss) (plans : List LinkPlan) (fates : List Fate)
-    → version ≡ e.version → cycles ≡ e.cycles → elevation ≡ e.elevation → range ≡ e.range → altitude ≡ e.altitude
-    → crafts ≡ crafts_at e.crafts rows → legs ≡ legs_of_all rows → misses ≡ e.misses → plans ≡ e.plans → fates ≡ e.fates
-    → encounter_of version cycles elevation range altitude crafts legs misses plans fates ≡ flown_by e rows
-parts-are e rows version cycles elevation range altitude crafts legs misses plans fates a b c d f g h i j k = rw (a, b, c, d, f, g, h, i, j, k) refl
+    → setting ≡ setting_of e → calls ≡ e.calls → crafts ≡ crafts_at e.crafts rows → legs ≡ legs_of_all rows → misses ≡ e.misses → plans ≡ e.plans → fates ≡ e.fates
+    → encounter_of setting calls crafts legs misses plans fates ≡ flown_by e rows
+parts-are e rows setting calls crafts legs misses plans fates a b c d f g h = rw (a, b, c, d, f, g, h) refl

@@ -175,7 +175,7 @@ same-legs-of d e count one two some cycles first second fly craft within =
 
 same-parts : (d e : Parts) → AreAlike d e → d.crafts ≡ e.crafts → d.legs ≡ e.legs → d ≡ e
 same-parts d e alike crafts legs =
-    grind (arith, alike.version, alike.cycles, alike.terrain, alike.range, alike.altitude, crafts, legs, alike.misses, alike.plans, alike.fates)
+    grind (arith, alike.version, alike.profile, alike.cycles, alike.terrain, alike.range, alike.altitude, alike.name, alike.clock, alike.calls, crafts, legs, alike.misses, alike.plans, alike.fates)
 
 -- Encounters that differ in nothing but how their aircraft fly are the same, where these fly alike and each leg is
 -- needed.

@@ -1,7 +1,7 @@
 -- The legs of all aircraft of an encounter.
 use Rattle.std.specs.Prelude.{◌*ℤ◌, ◌≡◌, ℕ, ◌+◌, ◌<◌, ◌≤◌, pos, List, [], ◌∷◌, ◌++◌, All, length, map, slice_index_or}
 use Rattle.std.specs.Int.{int_div_euclid}
-use Rattle.acas_base.specs.Encounter.{Parts, encounter_of}
+use Rattle.acas_base.specs.Encounter.{Parts, encounter_of, setting_of}
 use Rattle.acas_base.specs.declared.craft.CraftSpec.{CraftSpec}
 use Rattle.acas_base.specs.declared.craft.Leg.{Leg}
 use Rattle.flight.specs.Flight.{legs_of, position, start_of}
@@ -66,10 +66,14 @@ unplaced craft = record { address = craft.address; kind = craft.kind; x = pos 0;
 -- Two encounters differ in nothing but where the aircraft begin and how they fly.
 pub record AreAlike (d e : Parts) : Type 0 where
   pub version : d.version ≡ e.version
+  pub profile : d.profile ≡ e.profile
   pub cycles : d.cycles ≡ e.cycles
   pub terrain : d.elevation ≡ e.elevation
   pub range : d.range ≡ e.range
   pub altitude : d.altitude ≡ e.altitude
+  pub name : d.name ≡ e.name
+  pub clock : d.clock ≡ e.clock
+  pub calls : d.calls ≡ e.calls
   pub crafts : map unplaced d.crafts ≡ map unplaced e.crafts
   pub misses : d.misses ≡ e.misses
   pub plans : d.plans ≡ e.plans
@@ -81,7 +85,7 @@ FlyAlike d e = (craft cycle : ℕ) → craft < length e.crafts → 1 ≤ cycle �
 
 -- The encounter that is like another one, but whose aircraft fly through these rows.
 abbrev pub flown_by : Parts → List (List Place) → Parts
-flown_by e rows = encounter_of e.version e.cycles e.elevation e.range e.altitude (crafts_at e.crafts rows) (legs_of_all rows) e.misses e.plans e.fates
+flown_by e rows = encounter_of (setting_of e) e.calls (crafts_at e.crafts rows) (legs_of_all rows) e.misses e.plans e.fates
 
 -- This encounter is like another one, but its aircraft fly through these rows, each leg of it being needed.
 pub record FliesThrough (e like : Parts) (rows : List (List Place)) : Type 0 where

@@ -46,11 +46,8 @@ pub fn fly_through(
     ensures flies { IfOk result (λ made. FliesThrough made encounter.now (map (λ row. row.items) rows.now)) }
 {
     let made = Encounter::make(
-        encounter.version(),
-        encounter.cycles(),
-        encounter.ground(),
-        encounter.range_gains(),
-        encounter.altitude_gains(),
+        encounter.setting(),
+        Vec::from_slice(alloc, encounter.calls())?,
         crafts_at(alloc, encounter.crafts(), rows)?,
         legs_of_all(alloc, rows)?,
         Vec::from_slice(alloc, encounter.misses())?,

@@ -1,5 +1,8 @@
 // Expected values: by hand from "Records", "Order" and "Limits" in docs/FORMATS.md.
-use acas_base::{CopyPlan, CraftSpec, Encounter, Fate, Gains, Leg, LinkPlan};
+use acas_base::{
+    Call, CopyPlan, CraftSpec, Encounter, Fate, Gains, Label, Leg, LinkPlan, Profile, Setting,
+    is_call_sign,
+};
 use std::alloc::Global;
 use std::test::Fail;
 use test_encounters::{PLAIN, aircraft, fate, leg, miss};
@@ -18,14 +21,25 @@ fn crafts(alloc: Global, count: u32) -> Result<Vec<CraftSpec>, Fail> {
     Ok(crafts)
 }
 
+// A setting of a format, without labels.
+fn setting(version: u8, cycles: u16) -> Setting {
+    Setting {
+        version,
+        profile: Profile::One,
+        cycles,
+        elevation: 0,
+        range: GAINS,
+        altitude: GAINS,
+        name: None,
+        clock: None,
+    }
+}
+
 // An encounter of so many aircraft of format 1 with these fates.
 fn make(alloc: Global, count: u32, fates: &[Fate]) -> Result<Option<Encounter>, Fail> {
     Ok(Encounter::make(
-        1,
-        31,
-        0,
-        GAINS,
-        GAINS,
+        setting(1, 31),
+        Vec::new(alloc),
         crafts(alloc, count)?,
         [leg(0, 1, 760, 0)].to_vec(alloc)?,
         Vec::new(alloc),
@@ -49,11 +63,8 @@ fn most_legs(alloc: Global) -> Result<Vec<Leg>, Fail> {
 // The most aircraft, cycles and legs.
 fn longest(alloc: Global) -> Result<Option<Encounter>, Fail> {
     Ok(Encounter::make(
-        2,
-        600,
-        0,
-        GAINS,
-        GAINS,
+        setting(2, 600),
+        Vec::new(alloc),
         crafts(alloc, 16)?,
         most_legs(alloc)?,
         Vec::new(alloc),
@@ -114,11 +125,8 @@ fn with_link(alloc: Global, held: CopyPlan) -> Result<Encounter, Fail> {
         third: PLAIN,
     };
     let made = Encounter::make(
-        2,
-        31,
-        0,
-        GAINS,
-        GAINS,
+        setting(2, 31),
+        Vec::new(alloc),
         crafts(alloc, 16)?,
         Vec::new(alloc),
         [miss(0, 1, 1, 2)].to_vec(alloc)?,
@@ -139,4 +147,101 @@ fn tells_the_fate_of_a_message(rt: HostRuntime) -> Result<(), Fail> {
     let held = CopyPlan { hold: 3, mask: 0 };
     assert!(rt; has_fates(&with_link(rt.alloc(), held)?, held));
     Ok(())
+}
+
+// Whether an encounter of one aircraft is made with this setting and these call signs.
+fn is_made_with(alloc: Global, setting: Setting, calls: &[Call]) -> Result<bool, Fail> {
+    let made = Encounter::make(
+        setting,
+        calls.to_vec(alloc)?,
+        crafts(alloc, 1)?,
+        Vec::new(alloc),
+        Vec::new(alloc),
+        Vec::new(alloc),
+        Vec::new(alloc),
+    );
+    Ok(made.is_some())
+}
+
+// Neither format 1 nor format 2 has profile 2, a name, a time of day or a call sign.
+#[test]
+fn makes_nothing_with_labels(rt: HostRuntime) -> Result<(), Fail> {
+    let label = Label::new(b"BTC2937").ok_or("no label")?;
+    let call = Call {
+        craft: 0,
+        sign: label,
+    };
+    for version in [1, 2] {
+        let plain = setting(version, 31);
+        let mut later = plain;
+        later.profile = Profile::Two;
+        let mut named = plain;
+        named.name = Some(label);
+        let mut timed = plain;
+        timed.clock = Some(0);
+        assert!(rt; is_made_with(rt.alloc(), plain, &[])?);
+        assert!(rt; !is_made_with(rt.alloc(), later, &[])?);
+        assert!(rt; !is_made_with(rt.alloc(), named, &[])?);
+        assert!(rt; !is_made_with(rt.alloc(), timed, &[])?);
+        assert!(rt; !is_made_with(rt.alloc(), plain, &[call])?);
+    }
+    Ok(())
+}
+
+// A text, and whether it is taken.
+type Text = (&'static [u8], bool);
+
+const LABELS: &[Text] = &[
+    (b" ", true),
+    (b"~", true),
+    (&[b'A'; 60], true),
+    (b"", false),
+    (&[b'A'; 61], false),
+    (b"A,B", false),
+    (b"\x1F", false),
+    (b"\x7F", false),
+];
+
+// The place of the first text that is wrongly taken as a label, or wrongly refused.
+fn first_label(rows: &[Text]) -> Option<usize> {
+    for place in 0..rows.len() {
+        let (text, want) = rows[place];
+        if Label::new(text).is_some() != want {
+            return Some(place);
+        }
+    }
+    None
+}
+
+#[test]
+fn takes_labels(rt: HostRuntime) {
+    assert_eq!(rt; first_label(LABELS), None);
+}
+
+const CALL_SIGNS: &[Text] = &[
+    (b"BTC2937", true),
+    (b"A", true),
+    (b"A-B-C-D1", true),
+    (b"", false),
+    (b"ABCDEFGHI", false),
+    (b"Btc2937", false),
+    (b"400A01", false),
+    (b"400A0G", true),
+    (b"400A011", true),
+];
+
+// The place of the first text that is wrongly taken as a call sign, or wrongly refused.
+fn first_call_sign(rows: &[Text]) -> Option<usize> {
+    for place in 0..rows.len() {
+        let (text, want) = rows[place];
+        if is_call_sign(text) != want {
+            return Some(place);
+        }
+    }
+    None
+}
+
+#[test]
+fn takes_call_signs(rt: HostRuntime) {
+    assert_eq!(rt; first_call_sign(CALL_SIGNS), None);
 }

@@ -18,6 +18,8 @@ mod craft_view_tests;
 #[cfg(test)]
 mod flight_tests;
 #[cfg(test)]
+mod miss_test_tests;
+#[cfg(test)]
 mod plot_axes_tests;
 #[cfg(test)]
 mod project_tests;

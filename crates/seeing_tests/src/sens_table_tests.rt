@@ -1,8 +1,8 @@
 // Expected values: the table of "Levels" in docs/RULES.md.
 ghost use Rattle.acas_base.specs.Ranges.{IsWithin};
 
-use acas_base::Row;
-use sens_table::level_of;
+use acas_base::{Profile, Row};
+use sens_table::{Above, level_of};
 
 const FOOT: i64 = 1024;
 
@@ -77,4 +77,101 @@ fn thresholds_change_at_42_000(rt: HostRuntime) {
     let above = level_of(42_000, 0);
     assert_eq!(rt; above.ta, thresholds(48, 7_898, 1_200));
     assert_eq!(rt; above.ra, Some(thresholds(35, 6_683, 800)));
+}
+
+// The level of an aircraft over ground at sea level that was at these altitudes, one in each cycle.
+fn level_after(profile: Profile, altitudes: &[i16]) -> u8 {
+    let mut above = Above::first(0, 0);
+    for place in 0..altitudes.len() {
+        let altitude = i32::from(altitudes[place]);
+        above = if place == 0 {
+            Above::first(altitude, 0)
+        } else {
+            above.next(profile, altitude, 0)
+        };
+    }
+    above.level().sl
+}
+
+// Each row begins on one side of a bound and comes as far as its width, less one foot and whole; in the last three it
+// turns back within the width. The numbers are the level in profile 2 and in profile 1.
+const MEMORY: &[(&[i16], u8, u8)] = &[
+    (&[999, 1_099], 2, 3),
+    (&[999, 1_100], 3, 3),
+    (&[1_000, 900], 3, 2),
+    (&[1_000, 899], 2, 2),
+    (&[2_349, 2_549], 3, 4),
+    (&[2_349, 2_550], 4, 4),
+    (&[2_350, 2_150], 4, 3),
+    (&[2_350, 2_149], 3, 3),
+    (&[4_999, 5_499], 4, 5),
+    (&[4_999, 5_500], 5, 5),
+];
+
+const MEMORY_ABOVE: &[(&[i16], u8, u8)] = &[
+    (&[10_600, 9_500], 6, 5),
+    (&[10_600, 9_499], 5, 5),
+    (&[9_999, 10_500], 6, 6),
+    (&[19_999, 20_499], 6, 7),
+    (&[20_000, 19_500], 7, 6),
+    (&[20_000, 19_499], 6, 6),
+    (&[10_600, 9_450, 10_150], 5, 6),
+    (&[10_600, 9_500, 10_150], 6, 6),
+    (&[10_600, 9_450, 10_500], 6, 6),
+];
+
+// The place of the first row with another level.
+fn first_forgotten(rows: &[(&[i16], u8, u8)]) -> Option<usize> {
+    for place in 0..rows.len() {
+        let (altitudes, second, first) = rows[place];
+        if level_after(Profile::Two, altitudes) != second
+            || level_after(Profile::One, altitudes) != first
+        {
+            return Some(place);
+        }
+    }
+    None
+}
+
+#[test]
+fn profile_2_remembers_the_level(rt: HostRuntime) {
+    assert_eq!(rt; first_forgotten(MEMORY), None);
+    assert_eq!(rt; first_forgotten(MEMORY_ABOVE), None);
+}
+
+#[test]
+fn profile_2_remembers_whether_it_may_descend(rt: HostRuntime) {
+    let high = Above::first(1_550, 0);
+    assert!(rt; high.descends && high.descends_faster);
+    let lower = high.next(Profile::Two, 1_450, 0);
+    assert!(rt; lower.descends && lower.descends_faster);
+    let low = lower.next(Profile::Two, 1_449, 0);
+    assert!(rt; low.descends && !low.descends_faster);
+    let lowest = low.next(Profile::Two, 999, 0);
+    assert!(rt; !lowest.descends);
+    assert!(rt; !lowest.next(Profile::Two, 1_199, 0).descends);
+    assert!(rt; lowest.next(Profile::Two, 1_200, 0).descends);
+    assert!(rt; !high.next(Profile::One, 1_549, 0).descends_faster);
+}
+
+// The numbers of profile 2 at an altitude: the reduced time, the time of an increase, and the product.
+#[test]
+fn levels_have_the_numbers_of_profile_2(rt: HostRuntime) {
+    let rows = [
+        (0, 0, 0, 73_835),
+        (1_000, 15, 13, 73_835),
+        (2_350, 18, 18, 102_631),
+        (5_000, 20, 20, 102_631),
+        (10_000, 22, 24, 102_631),
+        (20_000, 25, 26, 147_671),
+        (42_000, 25, 26, 147_671),
+    ];
+    for (altitude, slow, increase, product) in rows {
+        let level = level_of(altitude, 0);
+        assert_eq!(rt;
+            (level.slow_tau, level.increase_tau, level.product),
+            (slow, increase, product),
+            "{altitude}"
+        );
+    }
 }

@@ -1,6 +1,6 @@
 // Expected values: by hand from "Tests" in docs/RULES.md.
 use acas_base::Row;
-use vert_test::alt_test;
+use vert_test::{Approach, alt_test, is_slow, passes_close};
 
 const FOOT: i64 = 1024;
 
@@ -26,5 +26,54 @@ fn tells_a_little_more_than_tau(rt: HostRuntime) {
     ];
     for (dz, dzdot, holds) in rows {
         assert_eq!(rt; alt_test(dz, dzdot, &LEVEL_5), holds, "{dz} {dzdot}");
+    }
+}
+
+// 600 ft/min is 10,240. Beyond it own has to move the other's way, and slower.
+#[test]
+fn tells_a_slow_aircraft(rt: HostRuntime) {
+    let rows = [
+        (10_240, 0, true),
+        (-10_240, 0, true),
+        (10_241, 0, false),
+        (10_241, 10_241, false),
+        (10_241, 10_242, true),
+        (-10_241, -10_242, true),
+        (-10_241, 10_242, false),
+    ];
+    for (own, other, slow) in rows {
+        assert_eq!(rt; is_slow(own, other), slow, "{own} {other}");
+    }
+}
+
+// Twice ZTHR is 1,433,600. The pair of the first three rows comes down to twice a height of 2,048,472 in 10 half-seconds,
+// to 1,433,880 in 28, and to 1,399,736 in 29. The next four are at ZTHR and one unit above it, at the later and at the
+// sooner time. The last three pass through own altitude, from above and from below, or get away from it.
+#[test]
+fn tells_a_small_vertical_miss(rt: HostRuntime) {
+    let row = Row {
+        tau: 35,
+        dmod: 6_683 * FOOT,
+        zthr: 700 * FOOT,
+    };
+    let rows = [
+        (1_194_956, -34_144, 10, 2, false),
+        (1_194_956, -34_144, 28, 2, false),
+        (1_194_956, -34_144, 29, 2, true),
+        (716_800, 0, 10, 2, true),
+        (716_801, 0, 10, 2, false),
+        (716_801, 1, 10, 0, false),
+        (716_801, -1, 2, 0, true),
+        (1_000_000, -100_000, 100, 0, true),
+        (-1_000_000, 100_000, 100, 0, true),
+        (-1_000_000, -100_000, 100, 0, false),
+    ];
+    for (height, rate, halves, nearer, close) in rows {
+        let approach = Approach { halves, nearer };
+        assert_eq!(rt;
+            passes_close(height, rate, &approach, &row),
+            close,
+            "{height} {rate} {halves} {nearer}"
+        );
     }
 }

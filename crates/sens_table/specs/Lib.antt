@@ -1,2 +1,3 @@
 pub mod Levels
+pub mod Above
 pub use Rattle.acas_base.specs.Ranges

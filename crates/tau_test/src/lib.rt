@@ -3,4 +3,4 @@
 
 mod range;
 
-pub use range::{range_test, range_test_law};
+pub use range::{halves_by_modified_tau, range_test, range_test_law};

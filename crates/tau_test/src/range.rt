@@ -1,8 +1,8 @@
 // The range test.
-ghost use Rattle.std.specs.Prelude.{◌↔◌, IsTrue, ◌<◌, ◌≤◌, ◌^◌, ◌*◌, ℤ, pos, unsigned_abs};
+ghost use Rattle.std.specs.Prelude.{◌≡◌, ◌↔◌, IsTrue, ◌<◌, ◌≤◌, ◌^◌, ◌*◌, ◌/◌, ◌-◌, ℤ, pos, unsigned_abs};
 ghost use Rattle.acas_base.specs.Ranges.{IsBetween};
 ghost use Rattle.acas_base.specs.declared.level.Row.{Row};
-ghost use Rattle.tau_test.specs.RangeTest.{modified_tau, is_range_hit, IsRangeHit};
+ghost use Rattle.tau_test.specs.RangeTest.{modified_tau, halves_by_modified_tau, is_range_hit, IsRangeHit};
 
 use acas_base::Row;
 
@@ -42,6 +42,40 @@ fn is_soon(r: u64, rate: u64, dmod: u64, tau: u64) -> bool
     ensures { IsTrue result ↔ (modified_tau r rate dmod ≤ tau) }
 {
     r * r - dmod * dmod <= tau * (r * rate)
+}
+
+/// Twice modified tau, in whole half-seconds rounded down and at most twice the row's tau. It is 0 within DMOD, and
+/// where the range doesn't close (this project's profile 2).
+#[tactic(auto, unfolding(crate::specs::RangeTest::halves_by_modified_tau))]
+pub fn halves_by_modified_tau(r: i64, rdot: i64, row: &Row) -> u16
+    requires range { IsBetween (pos 0) (pos (2 ^ 28)) r }
+    requires rate { unsigned_abs rdot ≤ 2 ^ 23 }
+    requires tau { IsBetween (pos 0) (pos (2 ^ 12)) row.now.tau }
+    requires dmod { IsBetween (pos 0) (pos (2 ^ 28)) row.now.dmod }
+    ensures value { result ≡ halves_by_modified_tau r rdot row.now }
+    ensures bound { result ≤ 2 * unsigned_abs row.now.tau }
+{
+    if rdot >= 0 || r <= row.dmod {
+        return 0;
+    }
+    let most = 2 * row.tau.unsigned_abs();
+    let halves = halves_beyond(
+        r.unsigned_abs(),
+        rdot.unsigned_abs(),
+        row.dmod.unsigned_abs(),
+    );
+    most.min(halves) as u16
+}
+
+// Twice modified tau, rounded down. The products are at most 2^57 and 2^51.
+fn halves_beyond(r: u64, rate: u64, dmod: u64) -> u64
+    requires range { r ≤ 2 ^ 28 }
+    requires beyond { dmod < r }
+    requires rate { rate ≤ 2 ^ 23 }
+    requires closing { 0 < rate }
+    ensures { result ≡ 2 * (r * r - dmod * dmod) / (r * rate) }
+{
+    2 * (r * r - dmod * dmod) / (r * rate)
 }
 
 /// A law: the truth value of the range test is true exactly where the test holds.

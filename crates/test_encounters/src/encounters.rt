@@ -2,7 +2,9 @@
 ghost use Rattle.std.specs.Prelude.{IfOk};
 ghost use Rattle.flight.specs.Inside.{IsInside};
 
-use acas_base::{Address, CopyPlan, CraftSpec, Encounter, Fate, Gains, Kind, Leg, Miss};
+use acas_base::{
+    Address, CopyPlan, CraftSpec, Encounter, Fate, Gains, Kind, Leg, Miss, Profile, Setting,
+};
 use flight::inside;
 use std::alloc::Global;
 use std::test::Fail;
@@ -67,18 +69,25 @@ pub fn any_encounter(
     misses: &[Miss],
     fates: &[Fate],
 ) -> Result<Encounter, Fail> {
-    let made = Encounter::make(
-        2,
+    let setting = Setting {
+        version: 2,
+        profile: Profile::One,
         cycles,
-        0,
-        Gains {
+        elevation: 0,
+        range: Gains {
             alpha: gain.unwrap_or(683),
             beta: gain.unwrap_or(256),
         },
-        Gains {
+        altitude: Gains {
             alpha: gain.unwrap_or(512),
             beta: gain.unwrap_or(128),
         },
+        name: None,
+        clock: None,
+    };
+    let made = Encounter::make(
+        setting,
+        Vec::new(alloc),
         crafts.to_vec(alloc)?,
         legs.to_vec(alloc)?,
         misses.to_vec(alloc)?,

@@ -74,10 +74,14 @@ flown-once d e like tracks one two first second = one-flight d e one two alike f
   alike : AreAlike d e
   alike = record {
     version = first.alike.version ∙ sym second.alike.version;
+    profile = first.alike.profile ∙ sym second.alike.profile;
     cycles = first.alike.cycles ∙ sym second.alike.cycles;
     terrain = first.alike.terrain ∙ sym second.alike.terrain;
     range = first.alike.range ∙ sym second.alike.range;
     altitude = first.alike.altitude ∙ sym second.alike.altitude;
+    name = first.alike.name ∙ sym second.alike.name;
+    clock = first.alike.clock ∙ sym second.alike.clock;
+    calls = first.alike.calls ∙ sym second.alike.calls;
     crafts = first.alike.crafts ∙ sym second.alike.crafts;
     misses = first.alike.misses ∙ sym second.alike.misses;
     plans = first.alike.plans ∙ sym second.alike.plans;

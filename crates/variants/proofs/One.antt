@@ -3,13 +3,14 @@ use Rattle.std.proofs.Common.{◌≡◌, ℕ, ◌<◌, ◌≤◌, ℤ, List, len
 use Rattle.std.specs.Prelude.{IfOk}
 use Rattle.std.specs.declared.alloc.AllocError.{AllocError}
 use Rattle.std.proofs.lemmas.List.{get_or-set_same, length-set}
-use Rattle.acas_base.specs.Encounter.{IsCraft, IsEncounter, Parts, encounter_of}
+use Rattle.acas_base.specs.Encounter.{IsCraft, IsEncounter, Parts, encounter_of, setting_of}
 use Rattle.acas_base.specs.declared.craft.CraftSpec.{CraftSpec}
-use Rattle.acas_base.specs.declared.craft.Gains.{Gains}
 use Rattle.acas_base.specs.declared.craft.Leg.{Leg}
 use Rattle.acas_base.specs.declared.craft.Miss.{Miss}
+use Rattle.acas_base.specs.declared.label.Call.{Call}
 use Rattle.acas_base.specs.declared.link.Fate.{Fate}
 use Rattle.acas_base.specs.declared.link.LinkPlan.{LinkPlan}
+use Rattle.acas_base.specs.declared.setting.Setting.{Setting}
 use Rattle.leg_rows.specs.Flights.{at_place}
 use Rattle.variants.specs.Exchanges.{IsExchanged, exchanged}
 use Rattle.variants.specs.Flights.{IsLate, IsMoved, IsSameRun, IsShifted, late_place, late_places, moved, with_craft, with_legs}
@@ -41,7 +42,7 @@ varied_parts e (Exchanged pair) = with_parts e (exchanged pair e.crafts) e.legs 
 
 same-parts : (e d : Parts) (crafts : List CraftSpec) (legs : List Leg) (fates : List Fate) → IsSameRun d e → d.crafts ≡ crafts → d.legs ≡ legs → d.misses ≡ e.misses → d.plans ≡ e.plans → d.fates ≡ fates
     → d ≡ with_parts e crafts legs fates
-same-parts e d crafts legs fates run a b m p f = grind (arith, run.version, run.cycles, run.terrain, run.range, run.altitude, a, b, m, p, f)
+same-parts e d crafts legs fates run a b m p f = grind (arith, run.version, run.profile, run.cycles, run.terrain, run.range, run.altitude, run.name, run.clock, run.calls, a, b, m, p, f)
 
 shifted-parts : (e d : Parts) (quantity : Quantity) (craft : ℕ) (value : ℤ) → IsShifted e quantity craft value d → d ≡ with_parts e (shift_crafts e quantity craft value) (shift_legs e quantity craft value) e.fates
 shifted-parts e d (Start axis) craft value is = same-parts e d _ _ _ is.run is.crafts is.legs is.misses is.plans is.fates
@@ -57,23 +58,36 @@ pub one-variant : OneVariant
 one-variant e change c d one two = varied-is e change c one ∙ sym (varied-is e change d two)
 
 -- The parts of which a variant is made.
-pub parts-made : (e : Parts) (version cycles : ℕ) (elevation : ℤ) (range altitude : Gains) (crafts : List CraftSpec) (legs : List Leg) (misses : List Miss) (plans : List LinkPlan) (fates : List Fate)
-    → version ≡ e.version → cycles ≡ e.cycles → elevation ≡ e.elevation → range ≡ e.range → altitude ≡ e.altitude → misses ≡ e.misses → plans ≡ e.plans
-    → encounter_of version cycles elevation range altitude crafts legs misses plans fates ≡ with_parts e crafts legs fates
-parts-made e version cycles elevation range altitude crafts legs misses plans fates a b c d f m p = rw (a, b, c, d, f, m, p) refl
+pub parts-made : (e : Parts) (setting : Setting) (calls : List Call) (crafts : List CraftSpec) (legs : List Leg) (misses : List Miss) (plans : List LinkPlan) (fates : List Fate)
+    → setting ≡ setting_of e → calls ≡ e.calls → misses ≡ e.misses → plans ≡ e.plans
+    → encounter_of setting calls crafts legs misses plans fates ≡ with_parts e crafts legs fates
+parts-made e setting calls crafts legs misses plans fates s c m p = rw (s, c, m, p) refl
+
+same-run : (e : Parts) (crafts : List CraftSpec) (legs : List Leg) (fates : List Fate) → IsSameRun (with_parts e crafts legs fates) e
+same-run e crafts legs fates = record {
+  version = refl;
+  profile = refl;
+  cycles = refl;
+  terrain = refl;
+  range = refl;
+  altitude = refl;
+  name = refl;
+  clock = refl;
+  calls = refl;
+}
 
 pub is-moved : (e : Parts) (craft : ℕ) (axis : Axis) (feet : ℤ) → craft < length e.crafts → IsMoved e craft axis feet (with_parts e (with_craft craft (moved axis feet) e.crafts) e.legs e.fates)
-is-moved e craft axis feet there = record { run = record { version = refl; cycles = refl; terrain = refl; range = refl; altitude = refl }; there = there; crafts = refl; legs = refl; misses = refl; plans = refl; fates = refl }
+is-moved e craft axis feet there = record { run = same-run e _ _ _; there = there; crafts = refl; legs = refl; misses = refl; plans = refl; fates = refl }
 
 pub is-late : (e : Parts) (craft : ℕ) (late : ℤ) → craft < length e.crafts
     → IsLate e craft late (with_parts e (with_craft craft (λ spec. at_place spec (late_place e craft late 1)) e.crafts) (with_legs craft (late_places e craft late) e.legs) e.fates)
-is-late e craft late there = record { run = record { version = refl; cycles = refl; terrain = refl; range = refl; altitude = refl }; there = there; crafts = refl; legs = refl; misses = refl; plans = refl; fates = refl }
+is-late e craft late there = record { run = same-run e _ _ _; there = there; crafts = refl; legs = refl; misses = refl; plans = refl; fates = refl }
 
 pub is-lossy : (e : Parts) (loss : Loss) → loss.first ≤ loss.last → IsLossy e loss (with_parts e e.crafts e.legs (with_losses loss e.fates))
-is-lossy e loss order = record { run = record { version = refl; cycles = refl; terrain = refl; range = refl; altitude = refl }; order = order; crafts = refl; legs = refl; misses = refl; plans = refl; fates = refl }
+is-lossy e loss order = record { run = same-run e _ _ _; order = order; crafts = refl; legs = refl; misses = refl; plans = refl; fates = refl }
 
 pub is-exchanged : (e : Parts) (pair : Exchange) → pair.one < length e.crafts → pair.two < length e.crafts → IsExchanged e pair (with_parts e (exchanged pair e.crafts) e.legs e.fates)
-is-exchanged e pair one two = record { run = record { version = refl; cycles = refl; terrain = refl; range = refl; altitude = refl }; one = one; two = two; crafts = refl; legs = refl; misses = refl; plans = refl; fates = refl }
+is-exchanged e pair one two = record { run = same-run e _ _ _; one = one; two = two; crafts = refl; legs = refl; misses = refl; plans = refl; fates = refl }
 
 -- What is made of the parts of a variant is the answer.
 pub answered : (e : Parts) (change : Change) (made : Option Parts) → IsVaried e change (varied_parts e change) → IsMade (varied_parts e change) made → IsAnswer e change made

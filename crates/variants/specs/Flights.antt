@@ -15,13 +15,18 @@ use Rattle.variants.specs.declared.change.Axis.TheVariants.{X, Y, Altitude}
 use Rattle.variants.specs.declared.change.Quantity.{Quantity}
 use Rattle.variants.specs.declared.change.Quantity.TheVariants.{Start, Late}
 
--- Two encounters have the same run: format, cycles, ground and gains.
+-- Two encounters have the same run: format, profile, cycles, ground and gains. They have the same labels too: name, time
+-- of day and call signs.
 pub record IsSameRun (d e : Parts) : Type 0 where
   pub version : d.version ≡ e.version
+  pub profile : d.profile ≡ e.profile
   pub cycles : d.cycles ≡ e.cycles
   pub terrain : d.elevation ≡ e.elevation
   pub range : d.range ≡ e.range
   pub altitude : d.altitude ≡ e.altitude
+  pub name : d.name ≡ e.name
+  pub clock : d.clock ≡ e.clock
+  pub calls : d.calls ≡ e.calls
 
 -- The aircraft, where the one at an index is changed and all others are as they were.
 abbrev pub with_craft : ℕ → (CraftSpec → CraftSpec) → List CraftSpec → List CraftSpec

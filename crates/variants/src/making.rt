@@ -37,11 +37,8 @@ pub(crate) fn made_inside(
     ensures { IfOk result (λ made. IsMade (with_parts encounter.now crafts.items legs.items fates.items) made) }
 {
     let made = Encounter::make(
-        encounter.version(),
-        encounter.cycles(),
-        encounter.ground(),
-        encounter.range_gains(),
-        encounter.altitude_gains(),
+        encounter.setting(),
+        Vec::from_slice(alloc, encounter.calls())?,
         crafts,
         legs,
         Vec::from_slice(alloc, encounter.misses())?,

@@ -2,5 +2,7 @@
 #![tactic(auto)]
 
 mod altitude;
+mod passing;
 
 pub use altitude::{alt_test, alt_test_law, are_opposite};
+pub use passing::{Approach, is_slow, passes_close};

@@ -1,6 +1,6 @@
-use Rattle.std.proofs.Common.{◌≡◌, ◌∙◌, pos, sym, subst, Option, None}
+use Rattle.std.proofs.Common.{◌≡◌, ◌∙◌, sym, subst, Option, None}
 use Rattle.std.specs.Prelude.{IsSome}
-use Rattle.acas_base.specs.Encounter.{IsEncounter, Parts, encounter_of, usual_altitude_gains, usual_range_gains}
+use Rattle.acas_base.specs.Encounter.{IsEncounter, Parts, encounter_of}
 use Rattle.enc_gen.proofs.Parts.{made-inside, made-valid, parts-made}
 use Rattle.enc_gen.specs.Generated.{generated}
 use Rattle.flight.specs.Inside.{IsInside}
@@ -9,13 +9,13 @@ use Rattle.enc_gen.proofs.making.make.Goals.{After-make}
 
 -- The lists make up the encounter.
 whole : (c : After-make)
-    → encounter_of c.version_of-version.result c.args.cycles (pos 0) usual_range_gains usual_altitude_gains
+    → encounter_of c.setting_for-setting.result c.new-calls.result.items
     c.in_ok-list.list.items c.in_ok-legs.legs.items c.in_ok-misses.misses.items c.new-plans.result.items c.in_ok-fates.fates.items
     ≡ generated c.args.number c.args.crafts c.args.cycles
 whole c =
     parts-made c.args.number c.args.crafts c.args.cycles c.new-draws.result c.draw_drafts.new.draws c.draw_misses.new.draws c.draw_fates.new.draws
     c.in_ok-drafts.drafts.items c.deref.result.now c.deref-2.result.now c.in_ok-list.list.items c.deref-3.result.now c.deref-4.result.now
-    c.in_ok-legs.legs.items c.in_ok-misses.misses.items c.in_ok-fates.fates.items c.version_of-version.result c.new-plans.result.items
+    c.in_ok-legs.legs.items c.in_ok-misses.misses.items c.in_ok-fates.fates.items c.setting_for-setting.result c.new-calls.result.items c.new-plans.result.items
     (record {
       seeded = c.new-draws.ensures;
       drawn = c.in_ok-drafts.ensures.made;
@@ -28,7 +28,7 @@ whole c =
       second = c.deref-4.ensures.value;
       fate = c.in_ok-fates.ensures;
     })
-    c.version_of-version.ensures c.new-plans.ensures.items
+    c.setting_for-setting.ensures c.new-calls.ensures.items c.new-plans.ensures.items
 
 neither : {X : Type 0} (made : Option X) → IsSome made → made ≡ None → ⊥
 neither {X} made some none = cc (some, none)

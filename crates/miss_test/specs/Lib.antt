@@ -1,0 +1,2 @@
+pub mod Miss
+pub use Rattle.square_track.specs.SquareTrack

@@ -1,0 +1,67 @@
+// Expected values: by hand from the numbers of profile 2, as `miss_test` and `sens_table` state them.
+ghost use Rattle.acas_base.specs.Ranges.{IsBetween};
+ghost use Rattle.square_track.specs.SquareTrack.{IsWithinLimits};
+
+use miss_test::{grows, is_far, opens};
+use square_track::SquareState;
+
+fn running(square: i64, rate: i64, second: i64, missed: u8, calm: u8) -> SquareState {
+    SquareState::Run {
+        square,
+        rate,
+        second,
+        missed,
+        calm,
+    }
+}
+
+// At level 7 the product is 147,671 ft2/s.
+#[test]
+fn opens_above_twice_the_product(rt: HostRuntime) {
+    assert!(rt; !opens(147_671, &running(1_000_000, 295_342, 0, 0, 0)));
+    assert!(rt; opens(147_671, &running(1_000_000, 295_343, 0, 0, 0)));
+    assert!(rt;
+        !opens(
+            147_671,
+            &SquareState::Two {
+                square: 0,
+                change: 1_500_000_000
+            }
+        )
+    );
+}
+
+#[test]
+fn grows_from_rest_on(rt: HostRuntime) {
+    assert!(rt; !grows(&running(1_000_000, -1, 0, 0, 0)));
+    assert!(rt; grows(&running(1_000_000, 0, 0, 0, 0)));
+    assert!(rt; !grows(&SquareState::Empty));
+}
+
+// The distance is 6,683 ft, that of level 7. The least square of the first two is 24,308 ft and 6,525 ft by itself.
+#[test]
+fn is_far_by_the_least_square(rt: HostRuntime) {
+    let rows = [
+        (running(2_152_484_264, -120_134_975, 4_621_087, 0, 15), true),
+        (
+            running(2_873_710_484, -161_735_872, 4_619_790, 0, 15),
+            false,
+        ),
+        (running(2_719_739_342, -157_102_234, 4_621_948, 0, 15), true),
+        (running(2_719_739_342, -157_102_234, 4_621_948, 2, 15), true),
+        (
+            running(2_719_739_342, -157_102_234, 4_621_948, 3, 15),
+            false,
+        ),
+        (
+            running(2_719_739_342, -157_102_234, 4_621_948, 0, 14),
+            false,
+        ),
+        (running(44_662_489, 0, 0, 0, 15), true),
+        (running(44_662_488, 0, 0, 0, 15), false),
+        (running(44_662_489, -1, 0, 0, 15), false),
+    ];
+    for (state, far) in rows {
+        assert_eq!(rt; is_far(6_683, &state), far, "{state:?}");
+    }
+}
