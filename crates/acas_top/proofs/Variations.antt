@@ -1,14 +1,16 @@
 -- What is told of an encounter with one thing changed, and what answers `vary`.
-use Rattle.std.proofs.Common.{◌≡◌, ℕ, ◌≤◌, List, Option, None, Result, Ok, Err, Vec, arith, inr, length, subst, sym}
+use Rattle.std.proofs.Common.{◌≡◌, ℕ, ◌≤◌, List, Option, None, Result, Ok, Err, Vec, arith, inr, length, refl, subst, subst₂, sym}
 use Rattle.std.specs.Global.{Global}
 use Rattle.std.specs.List.{AllZip}
 use Rattle.std.specs.Prelude.{IfOk, ◌↔◌}
 use Rattle.acas_base.specs.Encounter.{Parts}
+use Rattle.acas_base.specs.declared.craft.CraftSpec.{CraftSpec}
 use Rattle.acas_base.specs.declared.entry.Entry.{Entry}
+use Rattle.acas_lines.specs.Lines.{joined}
 use Rattle.acas_top.proofs.ByChange.{by-item}
 use Rattle.acas_top.specs.Answers.{AnswersPlain}
 use Rattle.acas_top.specs.Given.{answer_status, answer_text}
-use Rattle.acas_top.specs.Varying.{AnswersChanges, Base, IsGiven, IsPlayed, IsPlayedAs, changes_of, unknown_in}
+use Rattle.acas_top.specs.Varying.{AnswersChanges, Base, Found, IsFound, IsGiven, IsPlayed, IsPlayedAs, TellsChanges, changes_of, unknown_in, varied_lines}
 use Rattle.acas_top.specs.declared.answers.Answer.{Answer}
 use Rattle.acas_top.specs.declared.status.Status.{Status}
 use Rattle.acas_top.specs.declared.status.Status.TheVariants.{Done, Refused}
@@ -77,3 +79,10 @@ variation-answers variation e state changes (Ok answer) same serial known row to
     let of_variation = subst (λ (list : List Change). AnswersChanges e state.journal list (answer_status answer) (answer_text answer)) row of_encounter in
     by-status variation e state.journal bytes (answer_text answer) (answer_status answer) says known serial of_variation
 variation-answers variation e state changes (Err error) same serial known row told = told
+
+-- What was found tells the changes.
+pub found-tells : (base : Base) (found : Found) → length base.changes ≤ 4096 → IsFound base found
+    → TellsChanges base.encounter base.journal base.changes (joined (varied_lines found.crafts found.outcome found.changes found.list))
+found-tells base found few is =
+    subst₂ (λ (crafts : List CraftSpec) (changes : List Change). TellsChanges base.encounter base.journal base.changes (joined (varied_lines crafts found.outcome changes found.list))) (sym is.crafts) (sym is.changes)
+    (record { few = few; outcome = found.outcome; is = is.outcome; list = found.list; played = is.played; text_is = refl })

@@ -46,16 +46,32 @@ fn tells_a_slow_aircraft(rt: HostRuntime) {
     }
 }
 
-// Twice ZTHR is 1,433,600. The pair of the first three rows comes down to twice a height of 2,048,472 in 10 half-seconds,
-// to 1,433,880 in 28, and to 1,399,736 in 29. The next four are at ZTHR and one unit above it, at the later and at the
-// sooner time. The last three pass through own altitude, from above and from below, or get away from it.
-#[test]
-fn tells_a_small_vertical_miss(rt: HostRuntime) {
+// Whether the two pass within 700 ft in altitude. An approach that is longer than any says no.
+fn is_close(height: i32, rate: i32, halves: u16, nearer: u16) -> bool {
     let row = Row {
         tau: 35,
         dmod: 6_683 * FOOT,
         zthr: 700 * FOOT,
     };
+    if halves > 4_096 || nearer > 4_096 || height < -10_000_000 || height > 10_000_000 {
+        return false;
+    }
+    if rate < -1_000_000 || rate > 1_000_000 {
+        return false;
+    }
+    passes_close(
+        i64::from(height),
+        i64::from(rate),
+        &Approach { halves, nearer },
+        &row,
+    )
+}
+
+// Twice ZTHR is 1,433,600. The pair of the first three rows comes down to twice a height of 2,048,472 in 10 half-seconds,
+// to 1,433,880 in 28, and to 1,399,736 in 29. The next four are at ZTHR and one unit above it, at the later and at the
+// sooner time. The last three pass through own altitude, from above and from below, or get away from it.
+#[test]
+fn tells_a_small_vertical_miss(rt: HostRuntime) {
     let rows = [
         (1_194_956, -34_144, 10, 2, false),
         (1_194_956, -34_144, 28, 2, false),
@@ -69,9 +85,8 @@ fn tells_a_small_vertical_miss(rt: HostRuntime) {
         (-1_000_000, -100_000, 100, 0, false),
     ];
     for (height, rate, halves, nearer, close) in rows {
-        let approach = Approach { halves, nearer };
         assert_eq!(rt;
-            passes_close(height, rate, &approach, &row),
+            is_close(height, rate, halves, nearer),
             close,
             "{height} {rate} {halves} {nearer}"
         );
