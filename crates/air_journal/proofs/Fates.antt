@@ -35,6 +35,7 @@ same-altitude e f h own cycle = ap (λ (place : Place). feet place.z) (same-posi
 
 same-sight : (e f : Parts) → AreAlikeButFates e f → (own cycle : ℕ) → SeesAlike e f own cycle
 same-sight e f h own cycle = λ t. record {
+  profile = h.profile t;
   range = h.range t;
   altitude = h.altitude t;
   elevation = h.elevation t;

@@ -83,6 +83,7 @@ by-craft e own cycle index false (Some craft) = refl
 
 same-sight : (e f : Parts) (last : ℕ) → FlyAlikeUpTo e f last → (own cycle : ℕ) → cycle ≤ last → SeesAlike e f own cycle
 same-sight e f last h own cycle within = λ t. record {
+  profile = h.profile t;
   range = h.range t;
   altitude = h.altitude t;
   elevation = h.elevation t;

@@ -7,6 +7,7 @@ use Rattle.flight.specs.Flight.{position}
 -- Two encounters are alike but for fates and plans, which say what becomes of messages. Their formats may differ, since
 -- the first one has no plans.
 pub record AreAlikeButFates (e f : Parts) : Type 0 where
+  pub profile : e.profile ≡ f.profile
   pub cycles : e.cycles ≡ f.cycles
   pub elevation : e.elevation ≡ f.elevation
   pub range : e.range ≡ f.range
@@ -22,6 +23,7 @@ without_place craft = record craft { x = pos 0; y = pos 0; alt = pos 0 }
 -- Two encounters fly alike up to a cycle. All is the same but what an aircraft flies later. Up to this cycle it is at
 -- the same places, by whatever legs.
 pub record FlyAlikeUpTo (e f : Parts) (last : ℕ) : Type 0 where
+  pub profile : e.profile ≡ f.profile
   pub cycles : e.cycles ≡ f.cycles
   pub elevation : e.elevation ≡ f.elevation
   pub range : e.range ≡ f.range

@@ -21,6 +21,7 @@ other-before other = record { kind = other.kind; rank = other.rank; seen = older
 
 abbrev sight-before : Sight → Sight
 sight-before s = record {
+  profile = s.profile;
   range = s.range;
   altitude = s.altitude;
   elevation = s.elevation;
@@ -32,6 +33,7 @@ sight-before s = record {
 
 before-is : (e : Parts) (own cycle : ℕ) → sight-before (sight_of e own (suc cycle)) ≡ sight_of e own cycle
 before-is e own cycle = λ i. record {
+  profile = e.profile;
   range = e.range;
   altitude = e.altitude;
   elevation = e.elevation;

@@ -9,7 +9,9 @@ use Rattle.acas_base.specs.Strengths.{floor_of}
 use Rattle.acas_base.specs.declared.advisory.Strength.{Strength}
 use Rattle.acas_base.specs.declared.advisory.Strength.TheVariants.{Level}
 use Rattle.acas_base.specs.declared.advisory.Sense.TheVariants.{Up, Down}
-use Rattle.craft_view.specs.Separations.{apart, asked_rate, kept_after, own_after, separation, IsApproach}
+use Rattle.acas_base.specs.declared.setting.Profile.{Profile}
+use Rattle.acas_base.specs.declared.setting.Profile.TheVariants.{One}
+use Rattle.craft_view.specs.Separations.{apart, asked_rate, judged_rate, kept_after, own_after, separation, IsApproach}
 use Rattle.craft_view.specs.declared.motion.Estimate.{Estimate}
 use Rattle.craft_view.specs.declared.motion.Motion.{Motion}
 use Rattle.craft_view.specs.declared.separations.Approach.{Approach}
@@ -50,17 +52,18 @@ after : (z v sum : ℤ) (n : ℕ) → sum ≡ pos n *ℤ v → z +ℤ int_div_eu
 after z v sum n is = ap (λ (x : ℤ). z +ℤ int_div_euclid x (pos 2)) (turned v n ∙ sym is)
 
 -- There is no time to respond.
-pub after-in-delay : (own : Estimate) (halves : ℕ) (response : Response) (sense : Sense) (strength : Strength) → halves ≤ response.delay → kept_after own halves ≡ own_after own halves response sense strength
+pub after-in-delay : (profile : Profile) (own : Estimate) (halves : ℕ) (response : Response) (sense : Sense) (strength : Strength) → halves ≤ response.delay
+    → kept_after own halves ≡ own_after profile own halves response sense strength
 unfolding kept_after own_after
-after-in-delay own halves response sense strength early =
-    let goal = asked_rate sense strength own.rate in
+after-in-delay profile own halves response sense strength early =
+    let goal = judged_rate profile sense strength own.rate in
     after own.est own.rate (rates own.rate goal response.delay response.step halves) halves (rates-in-delay own.rate goal response.delay response.step halves early)
 
 -- Own aircraft does already what is asked for.
-pub after-at-goal : (own : Estimate) (halves : ℕ) (response : Response) (sense : Sense) (strength : Strength) → pos 1 ≤ℤ response.step → asked_rate sense strength own.rate ≡ own.rate
-    → kept_after own halves ≡ own_after own halves response sense strength
+pub after-at-goal : (profile : Profile) (own : Estimate) (halves : ℕ) (response : Response) (sense : Sense) (strength : Strength) → pos 1 ≤ℤ response.step
+    → judged_rate profile sense strength own.rate ≡ own.rate → kept_after own halves ≡ own_after profile own halves response sense strength
 unfolding kept_after own_after
-after-at-goal own halves response sense strength forward met =
+after-at-goal profile own halves response sense strength forward met =
     at-goal response.step forward ∙ ap (λ (goal : ℤ). projected own.est own.rate goal response.delay response.step halves) (sym met)
   where
     at-goal : (step : ℤ) → pos 1 ≤ℤ step → own.est +ℤ int_div_euclid (own.rate *ℤ pos halves) (pos 2) ≡ projected own.est own.rate own.rate response.delay step halves
@@ -68,14 +71,14 @@ after-at-goal own halves response sense strength forward met =
     at-goal (negsuc k) forward = absurd (omega (arith, ints, forward))
 
 -- The separation at kept rates.
-pub separation-kept : (m : Motion) (approach : Approach) (response : Response) (sense : Sense) (strength : Strength) → IsApproach m approach
-    → kept_after m.own approach.halves ≡ own_after m.own approach.halves response sense strength → apart sense approach.own approach.target ≡ separation m approach.halves response sense strength
+pub separation-kept : (profile : Profile) (m : Motion) (approach : Approach) (response : Response) (sense : Sense) (strength : Strength) → IsApproach m approach
+    → kept_after m.own approach.halves ≡ own_after profile m.own approach.halves response sense strength → apart sense approach.own approach.target ≡ separation profile m approach.halves response sense strength
 unfolding separation
-separation-kept m approach response sense strength is keeps = ap₂ (apart sense) (is.own ∙ keeps) is.target
+separation-kept profile m approach response sense strength is keeps = ap₂ (apart sense) (is.own ∙ keeps) is.target
 
-pub separation-in-delay : (m : Motion) (approach : Approach) (response : Response) (sense : Sense) (strength : Strength) → IsApproach m approach → approach.halves ≤ response.delay
-    → apart sense approach.own approach.target ≡ separation m approach.halves response sense strength
-separation-in-delay m approach response sense strength is early = separation-kept m approach response sense strength is (after-in-delay m.own approach.halves response sense strength early)
+pub separation-in-delay : (profile : Profile) (m : Motion) (approach : Approach) (response : Response) (sense : Sense) (strength : Strength) → IsApproach m approach → approach.halves ≤ response.delay
+    → apart sense approach.own approach.target ≡ separation profile m approach.halves response sense strength
+separation-in-delay profile m approach response sense strength is early = separation-kept profile m approach response sense strength is (after-in-delay profile m.own approach.halves response sense strength early)
 
 -- What meets a floor meets a lower one.
 pub meets-lower : (sense : Sense) (lower strength : Strength) (rate : ℤ) → floor_of lower ≤ℤ floor_of strength → asked_rate sense strength rate ≡ rate → asked_rate sense lower rate ≡ rate
@@ -84,6 +87,6 @@ meets-lower Up lower strength rate low meets = omega (arith, ints, clamps, low, 
 meets-lower Down lower strength rate low meets = omega (arith, ints, clamps, low, meets)
 
 pub separation-met : (m : Motion) (approach : Approach) (response : Response) (sense : Sense) (strength : Strength) → IsApproach m approach → pos 1 ≤ℤ response.step
-    → floor_of strength ≤ℤ pos 0 → asked_rate sense Level m.own.rate ≡ m.own.rate → apart sense approach.own approach.target ≡ separation m approach.halves response sense strength
+    → floor_of strength ≤ℤ pos 0 → asked_rate sense Level m.own.rate ≡ m.own.rate → apart sense approach.own approach.target ≡ separation One m approach.halves response sense strength
 separation-met m approach response sense strength is forward low meets =
-    separation-kept m approach response sense strength is (after-at-goal m.own approach.halves response sense strength forward (meets-lower sense strength Level m.own.rate low meets))
+    separation-kept One m approach response sense strength is (after-at-goal One m.own approach.halves response sense strength forward (meets-lower sense strength Level m.own.rate low meets))

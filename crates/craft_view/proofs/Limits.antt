@@ -1,5 +1,5 @@
 -- Limits on the vertical rate that own rate meets separate alike: each of them asks for own rate.
-use Rattle.std.proofs.Common.{◌≡◌, ℕ, Bool, true, false, ℤ, pos, ◌≤ℤ◌, map, get_or, replicate, cond, Option, None, Some, refl, sym, ◌∙◌, arith, rules}
+use Rattle.std.proofs.Common.{◌≡◌, ℕ, Bool, true, false, ℤ, pos, ◌≤ℤ◌, map, get_or, replicate, cond, Option, None, Some, refl, subst, sym, ◌∙◌, arith, rules}
 use Rattle.std.specs.Prelude.{neg_ℤ, int_le, is_some, option_map}
 use Rattle.std.specs.Bool.{Decides}
 use Rattle.std.specs.Option.{option_map_or}
@@ -16,6 +16,8 @@ use Rattle.acas_base.specs.declared.choice.Choice.{Choice}
 use Rattle.acas_base.specs.declared.choice.Choice.TheVariants.{Fresh, Steady, Urgent}
 use Rattle.acas_base.specs.declared.craft.CraftSpec.{CraftSpec}
 use Rattle.acas_base.specs.declared.level.Row.{Row}
+use Rattle.acas_base.specs.declared.setting.Profile.{Profile}
+use Rattle.acas_base.specs.declared.setting.Profile.TheVariants.{One}
 use Rattle.acas_base.specs.declared.view.View.{View}
 use Rattle.acas_num.specs.declared.track.TrackState.{TrackState}
 use Rattle.craft_view.specs.Facts.{MeetsLimits}
@@ -24,7 +26,7 @@ use Rattle.craft_view.specs.KnownTracks.{motion_of, own_track, tracks_by}
 use Rattle.craft_view.specs.Own.{own_of}
 use Rattle.craft_view.specs.Separations.{asked_rate, first_response, halves_to, later_response, own_after, separation, separations}
 use Rattle.craft_view.specs.Sight.{Other, known_of, other_craft, sight_of}
-use Rattle.craft_view.specs.Views.{no_view, plain_view, resolving_view, tested_view, view_by, view_in}
+use Rattle.craft_view.specs.Views.{first_view, in_profile, no_view, plain_view, resolving_view, second_view, shows_traffic, tested_view, view_by, view_in}
 use Rattle.craft_view.specs.declared.motion.Motion.{Motion}
 use Rattle.craft_view.specs.declared.own.OwnAircraft.{OwnAircraft}
 use Rattle.craft_view.specs.declared.separations.Response.{Response}
@@ -50,7 +52,7 @@ lowest Increase = omega (arith, ints)
 
 -- What ask for own rate separate alike.
 alike : (m : Motion) (halves : ℕ) (response : Response) (sense : Sense) (one two : Strength) → asked_rate sense one m.own.rate ≡ m.own.rate → asked_rate sense two m.own.rate ≡ m.own.rate
-    → separation m halves response sense one ≡ separation m halves response sense two
+    → separation One m halves response sense one ≡ separation One m halves response sense two
 unfolding separation own_after
 alike m halves response sense one two first second = rw (first, second) refl
 
@@ -67,18 +69,18 @@ abbrev response_of : Choice → Response
 response_of choice = cond (is_fresh choice) first_response later_response
 
 separation-read : (me : OwnAircraft) (m : Motion) (row : Row) (sense : Sense) (choice : Choice) (strength : Strength)
-    → separation_of (resolving_view me m row) sense strength choice ≡ separation m (halves_to m.range row) (response_of choice) sense strength
+    → separation_of (first_view me m row) sense strength choice ≡ separation One m (halves_to m.range row) (response_of choice) sense strength
 unfolding separations
-separation-read me m row Up Fresh strength = at-place (separation m (halves_to m.range row) first_response Up) strength
-separation-read me m row Up Steady strength = at-place (separation m (halves_to m.range row) later_response Up) strength
-separation-read me m row Up Urgent strength = at-place (separation m (halves_to m.range row) later_response Up) strength
-separation-read me m row Down Fresh strength = at-place (separation m (halves_to m.range row) first_response Down) strength
-separation-read me m row Down Steady strength = at-place (separation m (halves_to m.range row) later_response Down) strength
-separation-read me m row Down Urgent strength = at-place (separation m (halves_to m.range row) later_response Down) strength
+separation-read me m row Up Fresh strength = at-place (separation One m (halves_to m.range row) first_response Up) strength
+separation-read me m row Up Steady strength = at-place (separation One m (halves_to m.range row) later_response Up) strength
+separation-read me m row Up Urgent strength = at-place (separation One m (halves_to m.range row) later_response Up) strength
+separation-read me m row Down Fresh strength = at-place (separation One m (halves_to m.range row) first_response Down) strength
+separation-read me m row Down Steady strength = at-place (separation One m (halves_to m.range row) later_response Down) strength
+separation-read me m row Down Urgent strength = at-place (separation One m (halves_to m.range row) later_response Down) strength
 
-limits-resolving : (me : OwnAircraft) (m : Motion) (row : Row) → LimitsAskForOwnRate (resolving_view me m row)
+limits-resolving : (me : OwnAircraft) (m : Motion) (row : Row) → LimitsAskForOwnRate (first_view me m row)
 limits-resolving me m row sense choice limit is met =
-    let own = asked-met (resolving_view me m row) sense limit met in
+    let own = asked-met (first_view me m row) sense limit met in
     separation-read me m row sense choice limit
     ∙ alike m (halves_to m.range row) (response_of choice) sense limit Limit2000 own (meets-lower sense Limit2000 limit m.own.rate (lowest limit) own)
     ∙ sym (separation-read me m row sense choice Limit2000)
@@ -103,23 +105,27 @@ plain-read tested traffic resolves Down Urgent strength = none-at strength
 limits-plain : (tested traffic resolves : Bool) → LimitsAskForOwnRate (plain_view tested traffic resolves)
 limits-plain tested traffic resolves sense choice limit is met = plain-read tested traffic resolves sense choice limit ∙ sym (plain-read tested traffic resolves sense choice Limit2000)
 
-limits-by : (me : OwnAircraft) (mine : TrackState) (tracks : Tracks) → LimitsAskForOwnRate (view_by me mine tracks)
+limits-by : (me : OwnAircraft) (mine : TrackState) (tracks : Tracks) → me.profile ≡ One → LimitsAskForOwnRate (view_by me mine tracks)
 unfolding view_by
-limits-by me mine tracks = by_motion (motion_of mine tracks)
+limits-by me mine tracks first = by_motion (motion_of mine tracks)
   where
-    by_row : (m : Motion) (row : Option Row) → LimitsAskForOwnRate (option_map_or (resolving_view me m) row (plain_view true (is_hit m me.traffic) false))
-    by_row m None = limits-plain true (is_hit m me.traffic) false
-    by_row m (Some row) = limits-resolving me m row
+    by_row : (m : Motion) (row : Option Row) → LimitsAskForOwnRate (option_map_or (resolving_view me m) row (plain_view true (shows_traffic me m) false))
+    by_row m None = limits-plain true (shows_traffic me m) false
+    by_row m (Some row) = subst (λ (p : Profile). LimitsAskForOwnRate (in_profile p (first_view me m row) (second_view me m row))) (sym first) (limits-resolving me m row)
 
     by_motion : (o : Option Motion) → LimitsAskForOwnRate (option_map_or (tested_view me) o (plain_view false false (is_some me.resolution)))
     by_motion None = limits-plain false false (is_some me.resolution)
     by_motion (Some m) = by_row m me.resolution
 
+own-profile : (e : Parts) (own cycle : ℕ) → (own_of (sight_of e own cycle)).profile ≡ e.profile
+unfolding own_of
+own-profile e own cycle = refl
+
 pub meets-limits : (e : Parts) (own target cycle : ℕ) → MeetsLimits e own target cycle
 unfolding view_in
-meets-limits e own target cycle = by_craft (other_craft e own target)
+meets-limits e own target cycle first = by_craft (other_craft e own target)
   where
     by_craft : (o : Option CraftSpec)
-        → LimitsAskForOwnRate (option_map_or (λ (k : Other). view_by (own_of (sight_of e own cycle)) (own_track (sight_of e own cycle)) (tracks_by e.range e.altitude k.seen)) (option_map (known_of e own cycle target) o) no_view)
+        → LimitsAskForOwnRate (option_map_or (λ (k : Other). view_by (own_of (sight_of e own cycle)) (own_track (sight_of e own cycle)) (tracks_by (sight_of e own cycle) k.seen)) (option_map (known_of e own cycle target) o) no_view)
     by_craft None = limits-plain false false false
-    by_craft (Some craft) = limits-by _ _ _
+    by_craft (Some craft) = limits-by _ _ _ (own-profile e own cycle ∙ first)

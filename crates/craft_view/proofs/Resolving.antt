@@ -1,6 +1,6 @@
 -- When a view resolves, and when it sees a threat.
-use Rattle.std.proofs.Common.{◌≡◌, ℕ, ◌≤◌, Bool, true, false, ℤ, ◌-ℤ◌, List, [], ◌∷◌, Option, Some, None, refl, sym, ◌∙◌, IsTrue, leb-true, le-leb, rules}
-use Rattle.std.specs.Prelude.{◌↔◌, is_some, slice_get, option_map, nat_lt, int_lt, find, unwrap_or, cond}
+use Rattle.std.proofs.Common.{◌≡◌, ℕ, ◌≤◌, Bool, true, false, Option, Some, None, refl, sym, ◌∙◌, IsTrue, leb-true, le-leb, rules}
+use Rattle.std.specs.Prelude.{◌↔◌, is_some, slice_get, option_map, if◌then◌else◌, nat_lt}
 use Rattle.std.specs.Option.{option_map_or}
 use Rattle.acas_base.specs.Encounter.{Parts}
 use Rattle.acas_base.specs.declared.craft.CraftSpec.{CraftSpec}
@@ -8,30 +8,37 @@ use Rattle.acas_base.specs.declared.craft.Kind.{Kind}
 use Rattle.acas_base.specs.declared.craft.Kind.TheVariants.{Ra, Ta, Xpdr}
 use Rattle.acas_base.specs.declared.level.Level.{Level}
 use Rattle.acas_base.specs.declared.level.Row.{Row}
+use Rattle.acas_base.specs.declared.setting.Profile.{Profile}
+use Rattle.acas_base.specs.declared.setting.Profile.TheVariants.{One, Two}
 use Rattle.acas_num.specs.declared.track.TrackState.{TrackState}
 use Rattle.craft_view.specs.Facts.{IsSeenAsThreat, Resolves, ResolvesAsOwn, SeesNothing, Threatens, level_in}
-use Rattle.craft_view.specs.Hits.{is_hit}
 use Rattle.craft_view.specs.KnownTracks.{motion_of, own_track, tracks_by}
-use Rattle.craft_view.specs.Own.{newest_altitude, own_of, resolution_row}
+use Rattle.craft_view.specs.Own.{bounds_above, own_of, resolution_row}
 use Rattle.craft_view.specs.Sight.{Other, known_of, other_craft, sight_of}
-use Rattle.craft_view.specs.Views.{no_view, plain_view, resolving_view, tested_view, view_by, view_in}
+use Rattle.craft_view.specs.Views.{first_view, in_profile, no_view, plain_view, resolving_view, second_view, shows_traffic, tested_view, view_by, view_in}
 use Rattle.craft_view.specs.declared.motion.Motion.{Motion}
 use Rattle.craft_view.specs.declared.own.OwnAircraft.{OwnAircraft}
 use Rattle.craft_view.specs.declared.tracks.Tracks.{Tracks}
+use Rattle.sens_table.specs.Above.{level_of}
 use Rattle.sens_table.specs.Levels as table
+use Rattle.sens_table.specs.declared.above.Above.{Above}
 
 pub see-nothing : (e : Parts) (own target cycle : ℕ) → SeesNothing e own target cycle
 unfolding view_in
 see-nothing e own target cycle none = rw none refl
 
+seen-resolving : (p : Profile) (me : OwnAircraft) (m : Motion) (row : Row) → IsSeenAsThreat (in_profile p (first_view me m row) (second_view me m row))
+seen-resolving One me m row = record { tested = refl; resolves = refl }
+seen-resolving Two me m row = record { tested = refl; resolves = refl }
+
 threat-by : (me : OwnAircraft) (mine : TrackState) (tracks : Tracks) → (view_by me mine tracks).threat ≡ true → IsSeenAsThreat (view_by me mine tracks)
 unfolding view_by
 threat-by me mine tracks h = by_motion (motion_of mine tracks) h
   where
-    by_row : (m : Motion) (row : Option Row) → (option_map_or (resolving_view me m) row (plain_view true (is_hit m me.traffic) false)).threat ≡ true
-        → IsSeenAsThreat (option_map_or (resolving_view me m) row (plain_view true (is_hit m me.traffic) false))
+    by_row : (m : Motion) (row : Option Row) → (option_map_or (resolving_view me m) row (plain_view true (shows_traffic me m) false)).threat ≡ true
+        → IsSeenAsThreat (option_map_or (resolving_view me m) row (plain_view true (shows_traffic me m) false))
     by_row m None t = absurd (search rules)
-    by_row m (Some row) t = record { tested = refl; resolves = refl }
+    by_row m (Some row) t = seen-resolving me.profile me m row
 
     by_motion : (o : Option Motion) → (option_map_or (tested_view me) o (plain_view false false (is_some me.resolution))).threat ≡ true
         → IsSeenAsThreat (option_map_or (tested_view me) o (plain_view false false (is_some me.resolution)))
@@ -43,8 +50,8 @@ unfolding view_in
 threatens e own target cycle h = by_craft (other_craft e own target) h
   where
     by_craft : (o : Option CraftSpec)
-        → (option_map_or (λ (k : Other). view_by (own_of (sight_of e own cycle)) (own_track (sight_of e own cycle)) (tracks_by e.range e.altitude k.seen)) (option_map (known_of e own cycle target) o) no_view).threat ≡ true
-        → IsSeenAsThreat (option_map_or (λ (k : Other). view_by (own_of (sight_of e own cycle)) (own_track (sight_of e own cycle)) (tracks_by e.range e.altitude k.seen)) (option_map (known_of e own cycle target) o) no_view)
+        → (option_map_or (λ (k : Other). view_by (own_of (sight_of e own cycle)) (own_track (sight_of e own cycle)) (tracks_by (sight_of e own cycle) k.seen)) (option_map (known_of e own cycle target) o) no_view).threat ≡ true
+        → IsSeenAsThreat (option_map_or (λ (k : Other). view_by (own_of (sight_of e own cycle)) (own_track (sight_of e own cycle)) (tracks_by (sight_of e own cycle) k.seen)) (option_map (known_of e own cycle target) o) no_view)
     by_craft None t = absurd (search rules)
     by_craft (Some craft) t = threat-by _ _ _ t
 
@@ -52,9 +59,9 @@ resolves-by : (me : OwnAircraft) (mine : TrackState) (tracks : Tracks) → (view
 unfolding view_by
 resolves-by me mine tracks = by_motion (motion_of mine tracks)
   where
-    by_row : (m : Motion) (row : Option Row) → (option_map_or (resolving_view me m) row (plain_view true (is_hit m me.traffic) false)).resolves ≡ is_some row
+    by_row : (m : Motion) (row : Option Row) → (option_map_or (resolving_view me m) row (plain_view true (shows_traffic me m) false)).resolves ≡ is_some row
     by_row m None = refl
-    by_row m (Some row) = refl
+    by_row m (Some row) = (seen-resolving me.profile me m row).resolves
 
     by_motion : (o : Option Motion) → (option_map_or (tested_view me) o (plain_view false false (is_some me.resolution))).resolves ≡ is_some me.resolution
     by_motion None = refl
@@ -64,21 +71,15 @@ resolves-by me mine tracks = by_motion (motion_of mine tracks)
 abbrev IsRegular : Level → Type 0
 IsRegular level = is_some level.ra ≡ nat_lt 2 level.sl
 
-abbrev AreRegular : List table.Band → Type 0
-AreRegular [] = Unit {0}
-AreRegular (b ∷ bs) = IsRegular b.level × AreRegular bs
+regular-if : (t : Bool) (a b : Level) → IsRegular a → IsRegular b → IsRegular (if t then a else b)
+regular-if true a b one two = one
+regular-if false a b one two = two
 
-regular-in : (bands : List table.Band) (above : Level) (n : ℤ) → AreRegular bands → IsRegular above → IsRegular (table.level_in bands above n)
-regular-in [] above n all last = last
-regular-in (b ∷ bs) above n all last = by_test (int_lt n b.end) (regular-in bs above n all.1 last)
-  where
-    by_test : (t : Bool) → IsRegular (table.level_in bs above n) → IsRegular (unwrap_or (option_map (λ (b' : table.Band). b'.level) (cond t (Some b) (find (λ (b' : table.Band). int_lt n b'.end) bs))) above)
-    by_test true rest = all.0
-    by_test false rest = rest
-
-regular : (altitude height : ℤ) → IsRegular (table.level_at altitude height)
-regular altitude height = regular-in table.height_bands (table.level_in table.altitude_bands table.highest altitude) height (refl, (refl, tt))
-    (regular-in table.altitude_bands table.highest altitude (refl, (refl, (refl, (refl, tt)))) refl)
+regular : (above : Above) → IsRegular (level_of above)
+unfolding level_of
+regular above =
+    regular-if above.band_2 _ table.level_2 (regular-if above.band_3 _ table.level_3 (regular-if above.band_4 _ table.level_4
+    (regular-if above.band_5 _ table.level_5 (regular-if above.band_6 _ table.level_6 (regular-if above.band_7 table.highest table.level_7 refl refl) refl) refl) refl) refl) refl
 
 row-by : (kind : Option Kind) (level : Level) → IsRegular level → IsTrue (is_some (resolution_row kind level)) ↔ ((kind ≡ Some Ra) × (3 ≤ level.sl))
 row-by None level is = (λ h. absurd (search rules), λ p. absurd (search rules))
@@ -90,7 +91,7 @@ own-by : (e : Parts) (own cycle : ℕ) → IsTrue (is_some (own_of (sight_of e o
 unfolding own_of
 own-by e own cycle =
     let both = row-by (option_map (λ (craft : CraftSpec). craft.kind) (slice_get e.crafts own)) (level_in e own cycle)
-    (regular (newest_altitude (sight_of e own cycle)) (newest_altitude (sight_of e own cycle) -ℤ e.elevation)) in
+    (regular (bounds_above (sight_of e own cycle))) in
     (λ h. let p = both.0 h in record { kind = p.0; level = p.1 }, λ r. both.1 (r.kind, r.level))
 
 pub resolves-as-own : (e : Parts) (own target cycle : ℕ) → ResolvesAsOwn e own target cycle
@@ -98,9 +99,9 @@ unfolding view_in
 resolves-as-own e own target cycle h = by_craft (other_craft e own target) h
   where
     by_craft : (o : Option CraftSpec) → IsTrue (is_some o)
-        → IsTrue (option_map_or (λ (k : Other). view_by (own_of (sight_of e own cycle)) (own_track (sight_of e own cycle)) (tracks_by e.range e.altitude k.seen)) (option_map (known_of e own cycle target) o) no_view).resolves
+        → IsTrue (option_map_or (λ (k : Other). view_by (own_of (sight_of e own cycle)) (own_track (sight_of e own cycle)) (tracks_by (sight_of e own cycle) k.seen)) (option_map (known_of e own cycle target) o) no_view).resolves
         ↔ Resolves e own cycle
     by_craft None some = absurd (search rules)
     by_craft (Some craft) some =
-        let same = resolves-by (own_of (sight_of e own cycle)) (own_track (sight_of e own cycle)) (tracks_by e.range e.altitude (known_of e own cycle target craft).seen) in
+        let same = resolves-by (own_of (sight_of e own cycle)) (own_track (sight_of e own cycle)) (tracks_by (sight_of e own cycle) (known_of e own cycle target craft).seen) in
         (λ r. (own-by e own cycle).0 (sym same ∙ r), λ r. same ∙ (own-by e own cycle).1 r)

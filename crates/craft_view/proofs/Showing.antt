@@ -5,9 +5,8 @@ use Rattle.acas_base.specs.Encounter.{Parts}
 use Rattle.acas_base.specs.declared.level.Row.{Row}
 use Rattle.acas_base.specs.declared.view.View.{View}
 use Rattle.acas_num.specs.declared.track.TrackState.{TrackState}
-use Rattle.craft_view.specs.Hits.{is_hit}
 use Rattle.craft_view.specs.KnownTracks.{motion_of}
-use Rattle.craft_view.specs.Views.{outline_of, picture_after, picture_of, plain_view, resolving_view, shown, tested_view, view_by}
+use Rattle.craft_view.specs.Views.{outline_of, picture_after, picture_of, plain_view, resolving_view, second_view, shown, shows_traffic, tested_view, view_by, with_separations}
 use Rattle.craft_view.specs.declared.motion.Motion.{Motion}
 use Rattle.craft_view.specs.declared.own.OwnAircraft.{OwnAircraft}
 use Rattle.craft_view.specs.declared.tracks.Tracks.{Tracks}
@@ -37,11 +36,15 @@ pub shown-tested : (asked : Bool) (own : OwnAircraft) (mine : TrackState) (track
 unfolding view_by
 shown-tested asked own mine tracks m is = rw is refl
 
-pub shown-unresolved : (asked : Bool) (own : OwnAircraft) (m : Motion) → own.resolution ≡ None → plain_view true (is_hit m own.traffic) false ≡ shown asked (tested_view own m)
-shown-unresolved asked own m none = rw none (sym (shown-plain asked true (is_hit m own.traffic) false))
+pub shown-unresolved : (asked : Bool) (own : OwnAircraft) (m : Motion) → own.resolution ≡ None → plain_view true (shows_traffic own m) false ≡ shown asked (tested_view own m)
+shown-unresolved asked own m none = rw none (sym (shown-plain asked true (shows_traffic own m) false))
 
 pub shown-resolving : (asked : Bool) (own : OwnAircraft) (m : Motion) (row : Row) → own.resolution ≡ Some row → shown asked (resolving_view own m row) ≡ shown asked (tested_view own m)
 shown-resolving asked own m row is = rw is refl
+
+-- The view of profile 2 is its outline with its separations.
+pub whole-again : (own : OwnAircraft) (m : Motion) (row : Row) → with_separations own m (outline_of (second_view own m row)) ≡ second_view own m row
+whole-again own m row = refl
 
 -- Without cells before, all is shown.
 pub whole-picture : (e : Parts) (own cycle : ℕ) → picture_after None e own cycle ≡ picture_of e own cycle

@@ -1,5 +1,5 @@
 -- From one cycle to the next.
-use Rattle.std.proofs.Common.{◌≡◌, ℕ, suc, ◌+◌, ◌<◌, false, ℤ, List, ◌∷◌, map, length, get_or, Option, Some, None, refl, sym, ◌∙◌, ap, rules, IsTrue}
+use Rattle.std.proofs.Common.{◌≡◌, ℕ, zero, suc, ◌+◌, ◌<◌, false, ℤ, List, ◌∷◌, map, length, get_or, Option, Some, None, refl, sym, ◌∙◌, ap, rules, IsTrue}
 use Rattle.std.specs.Prelude.{option_map, slice_get}
 use Rattle.std.specs.Option.{option_map_or}
 use Rattle.std.proofs.Math.Numerals.{add-one}
@@ -7,24 +7,46 @@ use Rattle.std.proofs.lemmas.Option.{get_or_from_slice_get, slice_get_read, slic
 use Rattle.acas_base.specs.Encounter.{Parts, is_active}
 use Rattle.acas_base.specs.declared.craft.CraftSpec.{CraftSpec}
 use Rattle.acas_base.specs.declared.craft.Gains.{Gains}
+use Rattle.acas_base.specs.declared.setting.Profile.{Profile}
+use Rattle.acas_base.specs.declared.setting.Profile.TheVariants.{One, Two}
 use Rattle.acas_num.specs.declared.track.TrackState.{TrackState}
 use Rattle.alt_track.specs.AltTrack.{altitude_track}
 use Rattle.craft_view.specs.Kept.{IsActive}
-use Rattle.craft_view.specs.KnownTracks.{no_tracks, own_track, tracks_after, tracks_by, tracks_of, tracks_then}
-use Rattle.craft_view.specs.Sight.{Other, known_of, newest_first, other_craft, sight_of}
+use Rattle.craft_view.specs.KnownTracks.{altitude_seen, no_tracks, own_track, range_seen, square_after, square_by, square_seen, tracks_after, tracks_by, tracks_of, tracks_then}
+use Rattle.craft_view.specs.Sight.{Other, Sight, known_of, newest_first, other_craft, sight_of}
 use Rattle.craft_view.specs.declared.tracks.Tracks.{Tracks}
 use Rattle.flight.specs.Measurement.{measurement, own_altitude}
+use Rattle.flight.specs.declared.measuring.Meas.{Meas}
+use Rattle.range_track.specs.RangeTrack.{range_track}
+use Rattle.sens_table.specs.Above.{above_of}
+use Rattle.sens_table.specs.declared.above.Above.{Above}
+
+-- The track of the square of one cycle, after what is measured in the next, is that of the next.
+square-suc : (profile : Profile) (own : ℤ) (owns : List ℤ) (meas : Option Meas) (seen : List (Option Meas))
+    → square_after profile (square_by profile owns seen) (square_seen own meas) ≡ square_by profile (own ∷ owns) (meas ∷ seen)
+square-suc One own owns meas seen = refl
+square-suc Two own owns meas seen = refl
 
 -- The tracks of one cycle, after what is measured in the next, are those of the next.
 then-suc : (e : Parts) (own cycle index : ℕ) → tracks_then e own (suc cycle) index (tracks_of (sight_of e own cycle) index) ≡ tracks_of (sight_of e own (suc cycle)) index
 then-suc e own cycle index = by_craft (other_craft e own index)
   where
+    s : Sight
+    s = sight_of e own cycle
+
     by_craft : (o : Option CraftSpec)
-        → option_map_or (λ (craft : CraftSpec). tracks_after e.range e.altitude (option_map_or (λ (k : Other). tracks_by e.range e.altitude k.seen) (option_map (known_of e own cycle index) o) no_tracks) (measurement e own index (suc cycle))) o
-        (option_map_or (λ (k : Other). tracks_by e.range e.altitude k.seen) (option_map (known_of e own cycle index) o) no_tracks)
-        ≡ option_map_or (λ (k : Other). tracks_by e.range e.altitude k.seen) (option_map (known_of e own (suc cycle) index) o) no_tracks
+        → option_map_or (λ (craft : CraftSpec). tracks_after e (own_altitude e own (suc cycle)) (option_map_or (λ (k : Other). tracks_by s k.seen) (option_map (known_of e own cycle index) o) no_tracks) (measurement e own index (suc cycle))) o
+        (option_map_or (λ (k : Other). tracks_by s k.seen) (option_map (known_of e own cycle index) o) no_tracks)
+        ≡ option_map_or (λ (k : Other). tracks_by (sight_of e own (suc cycle)) k.seen) (option_map (known_of e own (suc cycle) index) o) no_tracks
     by_craft None = refl
-    by_craft (Some craft) = refl
+    by_craft (Some craft) =
+        let square = square-suc e.profile (own_altitude e own (suc cycle)) s.own (measurement e own index (suc cycle)) (known_of e own cycle index craft).seen in
+        let seen = (known_of e own (suc cycle) index craft).seen in
+        λ i. record {
+          range = range_track e.range (map range_seen seen);
+          altitude = altitude_track e.altitude (map altitude_seen seen);
+          square = square i;
+        }
 
 pub then-next : (e : Parts) (own cycle next index : ℕ) (tracks : Tracks) → next ≡ cycle + 1 → tracks ≡ tracks_of (sight_of e own cycle) index
     → tracks_then e own next index tracks ≡ tracks_of (sight_of e own next) index
@@ -55,3 +77,18 @@ own-next e own cycle next before after feet gains is same at from law =
     law ms (from ∙ ap (λ (g : Gains). altitude_track g ms) (sym same))
     ∙ (λ i. altitude_track (same i) (Some (measured i) ∷ ms))
     ∙ ap (λ n. own_track (sight_of e own n)) (sym to)
+
+-- The bounds that own aircraft is above go on by the altitude of the next cycle.
+pub above-next : (e : Parts) (own cycle next : ℕ) (before after : Above) (feet : ℤ) → next ≡ cycle + 1 → feet ≡ own_altitude e own next → before ≡ above_of e.profile e.elevation (sight_of e own cycle).own
+    → ((earlier : List ℤ) → length earlier ≡ cycle → before ≡ above_of e.profile e.elevation earlier → after ≡ above_of e.profile e.elevation (feet ∷ earlier))
+    → after ≡ above_of e.profile e.elevation (sight_of e own next).own
+above-next e own cycle next before after feet is at from law =
+    let to : next ≡ suc cycle = is ∙ add-one cycle in
+    let measured : feet ≡ own_altitude e own (suc cycle) = at ∙ ap (own_altitude e own) to in
+    law (newest_first (own_altitude e own) cycle) (count cycle) from
+    ∙ ap (λ (f : ℤ). above_of e.profile e.elevation (f ∷ newest_first (own_altitude e own) cycle)) measured
+    ∙ ap (λ n. above_of e.profile e.elevation (sight_of e own n).own) (sym to)
+  where
+    count : (n : ℕ) → length (newest_first (own_altitude e own) n) ≡ n
+    count zero = refl
+    count (suc n) = ap (λ k. suc k) (count n)

@@ -1,19 +1,20 @@
 -- What every view keeps, for those who decide by it.
-use Rattle.std.specs.Prelude.{◌≡◌, ◌↔◌, ℕ, ◌≤◌, true, None, Some, ◌-ℤ◌, length, option_map, slice_get, is_some, IsTrue}
+use Rattle.std.specs.Prelude.{◌≡◌, ◌↔◌, ℕ, ◌≤◌, true, None, Some, length, option_map, slice_get, is_some, IsTrue}
 use Rattle.acas_base.specs.Encounter.{Parts}
 use Rattle.acas_base.specs.Limits.{LimitsAskForOwnRate}
 use Rattle.acas_base.specs.declared.craft.CraftSpec.{CraftSpec}
 use Rattle.acas_base.specs.declared.craft.Kind.TheVariants.{Ra}
 use Rattle.acas_base.specs.declared.level.Level.{Level}
+use Rattle.acas_base.specs.declared.setting.Profile.TheVariants as profiles
 use Rattle.acas_base.specs.declared.view.View.{View}
-use Rattle.craft_view.specs.Own.{newest_altitude}
+use Rattle.craft_view.specs.Own.{bounds_above}
 use Rattle.craft_view.specs.Sight.{other_craft, rank_of, sight_of}
 use Rattle.craft_view.specs.Views.{no_view, view_of}
-use Rattle.sens_table.specs.Levels.{level_at}
+use Rattle.sens_table.specs.Above.{level_of}
 
 -- The sensitivity level of an aircraft in a cycle.
 abbrev pub level_in : Parts → ℕ → ℕ → Level
-level_in e own cycle = level_at (newest_altitude (sight_of e own cycle)) (newest_altitude (sight_of e own cycle) -ℤ e.elevation)
+level_in e own cycle = level_of (bounds_above (sight_of e own cycle))
 
 -- The aircraft gives resolution advisories in a cycle: it is of that kind, and its level is above 2.
 pub record Resolves (e : Parts) (own cycle : ℕ) : Type 0 where
@@ -36,9 +37,9 @@ ResolvesAsOwn e own target cycle = IsTrue (is_some (other_craft e own target)) �
 abbrev pub SeesNothing : Parts → ℕ → ℕ → ℕ → Type 0
 SeesNothing e own target cycle = other_craft e own target ≡ None → view_of e own target cycle ≡ no_view
 
--- A limit that own rate meets separates as the weakest one does.
+-- In profile 1 a limit that own rate meets separates as the weakest one does.
 abbrev pub MeetsLimits : Parts → ℕ → ℕ → ℕ → Type 0
-MeetsLimits e own target cycle = LimitsAskForOwnRate (view_of e own target cycle)
+MeetsLimits e own target cycle = e.profile ≡ profiles.One → LimitsAskForOwnRate (view_of e own target cycle)
 
 -- An aircraft has the same sight up to a cycle in two encounters.
 abbrev pub SeesAlike : Parts → Parts → ℕ → ℕ → Type 0

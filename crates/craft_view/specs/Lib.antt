@@ -3,6 +3,7 @@ pub mod KnownTracks
 pub mod Hits
 pub mod Own
 pub mod Separations
+pub mod ProfileTwo
 pub mod Views
 pub mod Kept
 pub mod Facts
@@ -10,6 +11,10 @@ pub mod Looking
 pub use Rattle.acas_base.specs.Encounter
 pub use Rattle.acas_num.specs.Tracks
 pub use Rattle.flight.specs.Inside
+pub use Rattle.miss_test.specs.Miss
+pub use Rattle.sens_table.specs.Above
 pub use Rattle.sens_table.specs.Levels
+pub use Rattle.square_track.specs.SquareTrack
 pub use Rattle.tau_test.specs.RangeTest
 pub use Rattle.vert_test.specs.AltTest
+pub use Rattle.vert_test.specs.Passing

@@ -7,6 +7,7 @@ use Rattle.acas_base.specs.declared.advisory.Rank.{Rank}
 use Rattle.acas_base.specs.declared.craft.CraftSpec.{CraftSpec}
 use Rattle.acas_base.specs.declared.craft.Gains.{Gains}
 use Rattle.acas_base.specs.declared.craft.Kind.{Kind}
+use Rattle.acas_base.specs.declared.setting.Profile.{Profile}
 use Rattle.flight.specs.Measurement.{measurement, own_altitude}
 use Rattle.flight.specs.declared.measuring.Meas.{Meas}
 
@@ -16,9 +17,10 @@ pub record Other : Type 0 where
   pub rank : Rank
   pub seen : List (Option Meas)
 
--- The gains of the tracks, the elevation of the ground in ft, own kind and ceiling, own altitudes in ft, the newest
--- first, and the others by index. There is none in the own place, nor past the last aircraft.
+-- The profile, the gains of the tracks, the elevation of the ground in ft, own kind and ceiling, own altitudes in ft, the
+-- newest first, and the others by index. There is none in the own place, nor past the last aircraft.
 pub record Sight : Type 0 where
+  pub profile : Profile
   pub range : Gains
   pub altitude : Gains
   pub elevation : ℤ
@@ -55,6 +57,7 @@ known_of e own cycle index craft = record {
 -- What an own aircraft may know in a cycle.
 abbrev pub sight_of : Parts → ℕ → ℕ → Sight
 sight_of e own cycle = record {
+  profile = e.profile;
   range = e.range;
   altitude = e.altitude;
   elevation = e.elevation;

@@ -1,5 +1,5 @@
 -- The view of another aircraft, from what may be known alone (FAA, Introduction to TCAS II v7.1; the details are this
--- project's profile).
+-- project's profiles).
 use Rattle.std.specs.Prelude.{◌≡◌, ℕ, ◌<◌, ◌≤◌, ◌||◌, if◌then◌else◌, Bool, true, false, pos, ◌-ℤ◌, int_le, is_some, List, Option, None, Some, map, slice_index_or}
 use Rattle.std.specs.List.{range_with_len}
 use Rattle.std.specs.Option.{option_map_or}
@@ -13,11 +13,14 @@ use Rattle.acas_base.specs.declared.advisory.Sense.{Sense}
 use Rattle.acas_base.specs.declared.advisory.Sense.TheVariants.{Up, Down}
 use Rattle.acas_base.specs.declared.choice.BySense.{BySense}
 use Rattle.acas_base.specs.declared.level.Row.{Row}
+use Rattle.acas_base.specs.declared.setting.Profile.{Profile}
+use Rattle.acas_base.specs.declared.setting.Profile.TheVariants as profiles
 use Rattle.acas_base.specs.declared.view.Picture.{Picture}
 use Rattle.acas_base.specs.declared.view.View.{View}
 use Rattle.acas_num.specs.declared.track.TrackState.{TrackState}
 use Rattle.craft_view.specs.Hits.{is_hit}
 use Rattle.craft_view.specs.Own.{own_of}
+use Rattle.craft_view.specs.ProfileTwo as two
 use Rattle.craft_view.specs.Separations.{first_response, halves_to, later_response, separations, zeros}
 use Rattle.craft_view.specs.Sight.{Other, Sight, sight_of}
 use Rattle.craft_view.specs.KnownTracks.{motion_of, own_track, tracks_by}
@@ -69,13 +72,22 @@ abbrev pub all_but : Sense → BySense
 all_but Up = record { up = false; down = true }
 all_but Down = record { up = true; down = false }
 
--- A view that is tested and resolves, with the thresholds of a resolution advisory. An advisory goes on as long as one
--- would start. Each may increase, weakens from an age of five cycles on, and is reversed where it can't give ALIM. Each
--- sense but the side crosses the other's altitude.
-abbrev pub resolving_view : OwnAircraft → Motion → Row → View
-resolving_view own m row = record {
+-- What is said in profile 1, or what is said in profile 2.
+abbrev pub in_profile : {X : Type 0} → Profile → X → X → X
+in_profile profiles.One first second = first
+in_profile profiles.Two first second = second
+
+-- The tests of a traffic advisory hold.
+abbrev pub shows_traffic : OwnAircraft → Motion → Bool
+shows_traffic own m = in_profile own.profile (is_hit m own.level.ta) (two.shows_traffic own m)
+
+-- In profile 1, a view that is tested and resolves, with the thresholds of a resolution advisory. An advisory goes on as
+-- long as one would start. Each may increase, weakens from an age of five cycles on, and is reversed where it can't give
+-- ALIM. Each sense but the side crosses the other's altitude.
+abbrev pub first_view : OwnAircraft → Motion → Row → View
+first_view own m row = record {
   tested = true;
-  traffic = is_hit m own.traffic;
+  traffic = is_hit m own.level.ta;
   resolves = true;
   threat = is_hit m row;
   lasts = is_hit m row;
@@ -90,17 +102,58 @@ resolving_view own m row = record {
   chases = neither;
   settled_at = 5;
   looks_ahead = false;
-  alim = own.alim;
-  enough = own.alim;
+  alim = own.level.alim;
+  enough = own.level.alim;
   gap = m.own.est -ℤ m.target.est;
   rate = m.own.rate;
-  first = separations m (halves_to m.range row) first_response;
-  later = separations m (halves_to m.range row) later_response;
+  first = separations profiles.One m (halves_to m.range row) first_response;
+  later = separations profiles.One m (halves_to m.range row) later_response;
 }
+
+-- In profile 2. An advisory goes on as long as the range test holds, whatever the filter says. It may increase where time
+-- is short, weakens from an age of ten cycles on and only where Level will do, and is reversed where it can't give 200 ft,
+-- or in a chase.
+abbrev pub second_view : OwnAircraft → Motion → Row → View
+second_view own m row = record {
+  tested = true;
+  traffic = two.shows_traffic own m;
+  resolves = true;
+  threat = two.threatens own m row;
+  lasts = two.holds_in_range own m row;
+  far = two.passes_far m row;
+  climbs = own.climbs;
+  descends = own.descends;
+  descends_faster = own.descends_faster;
+  side = side_of m;
+  crosses = two.crosses_at (m.own.est -ℤ m.target.est);
+  halves = two.halves_left m row;
+  hurries = two.hurries_at own m (two.halves_left m row);
+  chases = two.chases_at m (two.halves_left m row);
+  settled_at = 10;
+  looks_ahead = true;
+  alim = own.level.alim;
+  enough = two.two_hundred_feet;
+  gap = m.own.est -ℤ m.target.est;
+  rate = m.own.rate;
+  first = separations profiles.Two m (two.halves_left m row) first_response;
+  later = separations profiles.Two m (two.halves_left m row) later_response;
+}
+
+-- The same view with the separations of profile 2 and what follows from them.
+abbrev pub with_separations : OwnAircraft → Motion → View → View
+with_separations own m view = record view {
+  hurries = two.hurries_at own m view.halves;
+  first = separations profiles.Two m view.halves first_response;
+  later = separations profiles.Two m view.halves later_response;
+}
+
+-- A view that is tested and resolves, with the thresholds of a resolution advisory.
+abbrev pub resolving_view : OwnAircraft → Motion → Row → View
+resolving_view own m row = in_profile own.profile (first_view own m row) (second_view own m row)
 
 -- A tested view resolves where own aircraft has thresholds of a resolution advisory.
 abbrev pub tested_view : OwnAircraft → Motion → View
-tested_view own m = option_map_or (resolving_view own m) own.resolution (plain_view true (is_hit m own.traffic) false)
+tested_view own m = option_map_or (resolving_view own m) own.resolution (plain_view true (shows_traffic own m) false)
 
 -- The view by own track and the tracks of the other aircraft. It is tested where all of them run.
 unfoldable pub view_by : OwnAircraft → TrackState → Tracks → View
@@ -108,7 +161,7 @@ view_by own mine tracks = option_map_or (tested_view own) (motion_of mine tracks
 
 -- The view of the aircraft at an index. That of the own place, and of places past the last aircraft, says nothing.
 unfoldable pub view_in : Sight → ℕ → View
-view_in s index = option_map_or (λ (other : Other). view_by (own_of s) (own_track s) (tracks_by s.range s.altitude other.seen)) (s.others index) no_view
+view_in s index = option_map_or (λ (other : Other). view_by (own_of s) (own_track s) (tracks_by s other.seen)) (s.others index) no_view
 
 -- The view that one aircraft has of another one in a cycle.
 abbrev pub view_of : Parts → ℕ → ℕ → ℕ → View
@@ -122,9 +175,9 @@ picture_of e own cycle = record {
   views = map (λ target. view_of e own target cycle) (range_with_len 0 CRAFTS);
 }
 
--- All of a view but its separations.
+-- All of a view but its separations and what follows from them.
 abbrev pub outline_of : View → View
-outline_of view = record view { first = zeros; later = zeros }
+outline_of view = record view { hurries = neither; first = zeros; later = zeros }
 
 -- What is shown of a view: its separations too, where they are asked for or there is a threat.
 abbrev pub shown : Bool → View → View

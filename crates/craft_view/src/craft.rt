@@ -11,21 +11,23 @@ ghost use Rattle.flight.specs.Inside.{IsInside};
 
 use crate::motion::{Motion, motion_of};
 use crate::others::{is_other, step_tracks};
-use crate::own::{OwnAircraft, own_of};
+use crate::own::{OwnAircraft, above_next, above_none, own_at};
 use crate::pair::{no_picture, no_view, put_no_view, put_view};
 use crate::tracks::Tracks;
 use acas_base::{CRAFTS, Cells, Encounter, Picture, View};
 use acas_num::TrackState;
 use alt_track::AltTrack;
 use flight::Places;
+use sens_table::Above;
 use std::marker::Model;
 
-/// An active aircraft, which looks at the others once in each cycle of an encounter. It keeps a track
-/// of its own altitude, and of each other aircraft a track of the range and one of the altitude.
+/// An active aircraft, which looks at the others once in each cycle of an encounter. It keeps the
+/// bounds of levels that it is above, a track of its own altitude, and of each other aircraft its tracks.
 #[derive(Drop)]
 pub struct Craft {
     own: u8,
     cycle: u16,
+    above: Above,
     altitude: AltTrack,
     tracks: [Tracks; CRAFTS],
 }
@@ -35,7 +37,7 @@ impl Model for Craft {
 
     ghost Value = { Kept };
 
-    ghost view = { λ c. record { own = c.own; cycle = c.cycle; altitude = c.altitude; tracks = c.tracks } };
+    ghost view = { λ c. record { own = c.own; cycle = c.cycle; above = c.above; altitude = c.altitude; tracks = c.tracks } };
 }
 
 impl Craft {
@@ -51,6 +53,7 @@ impl Craft {
         Craft {
             own,
             cycle: 0,
+            above: above_none(),
             altitude: AltTrack::new(),
             tracks: [Tracks::new(); CRAFTS],
         }
@@ -148,7 +151,7 @@ impl Craft {
         let encounter = places.encounter();
         // No encounter has more than 16 aircraft.
         encounter.valid_law();
-        let own = own_of(places, self.own);
+        let own = self.own_aircraft(places);
         let mut view = no_view();
         if usize::from(target) < encounter.crafts().len() {
             self.put_view(encounter, &own, target, None, &mut view);
@@ -172,8 +175,31 @@ impl Craft {
         let altitude = places.own_altitude(own);
         self.altitude
             .step(Some(altitude), encounter.altitude_gains());
-        step_tracks(&mut self.tracks, places, own);
+        step_tracks(&mut self.tracks, places, own, altitude);
+        self.above = above_next(self.above, self.cycle, encounter, altitude);
         self.cycle += 1;
+    }
+
+    /// What own aircraft brings into its views in the cycle of its newest look, of which these are the places.
+    pub fn own_aircraft(&self, places: &Places) -> OwnAircraft
+        requires belongs { Belongs places.now.encounter self.now }
+        requires begun { 1 ≤ self.now.cycle }
+        requires present { places.now.cycle ≡ self.now.cycle }
+        ensures value { result ≡ own_of (sight_of places.now.encounter self.now.own self.now.cycle) }
+        ensures rows { AreRows result }
+    {
+        let encounter = places.encounter();
+        // For the proof: the elevation is in its range.
+        encounter.valid_law();
+        let spec = &encounter.crafts()[usize::from(self.own)];
+        let altitude = places.own_altitude(self.own);
+        own_at(
+            encounter.profile(),
+            spec,
+            self.above,
+            altitude,
+            encounter.ground(),
+        )
     }
 
     // Puts the picture of the present cycle.
@@ -185,7 +211,7 @@ impl Craft {
         requires rest { SayNothingFrom (length places.now.encounter.crafts) picture.old.views }
         ensures { picture.new ≡ picture_after (option_copied before.entry) places.now.encounter self.now.own self.now.cycle }
     {
-        let own = own_of(places, self.own);
+        let own = self.own_aircraft(places);
         picture.own = self.own;
         picture.cycle = self.cycle;
         self.put_views(places.encounter(), &own, before, &mut picture.views);

@@ -1,5 +1,6 @@
-// The two tests of an advisory.
-ghost use Rattle.std.specs.Prelude.{◌≡◌, ◌-ℤ◌};
+// The two tests of an advisory in profile 1.
+ghost use Rattle.std.specs.Prelude.{◌≡◌, ◌^◌, pos, ◌-ℤ◌};
+ghost use Rattle.acas_base.specs.Ranges.{IsBetween};
 ghost use Rattle.craft_view.specs.Hits.{is_hit};
 ghost use Rattle.craft_view.specs.KnownTracks.{IsMotion, IsRangeEstimate};
 ghost use Rattle.sens_table.specs.Levels.{IsTableRow};
@@ -20,7 +21,7 @@ pub(crate) fn is_hit(motion: &Motion, row: &Row) -> bool
     is_range_hit(&motion.range, row) && is_altitude_hit(motion, row)
 }
 
-fn is_range_hit(range: &Estimate, row: &Row) -> bool
+pub(crate) fn is_range_hit(range: &Estimate, row: &Row) -> bool
     requires range { IsRangeEstimate range.now }
     requires row { IsTableRow row.now }
     ensures { result ≡ is_range_hit range.now.est range.now.rate row.now }
@@ -28,9 +29,10 @@ fn is_range_hit(range: &Estimate, row: &Row) -> bool
     range_test(range.est, range.rate, row)
 }
 
-fn is_altitude_hit(motion: &Motion, row: &Row) -> bool
+pub(crate) fn is_altitude_hit(motion: &Motion, row: &Row) -> bool
     requires motion { IsMotion motion.now }
-    requires row { IsTableRow row.now }
+    requires tau { IsBetween (pos 0) (pos 60) row.now.tau }
+    requires zthr { IsBetween (pos 0) (pos (2 ^ 28)) row.now.zthr }
     ensures { result ≡ is_altitude_hit (motion.now.target.est -ℤ motion.now.own.est) (motion.now.target.rate -ℤ motion.now.own.rate) row.now }
 {
     let height = difference(motion.target.est, motion.own.est);

@@ -6,6 +6,7 @@ ghost use Rattle.craft_view.specs.KnownTracks.{motion_of, running, IsAltitudeEst
 use crate::tracks::Tracks;
 use acas_num::TrackState;
 use alt_track::AltTrack;
+use square_track::SquareState;
 
 /// An estimate in 1/1024 ft and its rate in 1/1024 ft/s.
 #[derive(Clone, Copy)]
@@ -14,12 +15,14 @@ pub struct Estimate {
     pub rate: i64,
 }
 
-/// Own altitude, the range to another aircraft, and its altitude, as the tracks have them.
+/// Own altitude, the range to another aircraft, its altitude, and the square of the horizontal range, as the tracks have
+/// them. In profile 1 there is no track of the square, and its state is empty.
 #[derive(Clone, Copy)]
 pub struct Motion {
     pub own: Estimate,
     pub range: Estimate,
     pub target: Estimate,
+    pub square: SquareState,
 }
 
 // How far one altitude is over another, or one rate.
@@ -43,7 +46,7 @@ fn running(state: TrackState) -> Option<Estimate>
     }
 }
 
-// The motion of a pair that is tested: all three tracks run.
+// The motion of a pair that is tested: the tracks of the range and of both altitudes run.
 pub(crate) fn motion_of(own: &AltTrack, tracks: &Tracks) -> Option<Motion>
     ensures value { result ≡ motion_of own.now tracks.now }
     ensures bounds { IfSome result IsMotion }
@@ -57,5 +60,10 @@ pub(crate) fn motion_of(own: &AltTrack, tracks: &Tracks) -> Option<Motion>
     let Some(target) = running(tracks.altitude.state()) else {
         return None;
     };
-    Some(Motion { own, range, target })
+    Some(Motion {
+        own,
+        range,
+        target,
+        square: tracks.square.state(),
+    })
 }

@@ -1,29 +1,23 @@
 // Own aircraft, and what it brings into each of its views.
-ghost use Rattle.std.specs.Prelude.{◌≡◌, ◌↔◌, ◌<◌, ◌≤◌, ◌-ℤ◌, length, Some, IfSome, IsTrue};
+ghost use Rattle.std.specs.Prelude.{◌≡◌, ◌↔◌, [], ◌∷◌, ℤ, ◌-ℤ◌, List, length, Some, IfSome, IsTrue};
 ghost use Rattle.acas_base.specs.Ranges.{IsWithin};
+ghost use Rattle.acas_base.specs.declared.setting.Profile.{Profile};
 ghost use Rattle.craft_view.specs.Kept.{IsActive};
-ghost use Rattle.craft_view.specs.Own.{own_at, own_of, resolution_row, may_climb, AreRows};
-ghost use Rattle.craft_view.specs.Sight.{sight_of};
-ghost use Rattle.flight.specs.Inside.{IsInside};
+ghost use Rattle.craft_view.specs.Own.{own_at, resolution_row, may_climb, AreRows};
+ghost use Rattle.sens_table.specs.Above.{above_of};
 ghost use Rattle.sens_table.specs.Levels.{IsLevel, IsTableRow};
 
-use acas_base::{CraftSpec, Encounter, Kind, Level, Row, is_active_at};
-use flight::Places;
-use sens_table::level_of;
+use acas_base::{CraftSpec, Encounter, Kind, Level, Profile, Row, is_active_at};
+use sens_table::Above;
 
-// Heights above ground in ft. Below them 1500 and 2500 ft/min down aren't advised (FAA, Introduction to TCAS II v7.1).
-const DESCEND_ABOVE: i32 = 1_100;
-
-const INCREASE_DESCENT_ABOVE: i32 = 1_550;
-
-/// What own aircraft brings into its views: the thresholds of a TA at own altitude; the thresholds of an RA, none where
-/// own aircraft doesn't resolve; ALIM, in 1/1024 ft; whether own aircraft may climb; whether it is high enough to
-/// descend, and to increase a descent; and its height above ground, in ft.
+/// What own aircraft brings into its views: the profile; its sensitivity level; the thresholds of an RA, none where own
+/// aircraft doesn't resolve; whether own aircraft may climb; whether it is high enough to descend, and to increase a
+/// descent; and its height above ground, in ft.
 #[derive(Clone, Copy)]
 pub struct OwnAircraft {
-    pub traffic: Row,
+    pub profile: Profile,
+    pub level: Level,
     pub resolution: Option<Row>,
-    pub alim: i64,
     pub climbs: bool,
     pub descends: bool,
     pub descends_faster: bool,
@@ -37,37 +31,59 @@ pub fn is_active(encounter: &Encounter, own: u8) -> bool
     is_active_at(encounter.crafts(), own)
 }
 
-/// What own aircraft brings into its views in a cycle.
-pub fn own_of(places: &Places, own: u8) -> OwnAircraft
-    requires own { own < length places.now.encounter.crafts }
-    requires inside { IsInside places.now.encounter }
-    requires begun { 1 ≤ places.now.cycle }
-    requires run { places.now.cycle ≤ places.now.encounter.cycles }
-    ensures value { result ≡ own_of (sight_of places.now.encounter own places.now.cycle) }
-    ensures rows { AreRows result }
+// The bounds that own aircraft is above a cycle later, at this altitude, in ft. Before the first cycle there is none.
+pub(crate) fn above_next(above: Above, cycle: u16, encounter: &Encounter, altitude: i32) -> Above
+    requires { IsWithin 100000 altitude }
+    ensures { (earlier : List ℤ) → length earlier ≡ cycle → above ≡ above_of encounter.now.profile encounter.now.elevation earlier → result ≡ above_of encounter.now.profile encounter.now.elevation (altitude ∷ earlier) }
 {
-    let encounter = places.encounter();
-    let spec = &encounter.crafts()[usize::from(own)];
-    own_at(spec, places.own_altitude(own), encounter.ground())
+    // For the proof: the elevation is in its range.
+    encounter.valid_law();
+    if cycle == 0 {
+        Above::first(altitude, encounter.ground())
+    } else {
+        above.next(encounter.profile(), altitude, encounter.ground())
+    }
 }
 
-// What follows from own kind and ceiling, the altitude and the elevation of the ground, in ft.
-fn own_at(spec: &CraftSpec, altitude: i32, elevation: i32) -> OwnAircraft
+// Above no bound, as before the first cycle.
+pub(crate) fn above_none() -> Above
+    ensures { (profile : Profile) (elevation : ℤ) → result ≡ above_of profile elevation [] }
+{
+    Above {
+        band_2: false,
+        band_3: false,
+        band_4: false,
+        band_5: false,
+        band_6: false,
+        band_7: false,
+        descends: false,
+        descends_faster: false,
+    }
+}
+
+// What follows from the profile, own kind and ceiling, the bounds that own aircraft is above, its altitude, and the
+// elevation of the ground, both in ft.
+pub(crate) fn own_at(
+    profile: Profile,
+    spec: &CraftSpec,
+    above: Above,
+    altitude: i32,
+    elevation: i32,
+) -> OwnAircraft
     requires altitude { IsWithin 100000 altitude }
     requires elevation { IsWithin 100000 elevation }
-    ensures value { result ≡ own_at (Some spec.now.kind) spec.now.ceiling altitude elevation }
+    ensures value { result ≡ own_at profile (Some spec.now.kind) spec.now.ceiling above altitude elevation }
     ensures rows { AreRows result }
 {
-    let level = level_of(altitude, elevation);
-    let height = height_over(altitude, elevation);
+    let level = above.level();
     OwnAircraft {
-        traffic: level.ta,
+        profile,
+        level,
         resolution: resolution_row(spec.kind, &level),
-        alim: level.alim,
         climbs: may_climb(spec.ceiling, altitude),
-        descends: DESCEND_ABOVE <= height,
-        descends_faster: INCREASE_DESCENT_ABOVE <= height,
-        height,
+        descends: above.descends,
+        descends_faster: above.descends_faster,
+        height: height_over(altitude, elevation),
     }
 }
 

@@ -4,19 +4,20 @@ ghost use Rattle.acas_base.specs.declared.TheConstants.{CRAFTS};
 ghost use Rattle.craft_view.specs.Hits.{is_hit};
 ghost use Rattle.craft_view.specs.Own.{AreRows};
 ghost use Rattle.craft_view.specs.KnownTracks.{IsMotion};
-ghost use Rattle.craft_view.specs.Views.{all_but, asks_for, no_view, outline_of, plain_view, resolving_view, shown, side_of, tested_view, view_by};
+ghost use Rattle.craft_view.specs.Views.{all_but, asks_for, first_view, no_view, outline_of, plain_view, resolving_view, shown, shows_traffic, side_of, tested_view, view_by};
 ghost use Rattle.sens_table.specs.Levels.{IsTableRow};
 
 use crate::hits::is_hit;
 use crate::motion::{Motion, difference, motion_of};
 use crate::own::OwnAircraft;
-use crate::separations::{FIRST_RESPONSE, LATER_RESPONSE, approach_of, halves_to, separations};
+use crate::profile_two::{put_second, shows_traffic as shows_traffic_two};
+use crate::separations::{FIRST_RESPONSE, LATER_RESPONSE, approach_at, halves_to, separations};
 use crate::tracks::Tracks;
-use acas_base::{BySense, CRAFTS, Cells, Picture, Row, Sense, Seps, View};
+use acas_base::{BySense, CRAFTS, Cells, Picture, Profile, Row, Sense, Seps, View};
 use alt_track::AltTrack;
 
 // Whether the separations to an aircraft are asked for after these cells.
-fn asks_for(before: Option<&Cells>, target: u8) -> bool
+pub(crate) fn asks_for(before: Option<&Cells>, target: u8) -> bool
     requires { target < CRAFTS }
     ensures { result ≡ asks_for (option_copied before.entry) target }
 {
@@ -82,7 +83,19 @@ fn put_tested(
 {
     match own.resolution {
         Some(row) => put_resolving(own, motion, &row, before, target, view),
-        None => put_plain(view, true, is_hit(motion, &own.traffic), false),
+        None => put_plain(view, true, shows_traffic(own, motion), false),
+    }
+}
+
+// Whether the tests of a traffic advisory hold.
+fn shows_traffic(own: &OwnAircraft, motion: &Motion) -> bool
+    requires own { AreRows own.now }
+    requires motion { IsMotion motion.now }
+    ensures { result ≡ shows_traffic own.now motion.now }
+{
+    match own.profile {
+        Profile::One => is_hit(motion, &own.level.ta),
+        Profile::Two => shows_traffic_two(own, motion),
     }
 }
 
@@ -99,6 +112,27 @@ fn put_resolving(
     requires row { IsTableRow row.now }
     requires target { target < CRAFTS }
     ensures { view.new ≡ shown (asks_for (option_copied before.entry) target) (resolving_view own.now motion.now row.now) }
+{
+    match own.profile {
+        Profile::One => put_first(own, motion, row, before, target, view),
+        Profile::Two => put_second(own, motion, row, before, target, view),
+    }
+}
+
+// The same in profile 1.
+fn put_first(
+    own: &OwnAircraft,
+    motion: &Motion,
+    row: &Row,
+    before: Option<&Cells>,
+    target: u8,
+    view: &mut View,
+)
+    requires own { AreRows own.now }
+    requires motion { IsMotion motion.now }
+    requires row { IsTableRow row.now }
+    requires target { target < CRAFTS }
+    ensures { view.new ≡ shown (asks_for (option_copied before.entry) target) (first_view own.now motion.now row.now) }
 {
     let threat = is_hit(motion, row);
     if threat {
@@ -118,9 +152,9 @@ fn put_whole(own: &OwnAircraft, motion: &Motion, row: &Row, threat: bool, view: 
     requires motion { IsMotion motion.now }
     requires row { IsTableRow row.now }
     requires threat { threat ≡ is_hit motion.now row.now }
-    ensures { view.new ≡ resolving_view own.now motion.now row.now }
+    ensures { view.new ≡ first_view own.now motion.now row.now }
 {
-    *view = resolving_view(own, motion, row, threat);
+    *view = first_view(own, motion, row, threat);
 }
 
 // Puts the view of what is no threat, with no separations, field by field.
@@ -129,35 +163,34 @@ fn put_outline(own: &OwnAircraft, motion: &Motion, row: &Row, view: &mut View)
     requires motion { IsMotion motion.now }
     requires row { IsTableRow row.now }
     requires no_threat { is_hit motion.now row.now ≡ false }
-    ensures { view.new ≡ outline_of (resolving_view own.now motion.now row.now) }
+    ensures { view.new ≡ outline_of (first_view own.now motion.now row.now) }
 {
-    put_plain(view, true, is_hit(motion, &own.traffic), true);
+    put_plain(view, true, is_hit(motion, &own.level.ta), true);
     view.climbs = own.climbs;
     view.descends = own.descends;
     view.descends_faster = own.descends_faster;
     view.side = side_of(motion);
     view.crosses = all_but(view.side);
     view.halves = halves_to(&motion.range, row);
-    view.hurries = BySense::both();
     view.settled_at = SETTLED_AT;
-    view.alim = own.alim;
-    view.enough = own.alim;
+    view.alim = own.level.alim;
+    view.enough = own.level.alim;
     view.gap = difference(motion.own.est, motion.target.est);
     view.rate = motion.own.rate;
 }
 
-fn resolving_view(own: &OwnAircraft, motion: &Motion, row: &Row, threat: bool) -> View
+fn first_view(own: &OwnAircraft, motion: &Motion, row: &Row, threat: bool) -> View
     requires own { AreRows own.now }
     requires motion { IsMotion motion.now }
     requires row { IsTableRow row.now }
     requires threat { threat ≡ is_hit motion.now row.now }
-    ensures { result ≡ resolving_view own.now motion.now row.now }
+    ensures { result ≡ first_view own.now motion.now row.now }
 {
-    let approach = approach_of(motion, row);
+    let approach = approach_at(motion, halves_to(&motion.range, row));
     let side = side_of(motion);
     View {
         tested: true,
-        traffic: is_hit(motion, &own.traffic),
+        traffic: is_hit(motion, &own.level.ta),
         resolves: true,
         threat,
         lasts: threat,
@@ -172,17 +205,17 @@ fn resolving_view(own: &OwnAircraft, motion: &Motion, row: &Row, threat: bool) -
         chases: BySense::neither(),
         settled_at: SETTLED_AT,
         looks_ahead: false,
-        alim: own.alim,
-        enough: own.alim,
+        alim: own.level.alim,
+        enough: own.level.alim,
         gap: difference(motion.own.est, motion.target.est),
         rate: motion.own.rate,
-        first: separations(motion, &approach, FIRST_RESPONSE),
-        later: separations(motion, &approach, LATER_RESPONSE),
+        first: separations(Profile::One, motion, &approach, FIRST_RESPONSE),
+        later: separations(Profile::One, motion, &approach, LATER_RESPONSE),
     }
 }
 
 // The sense that doesn't cross the other's altitude.
-fn side_of(motion: &Motion) -> Sense
+pub(crate) fn side_of(motion: &Motion) -> Sense
     ensures { result ≡ side_of motion.now }
 {
     if motion.target.est <= motion.own.est {
@@ -216,7 +249,7 @@ pub(crate) fn put_no_view(view: &mut View)
 }
 
 // Puts a plain view, field by field: one that is made first would have to be moved.
-fn put_plain(view: &mut View, tested: bool, traffic: bool, resolves: bool)
+pub(crate) fn put_plain(view: &mut View, tested: bool, traffic: bool, resolves: bool)
     ensures { view.new ≡ plain_view tested traffic resolves }
 {
     view.tested = tested;

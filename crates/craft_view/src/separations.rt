@@ -2,12 +2,12 @@
 ghost use Rattle.std.specs.Prelude.{◌≡◌, ◌≤◌, ◌^◌, pos, ◌+ℤ◌, ◌-ℤ◌, ◌*ℤ◌, unsigned_abs, map};
 ghost use Rattle.std.specs.Int.{int_div_euclid};
 ghost use Rattle.acas_base.specs.Strengths.{weakest_first};
-ghost use Rattle.craft_view.specs.Separations.{apart, asked_rate, halves_to, kept_after, own_after, separation, separations, IsApproach, IsResponse};
+ghost use Rattle.craft_view.specs.Separations.{apart, asked_rate, floor_rate, halves_to, is_limit, judged_rate, kept_after, own_after, separation, separations, IsApproach, IsResponse};
 ghost use Rattle.craft_view.specs.KnownTracks.{IsAltitudeEstimate, IsMotion, IsRangeEstimate};
 ghost use Rattle.sens_table.specs.Levels.{IsTableRow};
 
 use crate::motion::{Estimate, Motion, difference};
-use acas_base::{Row, Sense, Seps, Strength};
+use acas_base::{Profile, Row, Sense, Seps, Strength};
 use project::project;
 
 /// How an aircraft responds to an advisory (this project's profile): in the first `delay` half-seconds its
@@ -54,14 +54,13 @@ pub struct Approach {
     pub target: i64,
 }
 
-// The closest approach, with the thresholds of a row.
-pub(crate) fn approach_of(motion: &Motion, row: &Row) -> Approach
+// The closest approach, after so many half-seconds.
+pub(crate) fn approach_at(motion: &Motion, halves: u16) -> Approach
     requires motion { IsMotion motion.now }
-    requires row { IsTableRow row.now }
-    ensures halves { result.halves ≡ halves_to motion.now.range row.now }
+    requires halves { halves ≤ 120 }
+    ensures halves { result.halves ≡ halves }
     ensures approach { IsApproach motion.now result }
 {
-    let halves = halves_to(&motion.range, row);
     Approach {
         halves,
         own: kept_after(&motion.own, halves),
@@ -76,51 +75,112 @@ pub(crate) fn approach_of(motion: &Motion, row: &Row) -> Approach
 // cent more.
 #[inline(always)]
 #[tactic(auto, unfolding(crate::specs::Separations::separations))]
-pub(crate) fn separations(motion: &Motion, approach: &Approach, response: Response) -> Seps
+pub(crate) fn separations(
+    profile: Profile,
+    motion: &Motion,
+    approach: &Approach,
+    response: Response,
+) -> Seps
     requires motion { IsMotion motion.now }
     requires approach { IsApproach motion.now approach.now }
     requires response { IsResponse response }
-    ensures { result ≡ separations motion.now approach.now.halves response }
+    ensures { result ≡ separations profile motion.now approach.now.halves response }
 {
     Seps {
-        up: in_sense(motion, approach, response, Sense::Up),
-        down: in_sense(motion, approach, response, Sense::Down),
+        up: in_sense(profile, motion, approach, response, Sense::Up),
+        down: in_sense(profile, motion, approach, response, Sense::Down),
     }
 }
 
 // The separations of all strengths in a sense, weakest first.
 #[inline(always)]
-fn in_sense(motion: &Motion, approach: &Approach, response: Response, sense: Sense) -> [i64; 6]
+fn in_sense(
+    profile: Profile,
+    motion: &Motion,
+    approach: &Approach,
+    response: Response,
+    sense: Sense,
+) -> [i64; 6]
     requires motion { IsMotion motion.now }
     requires approach { IsApproach motion.now approach.now }
     requires response { IsResponse response }
-    ensures { result ≡ map (separation motion.now approach.now.halves response sense) weakest_first }
+    ensures { result ≡ map (separation profile motion.now approach.now.halves response sense) weakest_first }
 {
     let kept = apart(sense, approach.own, approach.target);
     if approach.halves <= u16::from(response.delay) {
         // There is no time to respond.
         return [kept; 6];
     }
-    let positive = separation(motion, approach, response, sense, Strength::Positive);
-    let increase = separation(motion, approach, response, sense, Strength::Increase);
     let rate = motion.own.rate;
-    if asked_rate(sense, Strength::Level, rate) == rate {
+    if profile == Profile::One && asked_rate(sense, Strength::Level, rate) == rate {
         // Own aircraft does already what Level asks for, and so what each weaker strength does.
+        let positive = separation(
+            profile,
+            motion,
+            approach,
+            response,
+            sense,
+            Strength::Positive,
+        );
+        let increase = separation(
+            profile,
+            motion,
+            approach,
+            response,
+            sense,
+            Strength::Increase,
+        );
         return [kept, kept, kept, kept, positive, increase];
     }
     [
-        separation(motion, approach, response, sense, Strength::Limit2000),
-        separation(motion, approach, response, sense, Strength::Limit1000),
-        separation(motion, approach, response, sense, Strength::Limit500),
-        separation(motion, approach, response, sense, Strength::Level),
-        positive,
-        increase,
+        separation(
+            profile,
+            motion,
+            approach,
+            response,
+            sense,
+            Strength::Limit2000,
+        ),
+        separation(
+            profile,
+            motion,
+            approach,
+            response,
+            sense,
+            Strength::Limit1000,
+        ),
+        separation(
+            profile,
+            motion,
+            approach,
+            response,
+            sense,
+            Strength::Limit500,
+        ),
+        separation(profile, motion, approach, response, sense, Strength::Level),
+        separation(
+            profile,
+            motion,
+            approach,
+            response,
+            sense,
+            Strength::Positive,
+        ),
+        separation(
+            profile,
+            motion,
+            approach,
+            response,
+            sense,
+            Strength::Increase,
+        ),
     ]
 }
 
 // How far a sense and a strength separate the two.
 #[tactic(auto, unfolding(crate::specs::Separations::separation))]
-fn separation(
+pub(crate) fn separation(
+    profile: Profile,
     motion: &Motion,
     approach: &Approach,
     response: Response,
@@ -130,15 +190,15 @@ fn separation(
     requires motion { IsMotion motion.now }
     requires approach { IsApproach motion.now approach.now }
     requires response { IsResponse response }
-    ensures { result ≡ separation motion.now approach.now.halves response sense strength }
+    ensures { result ≡ separation profile motion.now approach.now.halves response sense strength }
 {
-    let own = own_after(motion, approach, response, sense, strength);
+    let own = own_after(profile, motion, approach, response, sense, strength);
     apart(sense, own, approach.target)
 }
 
 // How far a sense has two altitudes apart.
 #[tactic(auto, unfolding(crate::specs::Separations::apart))]
-fn apart(sense: Sense, own: i64, target: i64) -> i64
+pub(crate) fn apart(sense: Sense, own: i64, target: i64) -> i64
     requires own { unsigned_abs own ≤ 2 ^ 41 }
     requires target { unsigned_abs target ≤ 2 ^ 41 }
     ensures { result ≡ apart sense own target }
@@ -151,6 +211,7 @@ fn apart(sense: Sense, own: i64, target: i64) -> i64
 
 #[tactic(auto, unfolding(crate::specs::Separations::own_after))]
 fn own_after(
+    profile: Profile,
     motion: &Motion,
     approach: &Approach,
     response: Response,
@@ -160,11 +221,11 @@ fn own_after(
     requires motion { IsMotion motion.now }
     requires approach { IsApproach motion.now approach.now }
     requires response { IsResponse response }
-    ensures value { result ≡ own_after motion.now.own approach.now.halves response sense strength }
+    ensures value { result ≡ own_after profile motion.now.own approach.now.halves response sense strength }
     ensures bound { unsigned_abs result ≤ 2 ^ 41 }
 {
     let Estimate { est, rate } = motion.own;
-    let goal = asked_rate(sense, strength, rate);
+    let goal = judged_rate(profile, sense, strength, rate);
     if goal == rate {
         // Own aircraft does already what is asked for.
         return approach.own;
@@ -218,6 +279,44 @@ fn sum(a: i64, b: i64) -> i64
     ensures bound { unsigned_abs result ≤ 2 ^ 31 }
 {
     a + b
+}
+
+// The rate for which a separation is judged.
+fn judged_rate(profile: Profile, sense: Sense, strength: Strength, rate: i64) -> i64
+    requires { unsigned_abs rate ≤ 2 ^ 18 }
+    ensures value { result ≡ judged_rate profile sense strength rate }
+    ensures bound { unsigned_abs result ≤ 2 ^ 20 }
+{
+    match profile {
+        Profile::One => asked_rate(sense, strength, rate),
+        Profile::Two => {
+            if is_limit(strength) {
+                floor_rate(sense, strength)
+            } else {
+                asked_rate(sense, strength, rate)
+            }
+        }
+    }
+}
+
+fn is_limit(strength: Strength) -> bool
+    ensures { result ≡ is_limit strength }
+{
+    match strength {
+        Strength::Limit2000 | Strength::Limit1000 | Strength::Limit500 => true,
+        Strength::Level | Strength::Positive | Strength::Increase => false,
+    }
+}
+
+fn floor_rate(sense: Sense, strength: Strength) -> i64
+    ensures value { result ≡ floor_rate sense strength }
+    ensures bound { unsigned_abs result ≤ 2 ^ 20 }
+{
+    let floor = strength.floor();
+    match sense {
+        Sense::Up => floor,
+        Sense::Down => -floor,
+    }
 }
 
 /// The vertical rate that an advisory asks for, in 1/1024 ft/s. It is `rate` where that meets the floor already, else

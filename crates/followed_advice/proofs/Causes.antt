@@ -44,6 +44,7 @@ fly-alike read named d e J L last p q same =
     let two = q.differs.only_legs in
     let crafts : d.crafts ≡ e.crafts = crafts-of read named d J p ∙ sym (crafts-of read named e L q) in
     record {
+      profile = ap (λ (m : Parts). m.profile) one ∙ sym (ap (λ (m : Parts). m.profile) two);
       cycles = ap (λ (m : Parts). m.cycles) one ∙ sym (ap (λ (m : Parts). m.cycles) two);
       elevation = ap (λ (m : Parts). m.elevation) one ∙ sym (ap (λ (m : Parts). m.elevation) two);
       range = ap (λ (m : Parts). m.range) one ∙ sym (ap (λ (m : Parts). m.range) two);

@@ -18,6 +18,7 @@ use Rattle.acas_base.specs.declared.advisory.Sense.TheVariants.{Down, Up}
 use Rattle.acas_base.specs.declared.advisory.Vrc.{Vrc}
 use Rattle.acas_base.specs.declared.entry.Entry.{Entry}
 use Rattle.acas_base.specs.declared.level.Row.{Row}
+use Rattle.acas_base.specs.declared.setting.Profile.TheVariants.{One}
 use Rattle.acas_base.specs.declared.choice.BySense.{BySense}
 use Rattle.acas_base.specs.declared.choice.Choice.TheVariants.{Fresh, Steady, Urgent}
 use Rattle.acas_base.specs.declared.view.View.{View}
@@ -26,11 +27,10 @@ use Rattle.air_journal.specs.Airs.{air_of}
 use Rattle.air_rules.specs.Rules.{IsLegal}
 use Rattle.craft_view.specs.Hits.{is_hit}
 use Rattle.craft_view.specs.Sight.{sight_of}
-use Rattle.craft_view.specs.Views.{plain_view, resolving_view, tested_view}
 use Rattle.craft_view.specs.declared.motion.Motion.{Motion}
 use Rattle.craft_view.specs.declared.own.OwnAircraft.{OwnAircraft}
 use Rattle.reasons.proofs.Explaining.{both, commit-explained}
-use Rattle.reasons.proofs.Sighted.{IsPlain, IsSighted, alim-whole, plain-seen, sighted, threat-projects, view_by_motion}
+use Rattle.reasons.proofs.Sighted.{IsPlain, IsSighted, alim-whole, first-is, first_by_motion, first_by_row, plain-seen, profile-is, sighted, threat-projects}
 use Rattle.reasons.specs.Agreeing.{Agrees, AreAgreeing, GoesBySeconds, are_within_tau, resolves}
 use Rattle.reasons.specs.Explained.{Explains, GoesOn, IsExplained, untested, starts, starts_as_told, traffic, quiet, ends_below_level, ends_without_threat, obeys, reverses, strengthens, keeps, weakens, capped}
 use Rattle.reasons.specs.Fields.{tenths_of}
@@ -50,26 +50,25 @@ hit-goes : (m : Motion) (row : Row) → is_hit m row ≡ are_within_tau (seconds
 unfolding seconds_of
 hit-goes m row = ap₂ ◌&&◌ (range-goes m.range.est m.range.rate row) (altitude-goes (m.target.est -ℤ m.own.est) (m.target.rate -ℤ m.own.rate) row)
 
-traffic-goes : (own : OwnAircraft) (m : Motion) (o : Option Row) → (option_map_or (resolving_view own m) o (plain_view true (is_hit m own.traffic) false)).traffic ≡ are_within_tau (seconds_of m own.traffic)
-traffic-goes own m None = hit-goes m own.traffic
-traffic-goes own m (Some row) = hit-goes m own.traffic
+traffic-goes : (own : OwnAircraft) (m : Motion) (o : Option Row) → (first_by_row own m o).traffic ≡ are_within_tau (seconds_of m own.level.ta)
+traffic-goes own m None = hit-goes m own.level.ta
+traffic-goes own m (Some row) = hit-goes m own.level.ta
 
-threat-goes : (own : OwnAircraft) (m : Motion) (o : Option Row)
-    → (option_map_or (resolving_view own m) o (plain_view true (is_hit m own.traffic) false)).threat ≡ option_map_or are_within_tau (option_map (seconds_of m) o) false
+threat-goes : (own : OwnAircraft) (m : Motion) (o : Option Row) → (first_by_row own m o).threat ≡ option_map_or are_within_tau (option_map (seconds_of m) o) false
 threat-goes own m None = refl
 threat-goes own m (Some row) = hit-goes m row
 
-tested-goes : (own : OwnAircraft) (m : Motion) → GoesBySeconds (tested_of own (tested_view own m) m)
+tested-goes : (own : OwnAircraft) (m : Motion) → GoesBySeconds (tested_of own (first_by_row own m own.resolution) m)
 unfolding tested_of
 tested-goes own m = record { traffic = traffic-goes own m own.resolution; threat = threat-goes own m own.resolution }
 
-tests-by : (own : OwnAircraft) (b : Bool) (o : Option Motion) (v : View) → v ≡ view_by_motion own b o → IfSome (option_map (tested_of own v) o) GoesBySeconds
+tests-by : (own : OwnAircraft) (b : Bool) (o : Option Motion) (v : View) → v ≡ first_by_motion own b o → IfSome (option_map (tested_of own v) o) GoesBySeconds
 tests-by own b None v is = tt
 tests-by own b (Some m) v is = subst (λ (v : View). GoesBySeconds (tested_of own v m)) (sym is) (tested-goes own m)
 
-tests-agree : (seen : Seen) → IsSighted seen → IfSome (shown_of seen).tested GoesBySeconds
+tests-agree : (seen : Seen) → IsSighted seen → seen.own.aircraft.profile ≡ One → IfSome (shown_of seen).tested GoesBySeconds
 unfolding shown_of
-tests-agree seen is = tests-by seen.own.aircraft is.resolves seen.motion seen.view is.view_is
+tests-agree seen is one = tests-by seen.own.aircraft is.resolves seen.motion seen.view (first-is seen is one)
 
 -- ---- where own aircraft resolves
 
@@ -77,18 +76,18 @@ some-if : {X : Type 0} (b : Bool) (x : X) → is_some (if b then Some x else Non
 some-if true x = refl
 some-if false x = refl
 
-projected-by-row : (own : OwnAircraft) (m : Motion) (o : Option Row) → is_projected (option_map_or (resolving_view own m) o (plain_view true (is_hit m own.traffic) false)) ≡ is_some (option_map (seconds_of m) o)
+projected-by-row : (own : OwnAircraft) (m : Motion) (o : Option Row) → is_projected (first_by_row own m o) ≡ is_some (option_map (seconds_of m) o)
 projected-by-row own m None = refl
 projected-by-row own m (Some row) = refl
 
-projected-by : (own : OwnAircraft) (b : Bool) (o : Option Motion) (v : View) → v ≡ view_by_motion own b o → is_projected v ≡ resolves (option_map (tested_of own v) o)
+projected-by : (own : OwnAircraft) (b : Bool) (o : Option Motion) (v : View) → v ≡ first_by_motion own b o → is_projected v ≡ resolves (option_map (tested_of own v) o)
 unfolding tested_of
 projected-by own b None v is = ap is_projected is
 projected-by own b (Some m) v is = ap is_projected is ∙ projected-by-row own m own.resolution
 
-resolves-agree : (seen : Seen) → IsSighted seen → is_some (shown_of seen).projected ≡ resolves (shown_of seen).tested
+resolves-agree : (seen : Seen) → IsSighted seen → seen.own.aircraft.profile ≡ One → is_some (shown_of seen).projected ≡ resolves (shown_of seen).tested
 unfolding shown_of
-resolves-agree seen is = some-if (is_projected seen.view) (projected_of seen.view) ∙ projected-by seen.own.aircraft is.resolves seen.motion seen.view is.view_is
+resolves-agree seen is one = some-if (is_projected seen.view) (projected_of seen.view) ∙ projected-by seen.own.aircraft is.resolves seen.motion seen.view (first-is seen is one)
 
 -- ---- a rule and what it asks
 
@@ -240,14 +239,16 @@ chosen-is : (view : View) → sense_of (new_advisory view (chosen_sense view)) �
 unfolding projected_of
 chosen-is view = refl
 
-agrees : (e : Parts) (K : List Entry) (own cycle : ℕ) (made : Cells) (other : ℕ) → IsExplained e K own cycle made other → Agrees (reason_of e K own cycle made other)
+agrees : (e : Parts) (K : List Entry) (own cycle : ℕ) (made : Cells) (other : ℕ) → e.profile ≡ One → IsExplained e K own cycle made other → Agrees (reason_of e K own cycle made other)
 unfolding reason_of shown_of seen_of
-agrees e K own cycle made other explained =
+agrees e K own cycle made other first explained =
     let seen = seen_of (sight_of e own cycle) other in
     let is = sighted (sight_of e own cycle) other in
+    let one = profile-is (sight_of e own cycle) other ∙ first in
+    let plain = plain-seen seen is one in
     record {
-      tests = tests-agree seen is;
-      resolves = resolves-agree seen is;
+      tests = tests-agree seen is one;
+      resolves = resolves-agree seen is one;
       starts = λ rule.
           let asks = asks-to-start seen.view _ _ _ _ _ explained rule in
           record {
@@ -260,12 +261,11 @@ agrees e K own cycle made other explained =
           record {
             continued = continued_of seen.view asks.it;
             is_continued = continued-is seen.view _ asks.it asks.before_is (goes-projected seen.view asks.it asks.goes);
-            has_alim = weakens-has-alim seen.view asks.it (plain-seen seen is) asks.level;
+            has_alim = weakens-has-alim seen.view asks.it plain asks.level;
           };
       reverses = λ rule.
           let asks = asks-to-reverse seen.view _ _ _ _ _ explained rule in
           let there = goes-projected seen.view asks.it asks.goes in
-          let plain = plain-seen seen is in
           let calls = by-geometry seen.view asks.it plain asks.calls in
           let alim = alim-whole seen is there in
           let feet = alim-in-feet seen.view is.feet alim in
@@ -280,5 +280,5 @@ agrees e K own cycle made other explained =
           };
     }
 
-pub columns-agree : (e : Parts) (J : List Entry) → IsEncounter e → IsLegal (air_of e) J → AreAgreeing e J
-columns-agree e J valid legal = λ K own cycle made other begins within apart. agrees e K own cycle made other (commit-explained e J valid legal K own cycle made other begins within apart)
+pub columns-agree : (e : Parts) (J : List Entry) → IsEncounter e → IsLegal (air_of e) J → e.profile ≡ One → AreAgreeing e J
+columns-agree e J valid legal first = λ K own cycle made other begins within apart. agrees e K own cycle made other first (commit-explained e J valid legal K own cycle made other begins within apart)

@@ -1,5 +1,5 @@
 -- What is seen, from what is kept and measured.
-use Rattle.std.proofs.Common.{◌≡◌, ◌≢◌, ◌<◌, ◌≤◌, ◌^◌, ◌∙◌, ℕ, zero, suc, ℤ, ◌-ℤ◌, length, get_or, Option, Some, None, false, arith, refl, sym, ap, ap₂, inl, inr, List, ne_eqb, subst, unsigned_abs}
+use Rattle.std.proofs.Common.{◌≡◌, ◌≢◌, ◌<◌, ◌≤◌, ◌^◌, ◌∙◌, ℕ, zero, suc, ℤ, length, get_or, Option, Some, None, false, arith, refl, sym, ap, ap₂, inl, inr, List, ne_eqb, subst, unsigned_abs}
 use Rattle.std.specs.Prelude.{Bool, IfSome, if◌then◌else◌, option_map, slice_get, slice_index_or}
 use Rattle.std.specs.Option.{option_and_then, option_map_or}
 use Rattle.std.proofs.lemmas.Int.{ints}
@@ -30,29 +30,18 @@ use Rattle.reasons.specs.Bounds.{IsModerate, IsOwnSide}
 use Rattle.reasons.specs.Seen.{own_side_of, seen_of}
 use Rattle.reasons.specs.declared.seen.OwnSide.{OwnSide}
 use Rattle.reasons.specs.declared.seen.Seen.{Seen}
-use Rattle.sens_table.specs.Levels.{IsLevel, level_at}
+use Rattle.sens_table.specs.Levels.{IsLevel}
 
 -- ---- own side
 
-pub own-side-is : (e : Parts) (own cycle : ℕ) (altitude : ℤ) (level : Level) (aircraft : OwnAircraft) → 1 ≤ cycle → altitude ≡ own_altitude e own cycle
-    → level ≡ level_at (own_altitude e own cycle) (own_altitude e own cycle -ℤ e.elevation) → aircraft ≡ own_of (sight_of e own cycle)
-    → (let it : OwnSide = record { altitude = altitude; level = level.sl; aircraft = aircraft } in it) ≡ own_side_of (sight_of e own cycle)
+pub own-side-is : (e : Parts) (own cycle : ℕ) (altitude : ℤ) (aircraft : OwnAircraft) → 1 ≤ cycle → altitude ≡ own_altitude e own cycle → aircraft ≡ own_of (sight_of e own cycle)
+    → (let it : OwnSide = record { altitude = altitude; level = aircraft.level.sl; aircraft = aircraft } in it) ≡ own_side_of (sight_of e own cycle)
 unfolding own_side_of
-own-side-is e own zero altitude level aircraft begun a l o = absurd (omega arith)
-own-side-is e own (suc n) altitude level aircraft begun a l o = λ i. record { altitude = a i; level = (l i).sl; aircraft = o i }
+own-side-is e own zero altitude aircraft begun a o = absurd (omega arith)
+own-side-is e own (suc n) altitude aircraft begun a o = λ i. record { altitude = a i; level = (o i).level.sl; aircraft = o i }
 
-alim-is : (e : Parts) (own cycle : ℕ) → 1 ≤ cycle → (own_of (sight_of e own cycle)).alim ≡ (level_at (own_altitude e own cycle) (own_altitude e own cycle -ℤ e.elevation)).alim
-unfolding own_of
-alim-is e own zero begun = absurd (omega arith)
-alim-is e own (suc n) begun = refl
-
-small : (level : Level) → IsLevel level → unsigned_abs level.alim ≤ 2 ^ 25
-small level is = let alim = is.alim in omega (arith, ints)
-
-pub small-alim : (e : Parts) (own cycle : ℕ) (level : Level) (aircraft : OwnAircraft) → 1 ≤ cycle → level ≡ level_at (own_altitude e own cycle) (own_altitude e own cycle -ℤ e.elevation) → IsLevel level
-    → aircraft ≡ own_of (sight_of e own cycle) → unsigned_abs aircraft.alim ≤ 2 ^ 25
-small-alim e own cycle level aircraft begun l is o =
-    subst (λ (n : ℤ). unsigned_abs n ≤ 2 ^ 25) (ap (λ (x : Level). x.alim) l ∙ sym (alim-is e own cycle begun) ∙ ap (λ (x : OwnAircraft). x.alim) (sym o)) (small level is)
+pub small-alim : (level : Level) → IsLevel level → unsigned_abs level.alim ≤ 2 ^ 25
+small-alim level is = let alim = is.alim in omega (arith, ints)
 
 -- ---- the other aircraft
 
@@ -105,14 +94,14 @@ own-aircraft : (s : Sight) → (own_side_of s).aircraft ≡ own_of s
 unfolding own_side_of
 own-aircraft s = refl
 
-moderate-other : (s : Sight) (index : ℕ) → AreRows (own_of s) → unsigned_abs (own_of s).alim ≤ 2 ^ 25 → IfSome (motion_of (own_track s) (tracks_of s index)) IsMotion → IsModerate (view_in s index)
+moderate-other : (s : Sight) (index : ℕ) → AreRows (own_of s) → unsigned_abs (own_of s).level.alim ≤ 2 ^ 25 → IfSome (motion_of (own_track s) (tracks_of s index)) IsMotion → IsModerate (view_in s index)
 unfolding view_in
 moderate-other s index rows alim motion = by_other (s.others index) motion
   where
-    by_other : (o : Option Other) → IfSome (motion_of (own_track s) (option_map_or (λ (other : Other). tracks_by s.range s.altitude other.seen) o no_tracks)) IsMotion
-        → IsModerate (option_map_or (λ (other : Other). view_by (own_of s) (own_track s) (tracks_by s.range s.altitude other.seen)) o no_view)
+    by_other : (o : Option Other) → IfSome (motion_of (own_track s) (option_map_or (λ (other : Other). tracks_by s other.seen) o no_tracks)) IsMotion
+        → IsModerate (option_map_or (λ (other : Other). view_by (own_of s) (own_track s) (tracks_by s other.seen)) o no_view)
     by_other None m = moderate-plain false false false
-    by_other (Some other) m = moderate-view (own_of s) (own_track s) (tracks_by s.range s.altitude other.seen) rows alim m
+    by_other (Some other) m = moderate-view (own_of s) (own_track s) (tracks_by s other.seen) rows alim m
 
 pub moderate-seen : (e : Parts) (kept : Kept) (other : ℕ) (picture : Picture) (index : ℕ) (d : View) (own : OwnSide) (motion : Option Motion)
     → Belongs e kept → own ≡ own_side_of (sight_of e kept.own kept.cycle) → IsOwnSide own → other < CRAFTS → index ≡ other → picture ≡ picture_of e kept.own kept.cycle
@@ -122,5 +111,5 @@ moderate-seen e kept other picture index d own motion b o bounds few same p t m 
     let aircraft : own.aircraft ≡ own_of s = ap (λ (x : OwnSide). x.aircraft) o ∙ own-aircraft s in
     let view-is = ap (λ n. get_or picture.views n d) same ∙ seen e kept.own kept.cycle picture p other few d in
     subst IsModerate (sym view-is)
-    (moderate-other s other (subst AreRows aircraft bounds.rows) (subst (λ (x : OwnAircraft). unsigned_abs x.alim ≤ 2 ^ 25) aircraft bounds.alim)
+    (moderate-other s other (subst AreRows aircraft bounds.rows) (subst (λ (x : OwnAircraft). unsigned_abs x.level.alim ≤ 2 ^ 25) aircraft bounds.alim)
     (subst (λ (x : Option Motion). IfSome x IsMotion) (t ∙ motion-known e kept other b few) m))

@@ -1,5 +1,5 @@
 -- How large the separations of a view are.
-use Rattle.std.proofs.Common.{◌≡◌, ◌-◌, ◌*◌, ◌≤◌, ◌^◌, ℕ, zero, suc, ℤ, pos, ◌+ℤ◌, ◌-ℤ◌, ◌*ℤ◌, ◌≤ℤ◌, ◌<ℤ◌, neg_ℤ, Bool, true, false, Option, Some, None, arith, refl, rules, subst, sym, unsigned_abs}
+use Rattle.std.proofs.Common.{◌≡◌, ◌-◌, ◌*◌, ◌≤◌, ◌^◌, ℕ, zero, suc, ℤ, pos, ◌+ℤ◌, ◌-ℤ◌, ◌*ℤ◌, ◌≤ℤ◌, ◌<ℤ◌, neg_ℤ, Bool, true, false, Option, Some, None, arith, rules, unsigned_abs}
 use Rattle.std.specs.Prelude.{IfSome, if◌then◌else◌, int_le, int_lt, min, nat_le, slice_index_or}
 use Rattle.std.specs.Int.{int_div_euclid, int_max, int_min}
 use Rattle.std.specs.Option.{option_map_or}
@@ -12,13 +12,15 @@ use Rattle.acas_base.specs.declared.advisory.Sense.TheVariants.{Up, Down}
 use Rattle.acas_base.specs.declared.advisory.Strength.{Strength}
 use Rattle.acas_base.specs.declared.advisory.Strength.TheVariants.{Limit2000, Limit1000, Limit500, Level, Positive, Increase}
 use Rattle.acas_base.specs.declared.level.Row.{Row}
+use Rattle.acas_base.specs.declared.setting.Profile.{Profile}
+use Rattle.acas_base.specs.declared.setting.Profile.TheVariants as profiles
 use Rattle.acas_num.proofs.Quotients.{quotient}
 use Rattle.acas_num.specs.declared.track.TrackState.{TrackState}
-use Rattle.craft_view.specs.Hits.{is_hit}
 use Rattle.craft_view.specs.KnownTracks.{IsAltitudeEstimate, IsMotion, motion_of}
 use Rattle.craft_view.specs.Own.{AreRows}
-use Rattle.craft_view.specs.Separations.{apart, asked_rate, halves_to, kept_after, own_after, separation, separations, zeros}
-use Rattle.craft_view.specs.Views.{plain_view, resolving_view, tested_view, view_by}
+use Rattle.craft_view.specs.ProfileTwo.{halves_left}
+use Rattle.craft_view.specs.Separations.{apart, asked_rate, floor_rate, halves_to, is_limit, judged_rate, kept_after, own_after, separation, separations, zeros}
+use Rattle.craft_view.specs.Views.{first_view, in_profile, plain_view, resolving_view, second_view, shows_traffic, tested_view, view_by}
 use Rattle.craft_view.specs.declared.motion.Estimate.{Estimate}
 use Rattle.craft_view.specs.declared.motion.Motion.{Motion}
 use Rattle.craft_view.specs.declared.own.OwnAircraft.{OwnAircraft}
@@ -86,12 +88,24 @@ unfolding asked_rate
 small-goal Up strength rate p = greater rate (floor_of strength) p (small-floor strength)
 small-goal Down strength rate p = smaller rate (floor_of strength) p (small-floor strength)
 
-small-own : (own : Estimate) (halves delay step : ℕ) (sense : Sense) (strength : Strength) → IsAltitudeEstimate own → halves ≤ 120 →
-    unsigned_abs (own_after own halves (let r : Response = record { delay = delay; step = pos step } in r) sense strength) ≤ 2 ^ 27
+small-down : (n : ℤ) → unsigned_abs n ≤ 2 ^ 18 → unsigned_abs (neg_ℤ n) ≤ 2 ^ 18
+small-down n p = omega (arith, ints)
+
+small-rate-at-floor : (sense : Sense) (strength : Strength) → unsigned_abs (floor_rate sense strength) ≤ 2 ^ 18
+small-rate-at-floor Up strength = small-floor strength
+small-rate-at-floor Down strength = small-down (floor_of strength) (small-floor strength)
+
+-- The rate for which a separation is judged, in either profile.
+small-judged : (profile : Profile) (sense : Sense) (strength : Strength) (rate : ℤ) → unsigned_abs rate ≤ 2 ^ 18 → unsigned_abs (judged_rate profile sense strength rate) ≤ 2 ^ 18
+small-judged profiles.One sense strength rate p = small-goal sense strength rate p
+small-judged profiles.Two sense strength rate p = pick (is_limit strength) _ _ (small-rate-at-floor sense strength) (small-goal sense strength rate p)
+
+small-own : (profile : Profile) (own : Estimate) (halves delay step : ℕ) (sense : Sense) (strength : Strength) → IsAltitudeEstimate own → halves ≤ 120 →
+    unsigned_abs (own_after profile own halves (let r : Response = record { delay = delay; step = pos step } in r) sense strength) ≤ 2 ^ 27
 unfolding own_after
-small-own own halves delay step sense strength is few =
-    let goal = asked_rate sense strength own.rate in
-    let sum = small-rates own.rate goal delay step halves is.rate (small-goal sense strength own.rate is.rate) in
+small-own profile own halves delay step sense strength is few =
+    let goal = judged_rate profile sense strength own.rate in
+    let sum = small-rates own.rate goal delay step halves is.rate (small-judged profile sense strength own.rate is.rate) in
     let half = half-small (rates own.rate goal delay (pos step) halves) (omega arith) in
     small-sum own.est (int_div_euclid (rates own.rate goal delay (pos step) halves) (pos 2)) is.est half
 
@@ -111,17 +125,17 @@ unfolding apart
 small-apart Up own target p q = small-difference own target p q
 small-apart Down own target p q = small-difference target own q p
 
-small-between-them : (m : Motion) (halves delay step : ℕ) (sense : Sense) (strength : Strength) → IsMotion m → halves ≤ 120 →
-    unsigned_abs (separation m halves (let r : Response = record { delay = delay; step = pos step } in r) sense strength) ≤ 2 ^ 30
+small-between-them : (profile : Profile) (m : Motion) (halves delay step : ℕ) (sense : Sense) (strength : Strength) → IsMotion m → halves ≤ 120 →
+    unsigned_abs (separation profile m halves (let r : Response = record { delay = delay; step = pos step } in r) sense strength) ≤ 2 ^ 30
 unfolding separation
-small-between-them m halves delay step sense strength is few =
-    small-apart sense _ (kept_after m.target halves) (small-own m.own halves delay step sense strength is.own few) (small-kept m.target halves is.target few)
+small-between-them profile m halves delay step sense strength is few =
+    small-apart sense _ (kept_after m.target halves) (small-own profile m.own halves delay step sense strength is.own few) (small-kept m.target halves is.target few)
 
-moderate-seps : (m : Motion) (halves delay step : ℕ) → IsMotion m → halves ≤ 120 → AreModerate (separations m halves (let r : Response = record { delay = delay; step = pos step } in r))
+moderate-seps : (profile : Profile) (m : Motion) (halves delay step : ℕ) → IsMotion m → halves ≤ 120 → AreModerate (separations profile m halves (let r : Response = record { delay = delay; step = pos step } in r))
 unfolding separations
-moderate-seps m halves delay step is few = record {
-  up = All-map (λ n. unsigned_abs n ≤ 2 ^ 30) (separation m halves (record { delay = delay; step = pos step }) Up) weakest_first (λ k d h. small-between-them m halves delay step Up (slice_index_or weakest_first k d) is few);
-  down = All-map (λ n. unsigned_abs n ≤ 2 ^ 30) (separation m halves (record { delay = delay; step = pos step }) Down) weakest_first (λ k d h. small-between-them m halves delay step Down (slice_index_or weakest_first k d) is few);
+moderate-seps profile m halves delay step is few = record {
+  up = All-map (λ n. unsigned_abs n ≤ 2 ^ 30) (separation profile m halves (record { delay = delay; step = pos step }) Up) weakest_first (λ k d h. small-between-them profile m halves delay step Up (slice_index_or weakest_first k d) is few);
+  down = All-map (λ n. unsigned_abs n ≤ 2 ^ 30) (separation profile m halves (record { delay = delay; step = pos step }) Down) weakest_first (λ k d h. small-between-them profile m halves delay step Down (slice_index_or weakest_first k d) is few);
 }
 
 -- ---- a view
@@ -134,23 +148,37 @@ few-halves m row is = go (int_lt m.range.rate (pos 0)) _ _ (let tau = is.tau in 
     go true one two h = omega arith
     go false one two h = omega arith
 
+-- Once the square of the horizontal range grows, none is left.
+few-left : (m : Motion) (row : Row) → IsTableRow row → halves_left m row ≤ 120
+few-left m row is = go _ (halves_to m.range row) (few-halves m row is)
+  where
+    go : (b : Bool) (halves : ℕ) → halves ≤ 120 → (if b then 0 else halves) ≤ 120
+    go true halves few = omega arith
+    go false halves few = few
+
 moderate-zeros : AreModerate zeros
 moderate-zeros = record { up = All-replicate (λ n. unsigned_abs n ≤ 2 ^ 30) 6 (pos 0) (omega arith); down = All-replicate (λ n. unsigned_abs n ≤ 2 ^ 30) 6 (pos 0) (omega arith) }
 
 pub moderate-plain : (tested traffic resolves : Bool) → IsModerate (plain_view tested traffic resolves)
 moderate-plain tested traffic resolves = record { alim = omega arith; first = moderate-zeros; later = moderate-zeros }
 
-moderate-tested : (own : OwnAircraft) (row : Option Row) (m : Motion) → own.resolution ≡ row → IfSome row IsTableRow → unsigned_abs own.alim ≤ 2 ^ 25 → IsMotion m → IsModerate (tested_view own m)
-moderate-tested own None m e rows alim is = subst (λ (o : Option Row). IsModerate (option_map_or (resolving_view own m) o (plain_view true (is_hit m own.traffic) false))) (sym e) (moderate-plain true (is_hit m own.traffic) false)
-moderate-tested own (Some row) m e rows alim is =
-    subst (λ (o : Option Row). IsModerate (option_map_or (resolving_view own m) o (plain_view true (is_hit m own.traffic) false))) (sym e)
-    (record { alim = alim; first = moderate-seps m (halves_to m.range row) 10 4096 is (few-halves m row rows); later = moderate-seps m (halves_to m.range row) 5 5632 is (few-halves m row rows) })
+moderate-resolving : (profile : Profile) (own : OwnAircraft) (m : Motion) (row : Row) → IsTableRow row → unsigned_abs own.level.alim ≤ 2 ^ 25 → IsMotion m → IsModerate (in_profile profile (first_view own m row) (second_view own m row))
+moderate-resolving profiles.One own m row is alim motion =
+    let few = few-halves m row is in
+    record { alim = alim; first = moderate-seps profiles.One m (halves_to m.range row) 10 4096 motion few; later = moderate-seps profiles.One m (halves_to m.range row) 5 5632 motion few }
+moderate-resolving profiles.Two own m row is alim motion =
+    let few = few-left m row is in
+    record { alim = alim; first = moderate-seps profiles.Two m (halves_left m row) 10 4096 motion few; later = moderate-seps profiles.Two m (halves_left m row) 5 5632 motion few }
 
-moderate-by : (own : OwnAircraft) (o : Option Motion) (resolves : Bool) → AreRows own → unsigned_abs own.alim ≤ 2 ^ 25 → IfSome o IsMotion → IsModerate (option_map_or (tested_view own) o (plain_view false false resolves))
+moderate-tested : (own : OwnAircraft) (m : Motion) (o : Option Row) → IfSome o IsTableRow → unsigned_abs own.level.alim ≤ 2 ^ 25 → IsMotion m → IsModerate (option_map_or (resolving_view own m) o (plain_view true (shows_traffic own m) false))
+moderate-tested own m None rows alim is = moderate-plain true (shows_traffic own m) false
+moderate-tested own m (Some row) rows alim is = moderate-resolving own.profile own m row rows alim is
+
+moderate-by : (own : OwnAircraft) (o : Option Motion) (resolves : Bool) → AreRows own → unsigned_abs own.level.alim ≤ 2 ^ 25 → IfSome o IsMotion → IsModerate (option_map_or (tested_view own) o (plain_view false false resolves))
 moderate-by own None resolves rows alim is = moderate-plain false false resolves
-moderate-by own (Some m) resolves rows alim is = moderate-tested own own.resolution m refl rows.resolution alim is
+moderate-by own (Some m) resolves rows alim is = moderate-tested own m own.resolution rows.resolution alim is
 
 -- The view by tracks that keep their limits.
-pub moderate-view : (own : OwnAircraft) (mine : TrackState) (tracks : Tracks) → AreRows own → unsigned_abs own.alim ≤ 2 ^ 25 → IfSome (motion_of mine tracks) IsMotion → IsModerate (view_by own mine tracks)
+pub moderate-view : (own : OwnAircraft) (mine : TrackState) (tracks : Tracks) → AreRows own → unsigned_abs own.level.alim ≤ 2 ^ 25 → IfSome (motion_of mine tracks) IsMotion → IsModerate (view_by own mine tracks)
 unfolding view_by
 moderate-view own mine tracks rows alim is = moderate-by own (motion_of mine tracks) _ rows alim is

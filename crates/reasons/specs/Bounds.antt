@@ -18,10 +18,10 @@ pub record IsModerate (view : View) : Type 0 where
   pub first : AreModerate view.first
   pub later : AreModerate view.later
 
--- So are the numbers of own side: ALIM is less than 2^15 ft, and the thresholds are those of a table.
+-- So are the numbers of own side: ALIM is less than 2^15 ft, and the level and the thresholds are those of a table.
 pub record IsOwnSide (own : OwnSide) : Type 0 where
   pub rows : AreRows own.aircraft
-  pub alim : unsigned_abs own.aircraft.alim ≤ 2 ^ 25
+  pub alim : unsigned_abs own.aircraft.level.alim ≤ 2 ^ 25
 
 -- And all that is seen.
 pub record IsSeen (seen : Seen) : Type 0 where

@@ -1,5 +1,5 @@
 -- What an aircraft sees of another one in a cycle, from what it may know alone.
-use Rattle.std.specs.Prelude.{ℕ, ◌-ℤ◌, None, slice_index_or}
+use Rattle.std.specs.Prelude.{ℕ, None, slice_index_or}
 use Rattle.std.specs.Option.{option_and_then, option_map_or}
 use Rattle.acas_base.specs.declared.advisory.Rank.TheVariants.{Free}
 use Rattle.craft_view.specs.KnownTracks.{motion_of, own_track, tracks_of}
@@ -8,13 +8,12 @@ use Rattle.craft_view.specs.Sight.{Other, Sight}
 use Rattle.craft_view.specs.Views.{view_in}
 use Rattle.reasons.specs.declared.seen.OwnSide.{OwnSide}
 use Rattle.reasons.specs.declared.seen.Seen.{Seen}
-use Rattle.sens_table.specs.Levels.{level_at}
 
 -- Own altitude in ft, the sensitivity level, and what own aircraft brings into its views.
 unfoldable pub own_side_of : Sight → OwnSide
 own_side_of s = record {
   altitude = newest_altitude s;
-  level = (level_at (newest_altitude s) (newest_altitude s -ℤ s.elevation)).sl;
+  level = (own_of s).level.sl;
   aircraft = own_of s;
 }
 

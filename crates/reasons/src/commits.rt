@@ -88,7 +88,7 @@ fn put_commit<S: LineSink>(
 {
     // No encounter has more than 16 aircraft.
     commit.encounter.valid_law();
-    let own = own_side_of(places, commit.own);
+    let own = own_side_of(places, craft);
     let mut line = Line::new();
     for other in 0..commit.encounter.crafts().len() as u8 {
         if other == commit.own {

@@ -1,11 +1,12 @@
 // What the words of the rules and the columns tell.
-ghost use Rattle.std.specs.Prelude.{List};
+ghost use Rattle.std.specs.Prelude.{◌≡◌, List};
 ghost use Rattle.acas_base.specs.Encounter.{IsEncounter, Parts};
 ghost use Rattle.acas_base.specs.Next.{following_cell};
 ghost use Rattle.acas_base.specs.declared.advisory.Cell.{Cell};
 ghost use Rattle.acas_base.specs.declared.advisory.Rank.{Rank};
 ghost use Rattle.acas_base.specs.declared.advisory.Vrc.{Vrc};
 ghost use Rattle.acas_base.specs.declared.entry.Entry.{Entry};
+ghost use Rattle.acas_base.specs.declared.setting.Profile.{Profile};
 ghost use Rattle.acas_base.specs.declared.view.View.{View};
 ghost use Rattle.air_journal.specs.Airs.{air_of};
 ghost use Rattle.air_rules.specs.Rules.{IsLegal};
@@ -31,12 +32,15 @@ pub fn reason_law()
     ensures { (e : Parts) (journal : List Entry) → IsEncounter e → IsLegal (air_of e) journal → AreExplained e journal }
 {}
 
-/// A law: the columns of each line of a legal journal agree. There is traffic exactly where the line's own seconds of a
-/// traffic advisory are within tau, and a threat exactly where own aircraft resolves and those of a resolution advisory
-/// are. An advisory that `starts` has the sense `chosen`. One that `weakens` has ALIM. Where one `reverses`, its own
-/// sense doesn't give ALIM with the later response, and the other one does.
+/// A law: in profile 1 the columns of each line of a legal journal agree. There is traffic exactly where the line's own
+/// seconds of a traffic advisory are within tau, and a threat exactly where own aircraft resolves and those of a
+/// resolution advisory are. An advisory that `starts` has the sense `chosen`. One that `weakens` has ALIM. Where one
+/// `reverses`, its own sense doesn't give ALIM with the later response, and the other one does.
+///
+/// In profile 2 this doesn't hold: the tests need more than the columns have, and an advisory weakens or is reversed
+/// for other reasons too.
 pub fn columns_law()
-    ensures { (e : Parts) (journal : List Entry) → IsEncounter e → IsLegal (air_of e) journal → AreAgreeing e journal }
+    ensures { (e : Parts) (journal : List Entry) → IsEncounter e → IsLegal (air_of e) journal → e.profile ≡ Profile.One → AreAgreeing e journal }
 {}
 
 /// A law: what a line tells that was measured, tracked, tested and projected follows from the sight of own aircraft up

@@ -21,17 +21,19 @@ pub enum Rule {
     Quiet,
     /// The advisory ends: own aircraft doesn't resolve any more.
     EndsBelowLevel,
-    /// The advisory ends: it is at least five cycles old, and there is no threat.
+    /// The advisory ends: it is at least five cycles old, and there is no threat. In profile 2 the range test doesn't
+    /// hold.
     EndsWithoutThreat,
     /// The advisory changes its sense as the complement in force asks.
     Obeys,
-    /// The advisory changes its sense by a geometric reversal.
+    /// The advisory changes its sense by a geometric reversal. In profile 2 it does so in a vertical chase too.
     Reverses,
     /// The advisory grows stronger.
     Strengthens,
     /// The advisory keeps its strength.
     Keeps,
-    /// The advisory weakens to Level: it is at least five cycles old, and its sense has ALIM already.
+    /// The advisory weakens to Level: it is at least five cycles old, and its sense has ALIM already. In profile 2 it is
+    /// at least ten cycles old, and Level with the later response gives ALIM too, or the other aircraft passes far away.
     Weakens,
     /// The advisory grows weaker: its strength isn't allowed any more.
     Capped,

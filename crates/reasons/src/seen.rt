@@ -5,15 +5,13 @@ ghost use Rattle.craft_view.specs.KnownTracks.{IsMotion};
 ghost use Rattle.craft_view.specs.Own.{AreRows};
 ghost use Rattle.craft_view.specs.Sight.{sight_of};
 ghost use Rattle.craft_view.specs.Views.{picture_of};
-ghost use Rattle.flight.specs.Inside.{IsInside};
 ghost use Rattle.reasons.specs.Bounds.{IsModerate, IsOwnSide, IsSeen};
 ghost use Rattle.reasons.specs.Seen.{own_side_of, seen_of};
 
 use acas_base::{Picture, Rank, View};
 use air_journal::rank;
-use craft_view::{Craft, Motion, OwnAircraft, own_of};
+use craft_view::{Craft, Motion, OwnAircraft};
 use flight::{Meas, Places};
-use sens_table::level_of;
 
 // Own altitude in ft, the sensitivity level, and what own aircraft brings into its views.
 #[derive(Clone, Copy)]
@@ -34,23 +32,19 @@ pub struct Seen {
     pub view: View,
 }
 
-/// What own aircraft measures of itself in a cycle, and what follows from it.
-pub(crate) fn own_side_of(places: &Places, own: u8) -> OwnSide
-    requires own { own < length places.now.encounter.crafts }
-    requires inside { IsInside places.now.encounter }
-    requires begun { 1 ≤ places.now.cycle }
-    requires run { places.now.cycle ≤ places.now.encounter.cycles }
-    ensures value { result ≡ own_side_of (sight_of places.now.encounter own places.now.cycle) }
+/// What own aircraft measures of itself in the cycle of its newest look, and what follows from it.
+pub(crate) fn own_side_of(places: &Places, craft: &Craft) -> OwnSide
+    requires belongs { Belongs places.now.encounter craft.now }
+    requires begun { 1 ≤ craft.now.cycle }
+    requires present { places.now.cycle ≡ craft.now.cycle }
+    ensures value { result ≡ own_side_of (sight_of places.now.encounter craft.now.own craft.now.cycle) }
     ensures bounds { IsOwnSide result }
 {
-    let encounter = places.encounter();
-    // No elevation is beyond those of an encounter.
-    encounter.valid_law();
-    let altitude = places.own_altitude(own);
+    let aircraft = craft.own_aircraft(places);
     OwnSide {
-        altitude,
-        level: level_of(altitude, encounter.ground()).sl,
-        aircraft: own_of(places, own),
+        altitude: places.own_altitude(craft.own()),
+        level: aircraft.level.sl,
+        aircraft,
     }
 }
 

@@ -10,7 +10,7 @@ ghost use Rattle.seconds_panel.specs.Seconds.{AreSeconds, motion_in, seconds_in}
 use crate::own::TestedPair;
 use crate::series::Series;
 use acas_base::Encounter;
-use craft_view::{Craft, Motion, own_of};
+use craft_view::{Craft, Motion};
 use flight::Places;
 use std::marker::Model;
 use test_seconds::{PairSeconds, pair_seconds};
@@ -55,13 +55,12 @@ fn seconds_in(places: &Places, craft: &Craft, other: u8) -> Option<PairSeconds>
     requires belongs { Belongs places.now.encounter craft.now }
     requires begun { 1 ≤ craft.now.cycle }
     requires present { places.now.cycle ≡ craft.now.cycle }
-    requires own { craft.now.own < length places.now.encounter.crafts }
     requires other { other < length places.now.encounter.crafts }
     ensures { result ≡ seconds_in places.now.encounter (tested craft.now.own other) craft.now.cycle }
 {
     match motion_in(places.encounter(), craft, other) {
         None => None,
-        Some(motion) => Some(pair_seconds(&own_of(places, craft.own()), &motion)),
+        Some(motion) => Some(pair_seconds(&craft.own_aircraft(places), &motion)),
     }
 }
 

@@ -17,4 +17,4 @@ seconds_of m row = record {
 
 -- What a traffic advisory needs, and what a resolution advisory needs, where own aircraft has thresholds of one.
 abbrev pub pair_seconds : OwnAircraft → Motion → PairSeconds
-pair_seconds own m = record { ta = seconds_of m own.traffic; ra = option_map (seconds_of m) own.resolution }
+pair_seconds own m = record { ta = seconds_of m own.level.ta; ra = option_map (seconds_of m) own.resolution }

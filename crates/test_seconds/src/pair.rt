@@ -80,7 +80,7 @@ pub fn pair_seconds(own: &OwnAircraft, motion: &Motion) -> PairSeconds
     ensures { result ≡ pair_seconds own.now motion.now }
 {
     PairSeconds {
-        ta: seconds_of(motion, &own.traffic),
+        ta: seconds_of(motion, &own.level.ta),
         ra: seconds_if_any(motion, &own.resolution),
     }
 }

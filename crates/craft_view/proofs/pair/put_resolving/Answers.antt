@@ -1,21 +1,17 @@
-use Rattle.std.proofs.Common.{sym, ◌∙◌}
+use Rattle.std.proofs.Common.{sym, ap, ◌∙◌}
 use Rattle.std.specs.Option.{option_copied}
-use Rattle.craft_view.proofs.Showing.{shown-asked, shown-outline, shown-threat}
-use Rattle.craft_view.specs.Views.{asks_for, resolving_view}
+use Rattle.acas_base.specs.declared.setting.Profile.{Profile}
+use Rattle.craft_view.specs.Views.{asks_for, first_view, in_profile, second_view, shown}
 use Rattle.craft_view.proofs.pair.put_resolving.Goals as goal
 
-pub returns-then-threat : goal.returns-then-threat
-returns-then-threat c =
-    let view = resolving_view c.args.own.now c.args.motion.now c.args.row.now in
-    c.put_whole.ensures ∙ shown-threat (asks_for (option_copied c.args.before) c.args.target) view (sym c.is_hit-threat.ensures ∙ c.if-threat.true)
+pub returns-in-One : goal.returns-in-One
+returns-in-One c =
+    let one = first_view c.args.own.now c.args.motion.now c.args.row.now in
+    let two = second_view c.args.own.now c.args.motion.now c.args.row.now in
+    c.put_first.ensures ∙ ap (λ (p : Profile). shown (asks_for (option_copied c.args.before) c.args.target) (in_profile p one two)) (sym c.in-One.is)
 
-pub returns-then-asks_for : goal.returns-then-asks_for
-returns-then-asks_for c =
-    let view = resolving_view c.args.own.now c.args.motion.now c.args.row.now in
-    c.put_whole-then-asks_for.ensures ∙ shown-asked (asks_for (option_copied c.args.before) c.args.target) view (sym c.asks_for.ensures ∙ c.if-asks_for.true)
-
-pub returns-else-asks_for : goal.returns-else-asks_for
-returns-else-asks_for c =
-    let view = resolving_view c.args.own.now c.args.motion.now c.args.row.now in
-    c.put_outline.ensures
-    ∙ shown-outline (asks_for (option_copied c.args.before) c.args.target) view (sym c.asks_for.ensures ∙ c.if-asks_for.false) (sym c.is_hit-threat.ensures ∙ c.if-threat.false)
+pub returns-in-Two : goal.returns-in-Two
+returns-in-Two c =
+    let one = first_view c.args.own.now c.args.motion.now c.args.row.now in
+    let two = second_view c.args.own.now c.args.motion.now c.args.row.now in
+    c.put_second.ensures ∙ ap (λ (p : Profile). shown (asks_for (option_copied c.args.before) c.args.target) (in_profile p one two)) (sym c.in-Two.is)

@@ -6,7 +6,7 @@ use Rattle.craft_view.proofs.pair.put_tested.Goals as goal
 
 pub returns-in-None : goal.returns-in-None
 returns-in-None c =
-    c.put_plain.ensures ∙ ap (λ (b : Bool). plain_view true b false) c.is_hit.ensures
+    c.put_plain.ensures ∙ ap (λ (b : Bool). plain_view true b false) c.shows_traffic.ensures
     ∙ shown-unresolved (asks_for (option_copied c.args.before) c.args.target) c.args.own.now c.args.motion.now c.in-None.is
 
 pub returns-in-Some : goal.returns-in-Some
