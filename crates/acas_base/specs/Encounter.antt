@@ -79,9 +79,9 @@ unlabelled e = record e { name = None; clock = None; calls = [] }
 abbrev pub address_in : List CraftSpec → ℕ → ℕ
 address_in crafts index = option_map_or (λ (craft : CraftSpec). craft.address) (slice_get crafts index) 0
 
--- Format 1 or format 2.
+-- Format 1, 2 or 3.
 abbrev pub IsVersion : ℕ → Type 0
-IsVersion n = (1 ≤ n) × (n ≤ 2)
+IsVersion n = (1 ≤ n) × (n ≤ 3)
 
 abbrev pub IsElevation : ℤ → Type 0
 IsElevation n = IsBetween (neg_ℤ (pos 1000)) (pos 15000) n

@@ -32,7 +32,7 @@ fn is_elevation(value: i32) -> bool
 fn is_version(value: u8) -> bool
     ensures { IsTrue result ↔ IsVersion value }
 {
-    1 <= value && value <= 2
+    1 <= value && value <= 3
 }
 
 pub(crate) fn is_cycle(value: u16) -> bool

@@ -58,7 +58,7 @@ impl Encounter {
     /// The encounter of these parts, where they are in their ranges and orders. The lists stand in the order of the
     /// canonical text. None where
     ///
-    /// - a part breaks its range, or the version isn't 1 or 2;
+    /// - a part breaks its range, or the version isn't 1, 2 or 3;
     /// - there is no aircraft, there are more than 8 in version 1 or more than [`crate::CRAFTS`], two have one address,
     ///   or none is active;
     /// - version 1 has a ceiling or a plan;
@@ -124,7 +124,7 @@ impl Encounter {
         self.setting
     }
 
-    /// The version of its format, 1 or 2.
+    /// The version of its format: 1, 2 or 3.
     pub fn version(&self) -> u8
         ensures { result ≡ self.now.version }
     {

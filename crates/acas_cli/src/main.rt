@@ -33,8 +33,8 @@ fn words_of<R: Env + Alloc<A = Global>>(rt: &R) -> io::Result<Vec<String>> {
 const USAGE: [&str; 6] = [
     "usage: acas serial | play | tracks | fly ADDRESS .. | vary alt|x|y|late ",
     "ADDRESS FIRST COUNT STEP | vary lose | vary swap | orders | losses | ",
-    "instance .. | many | audit | sum | gen NUMBER CRAFTS CYCLES | reports | ",
-    "sweep NUMBER COUNT CRAFTS CYCLES | response | watch | resume | why | ",
+    "instance .. | many | audit | sum | gen NUMBER CRAFTS CYCLES [2] | reports | ",
+    "sweep NUMBER COUNT CRAFTS CYCLES [2] | response | watch | resume | why | ",
     "places | messages | summary | picture [hh:mm:ss] [ADDRESS=NAME ..] ",
     "[CYCLE=TEXT ..] | compare | explain | decode WORD | --help | --version",
 ];

@@ -66,7 +66,7 @@ limit-by words =
 limit-said : (words : List (List ℕ)) (command : Command) → Say words command → limit_of command ≡ limit-by words
 limit-said words (commands.OfPlain Serial) said = sym (ap limit-by said)
 limit-said words (commands.OfPlain Audit) said = sym (ap limit-by said)
-limit-said words (commands.OfPlain (Gen number crafts cycles)) said = sym (ap limit-by said)
+limit-said words (commands.OfPlain (Gen number crafts cycles profile)) said = sym (ap limit-by said)
 limit-said words (commands.OfPlain (Tell Messages)) said = sym (ap limit-by said)
 limit-said words (commands.OfPlain (Tell Picture)) said = sym (ap limit-by said)
 limit-said words (commands.OfPlain (Tell Places)) said = sym (ap limit-by said)
@@ -75,7 +75,7 @@ limit-said words (commands.OfPlain (Tell Response)) said = sym (ap limit-by said
 limit-said words (commands.OfPlain (Tell Summary)) said = sym (ap limit-by said)
 limit-said words (commands.OfPlain (Tell Watch)) said = sym (ap limit-by said)
 limit-said words (commands.OfPlain (Tell Why)) said = sym (ap limit-by said)
-limit-said words (commands.OfPlain (Sweep number count crafts cycles)) said = sym (ap limit-by said)
+limit-said words (commands.OfPlain (Sweep number count crafts cycles profile)) said = sym (ap limit-by said)
 limit-said words (commands.OfPlain Resume) said = sym (ap limit-by said)
 limit-said words (commands.OfPlain Tracks) said = sym (ap limit-by said)
 limit-said words (commands.OfPlain (Vary variation)) said = sym (ap limit-by said)

@@ -49,7 +49,7 @@ all-few sizes some few cycles [] [] h = All-nil AreFew
 all-few sizes some few cycles [] (counts ∷ list) h = absurd h
 all-few sizes some few cycles (number ∷ row) [] h = absurd h
 all-few sizes some few cycles (number ∷ row) (counts ∷ list) h =
-    All-cons AreFew counts list (serial-few (generated number sizes.crafts sizes.cycles) (made-valid number sizes.crafts sizes.cycles some few cycles) counts h.0) (all-few sizes some few cycles row list h.1)
+    All-cons AreFew counts list (serial-few (generated sizes.profile number sizes.crafts sizes.cycles) (made-valid sizes.profile number sizes.crafts sizes.cycles some few cycles) counts h.0) (all-few sizes some few cycles row list h.1)
 
 fits : (sum length : ℕ) → sum ≤ length * 585600 → length * 585600 ≤ 4096 * 585600 → sum < 2 ^ 32
 fits sum length below within = omega arith

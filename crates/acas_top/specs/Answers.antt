@@ -1,6 +1,7 @@
 -- The answer to each command on the bytes that it read: a status, and the text that is written.
 use Rattle.std.specs.Prelude.{◌≡◌, ℕ, List, ◌++◌, Err, if◌then◌else◌, codes, length}
 use Rattle.std.specs.Fmt.{decimal}
+use Rattle.acas_base.specs.declared.setting.Profile.{Profile}
 use Rattle.acas_base.specs.Encounter.{Parts}
 use Rattle.acas_base.specs.declared.entry.Entry.{Entry}
 use Rattle.acas_lines.specs.Lines.{count_line, joined}
@@ -96,8 +97,8 @@ pub record RefusesTracks (bytes text : List ℕ) : Type 0 where
   pub text_is : text ≡ refused_line refusal.at (fault_number refusal.fault)
 
 -- The text is the canonical text of the encounter that is made from a number.
-abbrev pub IsMade : ℕ → ℕ → ℕ → List ℕ → Type 0
-IsMade number crafts cycles text = text ≡ canonical_text (generated number crafts cycles)
+abbrev pub IsMade : Profile → ℕ → ℕ → ℕ → List ℕ → Type 0
+IsMade profile number crafts cycles text = text ≡ canonical_text (generated profile number crafts cycles)
 
 -- The text of a reason: its number, and after the number 1 the code of the encounter's refusal.
 abbrev pub reason_text : Reason → List ℕ
@@ -248,13 +249,13 @@ AnswersPlain Serial bytes status text = ⊥
 AnswersPlain Audit bytes Done text = IsLegal bytes text
 AnswersPlain Audit bytes Wrong text = IsWrong bytes text
 AnswersPlain Audit bytes status text = ⊥
-AnswersPlain (Gen number crafts cycles) bytes Done text = IsMade number crafts cycles text
-AnswersPlain (Gen number crafts cycles) bytes status text = ⊥
+AnswersPlain (Gen number crafts cycles profile) bytes Done text = IsMade profile number crafts cycles text
+AnswersPlain (Gen number crafts cycles profile) bytes status text = ⊥
 AnswersPlain (Tell tool) bytes Done text = Tells tool bytes text
 AnswersPlain (Tell tool) bytes Wrong text = IsWrong bytes text
 AnswersPlain (Tell tool) bytes status text = ⊥
-AnswersPlain (Sweep number count crafts cycles) bytes Done text = Sweeps number count crafts cycles text
-AnswersPlain (Sweep number count crafts cycles) bytes status text = ⊥
+AnswersPlain (Sweep number count crafts cycles profile) bytes Done text = Sweeps (record { profile = profile; crafts = crafts; cycles = cycles }) number count text
+AnswersPlain (Sweep number count crafts cycles profile) bytes status text = ⊥
 AnswersPlain Tracks bytes Done text = Imports bytes text
 AnswersPlain Tracks bytes Refused text = RefusesTracks bytes text
 AnswersPlain Tracks bytes status text = ⊥

@@ -2,6 +2,7 @@
 use Rattle.std.specs.Prelude.{◌≡◌, ℕ, List, [], ◌∷◌, ◌++◌, length, map, slice_index_or, codes}
 use Rattle.std.specs.Fmt.{decimal}
 use Rattle.std.specs.List.{AllZip, range_with_len}
+use Rattle.acas_base.specs.declared.setting.Profile.{Profile}
 use Rattle.acas_lines.specs.Lines.{count_line, joined}
 use Rattle.acas_top.specs.Counted.{AreSerial, counts_text}
 use Rattle.enc_gen.specs.Generated.{generated}
@@ -9,14 +10,15 @@ use Rattle.sweep.specs.Numbers.{number_at, numbers}
 use Rattle.sweep.specs.Totals.{total}
 use Rattle.sweep.specs.declared.counts.Counts.{Counts}
 
--- How many aircraft and cycles each encounter has.
+-- For which profile the encounters are made, and how many aircraft and cycles each has.
 pub record Sizes : Type 0 where
+  pub profile : Profile
   pub crafts : ℕ
   pub cycles : ℕ
 
 -- The counts of a number are those of the serial run of the encounter that is made from it.
 abbrev pub HasCounted : Sizes → ℕ → Counts → Type 0
-HasCounted sizes number counts = AreSerial (generated number sizes.crafts sizes.cycles) counts
+HasCounted sizes number counts = AreSerial (generated sizes.profile number sizes.crafts sizes.cycles) counts
 
 -- ---- the text
 
@@ -44,7 +46,7 @@ abbrev pub swept_lines : ℕ → ℕ → List Counts → Counts → List (List �
 swept_lines first count list sums = sweep_count_line count ∷ (number_lines first list ++ total_line sums ∷ [])
 
 -- The text is that of the sweep over `count` numbers, from `number` on.
-pub record Sweeps (number count crafts cycles : ℕ) (text : List ℕ) : Type 0 where
+pub record Sweeps (sizes : Sizes) (number count : ℕ) (text : List ℕ) : Type 0 where
   pub list : List Counts
-  pub counted : AllZip (HasCounted (record { crafts = crafts; cycles = cycles })) (numbers number count) list
+  pub counted : AllZip (HasCounted sizes) (numbers number count) list
   pub text_is : text ≡ joined (swept_lines number count list (total list))

@@ -3,6 +3,8 @@ use Rattle.std.specs.Prelude.{◌≡◌, ℕ, ◌<◌, ◌≤◌, ◌^◌, ◌�
 use Rattle.std.specs.Fmt.{decimal}
 use Rattle.acas_base.specs.Ranges.{IsCycle}
 use Rattle.acas_base.specs.declared.TheConstants.{CRAFTS}
+use Rattle.acas_base.specs.declared.setting.Profile.{Profile}
+use Rattle.acas_base.specs.declared.setting.Profile.TheVariants.{One, Two}
 use Rattle.acas_text.specs.Hex.{hex}
 use Rattle.address_words.specs.Addresses.{are_addresses}
 use Rattle.fault_text.specs.Lines.{begins_recording}
@@ -28,9 +30,9 @@ use Rattle.acas_top.specs.declared.words.Tool.TheVariants.{Messages, Picture, Pl
 abbrev pub IsInRange : Plain → Type 0
 IsInRange Serial = Unit {0}
 IsInRange Audit = Unit {0}
-IsInRange (Gen number crafts cycles) = (number < 2 ^ 32) × (1 ≤ crafts) × (crafts ≤ CRAFTS) × IsCycle cycles
+IsInRange (Gen number crafts cycles profile) = (number < 2 ^ 32) × (1 ≤ crafts) × (crafts ≤ CRAFTS) × IsCycle cycles
 IsInRange (Tell tool) = Unit {0}
-IsInRange (Sweep number count crafts cycles) = (number < 2 ^ 32) × (1 ≤ count) × (count ≤ 4096) × (1 ≤ crafts) × (crafts ≤ 4) × (1 ≤ cycles) × (cycles ≤ 120)
+IsInRange (Sweep number count crafts cycles profile) = (number < 2 ^ 32) × (1 ≤ count) × (count ≤ 4096) × (1 ≤ crafts) × (crafts ≤ 4) × (1 ≤ cycles) × (cycles ≤ 120)
 IsInRange Resume = Unit {0}
 IsInRange Tracks = Unit {0}
 IsInRange (Vary variation) = IsVariation variation
@@ -65,6 +67,11 @@ abbrev pub threaded_word : Threaded → List ℕ
 threaded_word Play = codes "play"
 threaded_word Sum = codes "sum"
 
+-- The words behind the numbers that say for which profile encounters are made.
+abbrev pub profile_words : Profile → List (List ℕ)
+profile_words One = []
+profile_words Two = codes "2" ∷ []
+
 -- The words ask for a page.
 abbrev pub SayPage : List (List ℕ) → Page → Type 0
 SayPage words Help = (words ≡ codes "--help" ∷ []) ⊎ ((words ≡ codes "-h" ∷ []) ⊎ (words ≡ codes "help" ∷ []))
@@ -86,9 +93,9 @@ pub record SayPicture (words : List (List ℕ)) (labels : LabelWords) : Type 0 w
 abbrev pub SayPlain : List (List ℕ) → Plain → Type 0
 SayPlain words Serial = words ≡ codes "serial" ∷ []
 SayPlain words Audit = words ≡ codes "audit" ∷ []
-SayPlain words (Gen number crafts cycles) = words ≡ codes "gen" ∷ decimal number ∷ decimal crafts ∷ decimal cycles ∷ []
+SayPlain words (Gen number crafts cycles profile) = words ≡ codes "gen" ∷ decimal number ∷ decimal crafts ∷ decimal cycles ∷ profile_words profile
 SayPlain words (Tell tool) = words ≡ tool_word tool ∷ []
-SayPlain words (Sweep number count crafts cycles) = words ≡ codes "sweep" ∷ decimal number ∷ decimal count ∷ decimal crafts ∷ decimal cycles ∷ []
+SayPlain words (Sweep number count crafts cycles profile) = words ≡ codes "sweep" ∷ decimal number ∷ decimal count ∷ decimal crafts ∷ decimal cycles ∷ profile_words profile
 SayPlain words Resume = words ≡ codes "resume" ∷ []
 SayPlain words Tracks = words ≡ codes "tracks" ∷ []
 SayPlain words (Vary variation) = words ≡ codes "vary" ∷ words_of variation
@@ -153,9 +160,9 @@ plain_limit (Vary variation) = Some limits.Encounter
 plain_limit (Possible scope) = Some limits.Encounter
 plain_limit (Instance scope want) = Some limits.Encounter
 plain_limit Audit = Some limits.Recording
-plain_limit (Gen number crafts cycles) = None
+plain_limit (Gen number crafts cycles profile) = None
 plain_limit (Tell tool) = Some limits.Recording
-plain_limit (Sweep number count crafts cycles) = None
+plain_limit (Sweep number count crafts cycles profile) = None
 plain_limit Resume = Some limits.Recording
 plain_limit Compare = Some limits.Recording
 plain_limit Many = Some limits.Recording

@@ -26,7 +26,7 @@ use crate::varied::Varied;
 use crate::varying::answer_variation;
 use crate::verdict::verdict_line;
 use crate::{ENCOUNTER_BYTES, Page, Plain, RECORDING_BYTES, Status, Tool};
-use acas_base::Encounter;
+use acas_base::{Encounter, Profile};
 use acas_lines::{LineSink, Text};
 use acas_text::Line;
 use air_journal::AirState;
@@ -203,12 +203,18 @@ fn answer_tracks(alloc: Global, bytes: &[u8]) -> Result<Answer, AllocError>
 }
 
 // The answer to `gen`.
-fn answer_gen(alloc: Global, number: u32, crafts: u8, cycles: u16) -> Result<Answer, AllocError>
-    requires { IsInRange (Plain.Gen number crafts cycles) }
+fn answer_gen(
+    alloc: Global,
+    profile: Profile,
+    number: u32,
+    crafts: u8,
+    cycles: u16,
+) -> Result<Answer, AllocError>
+    requires { IsInRange (Plain.Gen number crafts cycles profile) }
     ensures status { IfOk result (λ answer. answer_status answer ≡ Status.Done) }
-    ensures text { IfOk result (λ answer. IsMade number crafts cycles (answer_text answer)) }
+    ensures text { IfOk result (λ answer. IsMade profile number crafts cycles (answer_text answer)) }
 {
-    Ok(Answer::Made(make(alloc, number, crafts, cycles)?))
+    Ok(Answer::Made(make(alloc, number, crafts, cycles, profile)?))
 }
 
 // The answer to the word of a tool.
@@ -226,16 +232,17 @@ fn answer_tool(alloc: Global, tool: Tool, bytes: &[u8]) -> Result<Answer, AllocE
 fn answer_sweep<R: Threads + Sync>(
     rt: &R,
     alloc: Global,
+    profile: Profile,
     number: u32,
     count: u16,
     crafts: u8,
     cycles: u16,
 ) -> Result<Answer, AllocError>
-    requires { IsInRange (Plain.Sweep number count crafts cycles) }
+    requires { IsInRange (Plain.Sweep number count crafts cycles profile) }
     ensures status { IfOk result (λ answer. answer_status answer ≡ Status.Done) }
-    ensures text { IfOk result (λ answer. Sweeps number count crafts cycles (answer_text answer)) }
+    ensures text { IfOk result (λ answer. Sweeps (record { profile = profile; crafts = crafts; cycles = cycles }) number count (answer_text answer)) }
 {
-    Ok(Answer::Swept(sweep(rt, alloc, number, count, crafts, cycles)?))
+    Ok(Answer::Swept(sweep(rt, alloc, profile, number, count, crafts, cycles)?))
 }
 
 // The answer to `resume`.
@@ -380,14 +387,16 @@ pub(crate) fn answer_to<R: Threads + Sync>(
             number,
             crafts,
             cycles,
-        } => answer_gen(alloc, number, crafts, cycles),
+            profile,
+        } => answer_gen(alloc, profile, number, crafts, cycles),
         Plain::Tell(tool) => answer_tool(alloc, tool, bytes.as_slice()),
         Plain::Sweep {
             number,
             count,
             crafts,
             cycles,
-        } => answer_sweep(rt, alloc, number, count, crafts, cycles),
+            profile,
+        } => answer_sweep(rt, alloc, profile, number, count, crafts, cycles),
         Plain::Tracks => answer_tracks(alloc, bytes.as_slice()),
         Plain::Vary(variation) => answer_variation(rt, alloc, variation, bytes.as_slice()),
         Plain::Possible(scope) => answer_possible(alloc, scope, bytes.as_slice()),

@@ -53,10 +53,10 @@ pub(crate) const OF_RECORDINGS: [&str; 15] = [
 /// Its part on the words that read nothing.
 pub(crate) const OF_NOTHING: [&str; 9] = [
     "These words read nothing:\n",
-    "  gen NUMBER CRAFTS CYCLES  Writes the encounter that is made from NUMBER\n",
-    "             (0 to 4294967295), with CRAFTS 1 to 16 and CYCLES 1 to 600.\n",
-    "  sweep NUMBER COUNT CRAFTS CYCLES  Plays those of COUNT numbers (1 to 4096)\n",
-    "             from NUMBER on, CRAFTS 1 to 4, CYCLES 1 to 120. Writes counts.\n",
+    "  gen NUMBER CRAFTS CYCLES [2]  Writes the encounter that is made from NUMBER\n",
+    "             (0 to 4294967295), CRAFTS 1 to 16, CYCLES 1 to 600; 2: profile 2.\n",
+    "  sweep NUMBER COUNT CRAFTS CYCLES [2]  Plays those of COUNT numbers (1 to\n",
+    "             4096) from NUMBER, CRAFTS 1 to 4, CYCLES 1 to 120. Writes counts.\n",
     "  decode WORD  Writes what 14 digits say: a message, or an RA report block.\n",
     "  --help     Writes this page. So do -h and help.\n",
     "  --version  Writes the versions of the program and of its formats.\n",
@@ -89,9 +89,14 @@ pub(crate) const EXAMPLE: [&str; 6] = [
     "has the rules, and examples/ has encounters with a page on each.\n",
 ];
 
-/// What `--version` writes: the program's version, and the formats of encounters and recordings that it reads and
-/// writes.
-pub(crate) const VERSION: [&str; 3] = ["acas 1.3.0\n", "encounter 1,2\n", "recording 1\n"];
+/// What `--version` writes: the program's version, the formats of encounters and recordings that it reads and writes,
+/// and the formats of tracks that it reads.
+pub(crate) const VERSION: [&str; 4] = [
+    "acas 1.3.0\n",
+    "encounter 1,2,3\n",
+    "recording 1\n",
+    "tracks 1,2\n",
+];
 
 // Puts lines of fixed text, in order.
 fn put_lines<S: LineSink>(lines: &[&str], sink: &mut S)

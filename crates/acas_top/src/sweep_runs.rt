@@ -8,6 +8,7 @@ ghost use Rattle.sweep.specs.Numbers.{numbers};
 ghost use Rattle.sweep.specs.Totals.{total};
 
 use crate::counts::serial_counts;
+use acas_base::Profile;
 use enc_gen::make;
 use std::alloc::{AllocError, Global};
 use std::marker::Model;
@@ -18,6 +19,7 @@ use sweep::{Counts, Job, run, total};
 #[derive(Drop)]
 struct SerialRuns {
     alloc: Global,
+    profile: Profile,
     crafts: u8,
     cycles: u16,
 }
@@ -30,20 +32,21 @@ impl Model for SerialRuns {
 
     ghost Value = { Sizes };
 
-    ghost view = { λ a. record { crafts = a.crafts; cycles = a.cycles } };
+    ghost view = { λ a. record { profile = a.profile; crafts = a.crafts; cycles = a.cycles } };
 
     ghost invariant = { λ a. (1 ≤ a.crafts) × (a.crafts ≤ CRAFTS) × IsCycle a.cycles };
 }
 
 impl SerialRuns {
-    fn new(alloc: Global, crafts: u8, cycles: u16) -> SerialRuns
+    fn new(alloc: Global, profile: Profile, crafts: u8, cycles: u16) -> SerialRuns
         requires some { 1 ≤ crafts }
         requires few { crafts ≤ CRAFTS }
         requires cycles { IsCycle cycles }
-        ensures { result ≡ record { crafts = crafts; cycles = cycles } }
+        ensures { result ≡ record { profile = profile; crafts = crafts; cycles = cycles } }
     {
         SerialRuns {
             alloc,
+            profile,
             crafts,
             cycles,
         }
@@ -58,7 +61,7 @@ impl Job for SerialRuns {
     ghost means = { HasCounted };
 
     fn one(&self, number: u32) -> Result<Counts, AllocError> {
-        let encounter = make(self.alloc, number, self.crafts, self.cycles)?;
+        let encounter = make(self.alloc, number, self.crafts, self.cycles, self.profile)?;
         serial_counts(self.alloc, &encounter)
     }
 }
@@ -76,6 +79,7 @@ pub(crate) struct Swept {
 pub(crate) fn sweep<R: Threads + Sync>(
     rt: &R,
     alloc: Global,
+    profile: Profile,
     first: u32,
     count: u16,
     crafts: u8,
@@ -87,10 +91,10 @@ pub(crate) fn sweep<R: Threads + Sync>(
     requires cycles { IsCycle cycles }
     ensures first { IfOk result (λ swept. swept.first ≡ first) }
     ensures count { IfOk result (λ swept. swept.count ≡ count) }
-    ensures list { IfOk result (λ swept. AllZip (HasCounted (record { crafts = crafts; cycles = cycles })) (numbers first count) swept.list.items) }
+    ensures list { IfOk result (λ swept. AllZip (HasCounted (record { profile = profile; crafts = crafts; cycles = cycles })) (numbers first count) swept.list.items) }
     ensures total { IfOk result (λ swept. swept.total ≡ total swept.list.items) }
 {
-    let job = SerialRuns::new(alloc, crafts, cycles);
+    let job = SerialRuns::new(alloc, profile, crafts, cycles);
     let list = run(rt, alloc, first, u32::from(count), &job)?;
     let total = total(&list);
     Ok(Swept {

@@ -1,14 +1,15 @@
 // The commands, and the words that say them.
 ghost use Rattle.std.specs.Prelude.{◌≡◌, ◌≢◌, [], ◌∷◌, codes, IfNone, IfSome, map};
 ghost use Rattle.std.specs.String.{string_bytes};
+ghost use Rattle.acas_base.specs.declared.setting.Profile.{Profile};
 ghost use Rattle.acas_top.specs.Commands.{OfPlain, OfRun};
-ghost use Rattle.acas_top.specs.Words.{AreNoFlight, AreNoPicture, AreNoPlain, AreNoRun, IsInRange, Say, SayFlight, SayPage, SayPicture, greatest, most, plain_limit, tool_word};
+ghost use Rattle.acas_top.specs.Words.{AreNoFlight, AreNoPicture, AreNoPlain, AreNoRun, IsInRange, Say, SayFlight, SayPage, SayPicture, greatest, most, plain_limit, profile_words, tool_word};
 ghost use Rattle.acas_top.specs.declared.words.Page.{Page};
 ghost use Rattle.acas_top.specs.declared.words.Tool.{Tool};
 ghost use Rattle.pair_ways.specs.declared.scope.Scope.{Scope};
 ghost use Rattle.possibilities.specs.Listing.{scope_word};
 
-use acas_base::CRAFTS;
+use acas_base::{CRAFTS, Profile};
 use acas_text::parse_within;
 use address_words::are_addresses;
 use fault_text::begins_recording;
@@ -80,23 +81,25 @@ pub enum Plain {
     Serial,
     /// `audit`: reads a recording, and writes whether it is one of a legal and complete journal.
     Audit,
-    /// `gen NUMBER CRAFTS CYCLES`: reads nothing, and writes the encounter that is made from a number, with this many
-    /// aircraft (1 to 16) and cycles (1 to 600).
+    /// `gen NUMBER CRAFTS CYCLES [2]`: reads nothing, and writes the encounter that is made from a number, with this
+    /// many aircraft (1 to 16) and cycles (1 to 600), for profile 1, or for profile 2 where the words end in `2`.
     Gen {
         number: u32,
         crafts: u8,
         cycles: u16,
+        profile: Profile,
     },
     /// The word of a tool: reads a recording, and writes the tool's text about it.
     Tell(Tool),
-    /// `sweep NUMBER COUNT CRAFTS CYCLES`: reads nothing, plays the encounters that are made from this many numbers (1
-    /// to 4,096) from a first one on, with this many aircraft (1 to 4) and cycles (1 to 120), and writes the counts of
-    /// each.
+    /// `sweep NUMBER COUNT CRAFTS CYCLES [2]`: reads nothing, plays the encounters that `gen` makes from this many
+    /// numbers (1 to 4,096) from a first one on, with this many aircraft (1 to 4) and cycles (1 to 120), and writes the
+    /// counts of each.
     Sweep {
         number: u32,
         count: u16,
         crafts: u8,
         cycles: u16,
+        profile: Profile,
     },
     /// `resume`: reads a beginning of a recording, and writes the recording of its run, completed.
     Resume,
@@ -317,6 +320,16 @@ fn vary_one(word: &str) -> Option<Plain>
     Some(Plain::Vary(variation))
 }
 
+// The variation of five words.
+fn vary_five(quantity: &str, address: &str, first: &str, count: &str, step: &str) -> Option<Plain>
+    ensures some { IfSome result (λ plain. Say (codes "vary" ∷ quantity.now ∷ address.now ∷ first.now ∷ count.now ∷ step.now ∷ []) (OfPlain plain)) }
+    ensures valid { IfSome result IsInRange }
+    ensures none { IfNone result (AreNoPlain (codes "vary" ∷ quantity.now ∷ address.now ∷ first.now ∷ count.now ∷ step.now ∷ [])) }
+{
+    let variation = variation_words::of_five(quantity, address, first, count, step)?;
+    Some(Plain::Vary(variation))
+}
+
 // The plain command of two words.
 fn of_two(word: &str, other: &str) -> Option<Plain>
     ensures some { IfSome result (λ plain. Say (word.now ∷ other.now ∷ []) (OfPlain plain)) }
@@ -332,15 +345,23 @@ fn of_two(word: &str, other: &str) -> Option<Plain>
     None
 }
 
-// The plain command of a word and three numbers.
-fn of_four(word: &str, number: &str, crafts: &str, cycles: &str) -> Option<Plain>
-    ensures some { IfSome result (λ plain. Say (word.now ∷ number.now ∷ crafts.now ∷ cycles.now ∷ []) (OfPlain plain)) }
-    ensures valid { IfSome result IsInRange }
-    ensures none { IfNone result (AreNoPlain (word.now ∷ number.now ∷ crafts.now ∷ cycles.now ∷ [])) }
+// The profile that a last word names. No word names profile 1.
+fn profile_of(word: &str) -> Option<Profile>
+    ensures some { IfSome result (λ profile. word.now ∷ [] ≡ profile_words profile) }
+    ensures none { IfNone result ((profile : Profile) → word.now ∷ [] ≢ profile_words profile) }
 {
-    if word != "gen" {
-        return None;
+    if word == "2" {
+        return Some(Profile::Two);
     }
+    None
+}
+
+// The encounter of three numbers, for a profile.
+fn gen_of(number: &str, crafts: &str, cycles: &str, profile: Profile) -> Option<Plain>
+    ensures some { IfSome result (λ plain. Say (codes "gen" ∷ number.now ∷ crafts.now ∷ cycles.now ∷ profile_words profile) (OfPlain plain)) }
+    ensures valid { IfSome result IsInRange }
+    ensures none { IfNone result (AreNoPlain (codes "gen" ∷ number.now ∷ crafts.now ∷ cycles.now ∷ profile_words profile)) }
+{
     let number = parse_within(number.as_bytes(), 0, u32::MAX)?;
     let crafts = parse_within(crafts.as_bytes(), 1, CRAFTS as u32)?;
     let cycles = parse_within(cycles.as_bytes(), 1, 600)?;
@@ -348,7 +369,30 @@ fn of_four(word: &str, number: &str, crafts: &str, cycles: &str) -> Option<Plain
         number,
         crafts: crafts as u8,
         cycles: cycles as u16,
+        profile,
     })
+}
+
+// The encounter of three numbers and a profile.
+fn gen_in(number: &str, crafts: &str, cycles: &str, profile: &str) -> Option<Plain>
+    ensures some { IfSome result (λ plain. Say (codes "gen" ∷ number.now ∷ crafts.now ∷ cycles.now ∷ profile.now ∷ []) (OfPlain plain)) }
+    ensures valid { IfSome result IsInRange }
+    ensures none { IfNone result (AreNoPlain (codes "gen" ∷ number.now ∷ crafts.now ∷ cycles.now ∷ profile.now ∷ [])) }
+{
+    let profile = profile_of(profile)?;
+    gen_of(number, crafts, cycles, profile)
+}
+
+// The plain command of a word and three numbers.
+fn of_four(word: &str, number: &str, crafts: &str, cycles: &str) -> Option<Plain>
+    ensures some { IfSome result (λ plain. Say (word.now ∷ number.now ∷ crafts.now ∷ cycles.now ∷ []) (OfPlain plain)) }
+    ensures valid { IfSome result IsInRange }
+    ensures none { IfNone result (AreNoPlain (word.now ∷ number.now ∷ crafts.now ∷ cycles.now ∷ [])) }
+{
+    if word == "gen" {
+        return gen_of(number, crafts, cycles, Profile::One);
+    }
+    None
 }
 
 // What a run is wanted for.
@@ -362,11 +406,17 @@ fn instance_of(scope: &str, first: &str, second: &str, third: &str) -> Option<Pl
     Some(Plain::Instance(scope, wanted))
 }
 
-// The sweep of four numbers.
-fn sweep_of(number: &str, count: &str, crafts: &str, cycles: &str) -> Option<Plain>
-    ensures some { IfSome result (λ plain. Say (codes "sweep" ∷ number.now ∷ count.now ∷ crafts.now ∷ cycles.now ∷ []) (OfPlain plain)) }
+// The sweep of four numbers, for a profile.
+fn sweep_of(
+    number: &str,
+    count: &str,
+    crafts: &str,
+    cycles: &str,
+    profile: Profile,
+) -> Option<Plain>
+    ensures some { IfSome result (λ plain. Say (codes "sweep" ∷ number.now ∷ count.now ∷ crafts.now ∷ cycles.now ∷ profile_words profile) (OfPlain plain)) }
     ensures valid { IfSome result IsInRange }
-    ensures none { IfNone result (AreNoPlain (codes "sweep" ∷ number.now ∷ count.now ∷ crafts.now ∷ cycles.now ∷ [])) }
+    ensures none { IfNone result (AreNoPlain (codes "sweep" ∷ number.now ∷ count.now ∷ crafts.now ∷ cycles.now ∷ profile_words profile)) }
 {
     let number = parse_within(number.as_bytes(), 0, u32::MAX)?;
     let count = parse_within(count.as_bytes(), 1, 4_096)?;
@@ -377,7 +427,18 @@ fn sweep_of(number: &str, count: &str, crafts: &str, cycles: &str) -> Option<Pla
         count: count as u16,
         crafts: crafts as u8,
         cycles: cycles as u16,
+        profile,
     })
+}
+
+// The sweep of four numbers and a profile.
+fn sweep_in(number: &str, count: &str, crafts: &str, cycles: &str, profile: &str) -> Option<Plain>
+    ensures some { IfSome result (λ plain. Say (codes "sweep" ∷ number.now ∷ count.now ∷ crafts.now ∷ cycles.now ∷ profile.now ∷ []) (OfPlain plain)) }
+    ensures valid { IfSome result IsInRange }
+    ensures none { IfNone result (AreNoPlain (codes "sweep" ∷ number.now ∷ count.now ∷ crafts.now ∷ cycles.now ∷ profile.now ∷ [])) }
+{
+    let profile = profile_of(profile)?;
+    sweep_of(number, count, crafts, cycles, profile)
 }
 
 // The plain command of five words.
@@ -386,8 +447,11 @@ fn of_five(word: &str, number: &str, count: &str, crafts: &str, cycles: &str) ->
     ensures valid { IfSome result IsInRange }
     ensures none { IfNone result (AreNoPlain (word.now ∷ number.now ∷ count.now ∷ crafts.now ∷ cycles.now ∷ [])) }
 {
+    if word == "gen" {
+        return gen_in(number, count, crafts, cycles);
+    }
     if word == "sweep" {
-        return sweep_of(number, count, crafts, cycles);
+        return sweep_of(number, count, crafts, cycles, Profile::One);
     }
     if word == "instance" {
         return instance_of(number, count, crafts, cycles);
@@ -408,11 +472,13 @@ fn of_six(
     ensures valid { IfSome result IsInRange }
     ensures none { IfNone result (AreNoPlain (word.now ∷ quantity.now ∷ address.now ∷ first.now ∷ count.now ∷ step.now ∷ [])) }
 {
-    if word != "vary" {
-        return None;
+    if word == "sweep" {
+        return sweep_in(quantity, address, first, count, step);
     }
-    let variation = variation_words::of_five(quantity, address, first, count, step)?;
-    Some(Plain::Vary(variation))
+    if word == "vary" {
+        return vary_five(quantity, address, first, count, step);
+    }
+    None
 }
 
 /// The plain command that the words say, or none where they say none.

@@ -2,6 +2,7 @@
 use Rattle.std.proofs.Common.{◌≡◌, ◌≢◌, ◌⊎◌, ℕ, ◌+◌, ◌*◌, ◌<◌, ◌≤◌, Bool, true, not, ◌&&◌, eqb, List, [], ◌∷◌, length, Option, Some, None, is_some, sym, refl, ap, ◌∙◌, subst, arith, inl, inr, eq-eqb, ne_eqb, le-leb}
 use Rattle.std.specs.Prelude.{option_and_then}
 use Rattle.std.proofs.lemmas.Bool.{and_from, and_parts, and_left, and_right, cond-false, cond-true, cases_eq}
+use Rattle.std.proofs.Math.Nat.{mul-le-mul_right}
 use Rattle.std.proofs.lemmas.Option.{slice_get_within}
 use Rattle.acas_base.specs.Encounter.{Parts}
 use Rattle.acas_base.specs.Messages.{has_many}
@@ -11,7 +12,7 @@ use Rattle.acas_base.specs.declared.advisory.ResMsg.{ResMsg}
 use Rattle.acas_base.specs.declared.entry.Entry.{Entry}
 use Rattle.acas_base.specs.declared.entry.Entry.TheVariants.{Commit, Send, Take}
 use Rattle.acas_base.specs.declared.link.CopyPlan.{CopyPlan}
-use Rattle.air_journal.proofs.Bounds.{below-all, entry-fits, few-commits, few-crafts, most-few}
+use Rattle.air_journal.proofs.Bounds.{below, below-all, entry-fits, few-commits, few-crafts, most-few}
 use Rattle.air_journal.proofs.Dues.{in-at, remove-is, waiting-few, waits-due}
 use Rattle.air_journal.proofs.Queued.{is-queue}
 use Rattle.air_journal.proofs.Soundness.{sound-of}
@@ -45,6 +46,7 @@ use Rattle.res_message.specs.Words.{flip_word, read_word, word_of}
 pub record WritesOn (old new : Written) (entry : Entry) : Type 0 where
   pub entries : new.entries ≡ entry ∷ old.entries
   pub room : new.room ≡ old.room
+  pub crafts : new.crafts ≡ old.crafts
   pub places : new.places ≡ old.places
 
 -- ---- a send
@@ -124,6 +126,7 @@ sent-whole {e} {w} {v} {t} {u} h i j number position m plans active f n p q writ
       kept = subst (λ (J : List Entry). IsKept (air_of e) J u) (sym written.entries) (kept-send (air_of e) w.entries t u h.kept i j number (word_of m) position m.vrc plans fit.own fit.target vrc p q after);
       queues = λ a b ha hb. subst (λ (r : ℕ). room_of (air_of e) a b ≤ r) (sym (after.room a b ha hb)) (h.queues a b ha hb);
       room = subst (λ (k : ℕ). most_entries (air_of e) ≤ k) (sym written.room) h.room;
+      crafts = written.crafts ∙ h.crafts;
       places = written.places ∙ h.places;
     }
 
@@ -189,6 +192,7 @@ taken-whole {e} {w} {v} {t} {u} h i f active a written after =
           (subst (λ (g : Bool). IsKept (air_of e) (Take i f.waiting.send f.waiting.copy g ∷ w.entries) u) (sym (ap is_some r ∙ some-vrc m)) kept);
       queues = λ a b ha hb. subst (λ (r : ℕ). room_of (air_of e) a b ≤ r) (sym (after.room a b ha hb)) (h.queues a b ha hb);
       room = subst (λ (k : ℕ). most_entries (air_of e) ≤ k) (sym written.room) h.room;
+      crafts = written.crafts ∙ h.crafts;
       places = written.places ∙ h.places;
     }
 
@@ -255,21 +259,23 @@ pub record CommitFits (e : Parts) (w : Written) (t : Kept) (i : ℕ) : Type 0 wh
   pub position : length w.entries < 585600
   pub room : length w.entries < w.room
   pub commits : (made_at t i).commits < 600
-  pub places : ((made_at t i).commits + 1) * CRAFTS ≤ w.places
+  pub seat : i < w.crafts
+  pub places : ((made_at t i).commits + 1) * w.crafts ≤ w.places
   pub new : commit_cells w.entries i ((made_at t i).commits + 1) ≡ None
 
 pub commit-fits : {e : Parts} {w : Written} {t : Kept} → IsWhole e w t → (i : ℕ) (cells : Cells) → is_active (air_of e) i ≡ true → IsFree (air_of e) w.entries i → AreNext (air_of e) t i cells → CommitFits e w t i
-commit-fits {e} {w} {t} h i cells active free next =
+commit-fits {e} {w} {t} h i cells active free are_next =
     let K = w.entries in
     let hi = below-all e h.is_journal.valid i active in
     let n = count-is h i hi in
     let left : commits K i < e.cycles = free.left in
     let k : e.cycles ≤ 600 = h.is_journal.valid.run.length.1 in
-    let x : length K + 1 ≤ most_entries (air_of e) = entry-fits e K (Commit i ((made_at t i).commits + 1) cells) h.is_journal.valid h.is_journal.legal (may-commit h i ((made_at t i).commits + 1) cells active free refl next) in
+    let x : length K + 1 ≤ most_entries (air_of e) = entry-fits e K (Commit i ((made_at t i).commits + 1) cells) h.is_journal.valid h.is_journal.legal (may-commit h i ((made_at t i).commits + 1) cells active free refl are_next) in
     let most = most-few e h.is_journal.valid in
     let room = h.room in
-    let p : w.places ≡ e.cycles * 16 = h.places in
-    record { own = hi; position = omega arith; room = omega arith; commits = omega arith; places = omega arith; new = no-cells (air_of e) K h.is_journal.legal i ((made_at t i).commits + 1) (inr (omega arith)) }
+    let within : i < length e.crafts = below e h.is_journal.valid i active in
+    let next : (made_at t i).commits + 1 ≤ e.cycles = omega arith in
+    record { own = hi; position = omega arith; room = omega arith; commits = omega arith; seat = rw h.crafts within; places = rw (h.crafts, h.places) (mul-le-mul_right (length e.crafts) next); new = no-cells (air_of e) K h.is_journal.legal i ((made_at t i).commits + 1) (inr (omega arith)) }
 
 pub committed-whole : {e : Parts} {w v : Written} {t u : Kept} → IsWhole e w t → (i cycle : ℕ) (cells : Cells) (many : Bool) → is_active (air_of e) i ≡ true → IsFree (air_of e) w.entries i → cycle ≡ (made_at t i).commits + 1 → AreNext (air_of e) t i cells →
     many ≡ has_many cells → WritesOn w v (Commit i cycle cells) → AfterCommit t u i cells many → IsWhole e v u
@@ -279,5 +285,6 @@ committed-whole {e} {w} {v} {t} {u} h i cycle cells many active free c next m wr
       kept = subst (λ (J : List Entry). IsKept (air_of e) J u) (sym written.entries) (kept-commit (air_of e) w.entries t u h.kept i cycle cells many m after);
       queues = λ a b ha hb. subst (λ (r : ℕ). room_of (air_of e) a b ≤ r) (sym (after.room a b ha hb)) (h.queues a b ha hb);
       room = subst (λ (k : ℕ). most_entries (air_of e) ≤ k) (sym written.room) h.room;
+      crafts = written.crafts ∙ h.crafts;
       places = written.places ∙ h.places;
     }

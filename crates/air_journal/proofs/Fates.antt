@@ -12,9 +12,8 @@ use Rattle.air_journal.specs.Alike.{AreAlikeButFates}
 use Rattle.air_rules.specs.Alike.{AreAlikeButCopies}
 use Rattle.craft_view.proofs.Alike.{sights-alike}
 use Rattle.craft_view.specs.Facts.{SeesAlike}
-use Rattle.craft_view.specs.Sight.{newest_first}
 use Rattle.flight.specs.Flight.{nowhere, place_in, position, start_of}
-use Rattle.flight.specs.Measurement.{covers, feet, measured, measurement, own_altitude}
+use Rattle.flight.specs.Measurement.{covers, feet, measured, measurement, newest_first, own_altitude}
 use Rattle.flight.specs.declared.place.Place.{Place}
 
 same-position : (e f : Parts) → AreAlikeButFates e f → (craft cycle : ℕ) → position e craft cycle ≡ position f craft cycle

@@ -12,8 +12,8 @@ use Rattle.air_journal.specs.Alike.{FlyAlikeUpTo, without_place}
 use Rattle.air_rules.specs.Alike.{AreAlikeUpTo}
 use Rattle.craft_view.proofs.Alike.{sights-alike}
 use Rattle.craft_view.specs.Facts.{SeesAlike}
-use Rattle.craft_view.specs.Sight.{Other, known_of, newest_first}
-use Rattle.flight.specs.Measurement.{covers, feet, measured, measurement, own_altitude}
+use Rattle.craft_view.specs.Sight.{Other, known_of}
+use Rattle.flight.specs.Measurement.{covers, feet, measured, measurement, newest_first, own_altitude}
 use Rattle.flight.specs.declared.measuring.Meas.{Meas}
 use Rattle.flight.specs.declared.place.Place.{Place}
 

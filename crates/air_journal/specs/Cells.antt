@@ -16,6 +16,6 @@ commit_cells (Commit own cycle cells ∷ earlier) craft of_cycle = if own == cra
 commit_cells (Send own target number word ∷ earlier) craft of_cycle = commit_cells earlier craft of_cycle
 commit_cells (Take own send copy good ∷ earlier) craft of_cycle = commit_cells earlier craft of_cycle
 
--- Where the cells of a commit are kept: by cycle, from 1, and aircraft.
+-- Where a commit stands in a list with a place for each cycle, from 1, and each aircraft that there can be.
 abbrev pub place_of : ℕ → ℕ → ℕ
 place_of own cycle = (cycle - 1) * CRAFTS + own

@@ -35,29 +35,27 @@ impl Model for Rows {
 fn new_made(alloc: Global) -> Result<Vec<Made>, AllocError>
     ensures { IfOk result (λ made. made.items ≡ replicate CRAFTS nothing_made) }
 {
-    let mut made = Vec::with_capacity(alloc, CRAFTS)?;
-    for _own in 0..CRAFTS {
-        made.push(Made {
-            commits: 0,
-            many: false,
-        })?;
-    }
+    let nothing = Made {
+        commits: 0,
+        many: false,
+    };
+    let mut made = Vec::new(alloc);
+    made.resize(CRAFTS, nothing)?;
     Ok(made)
 }
 
 fn new_links(alloc: Global) -> Result<Vec<Link>, AllocError>
     ensures { IfOk result (λ links. links.items ≡ replicate 256 no_link) }
 {
-    let mut links = Vec::with_capacity(alloc, PAIRS)?;
-    for _pair in 0..PAIRS {
-        links.push(Link {
-            cell: Cell::Clear,
-            said: Vrc::Nil,
-            sends: 0,
-            sent: false,
-            complement: None,
-        })?;
-    }
+    let none = Link {
+        cell: Cell::Clear,
+        said: Vrc::Nil,
+        sends: 0,
+        sent: false,
+        complement: None,
+    };
+    let mut links = Vec::new(alloc);
+    links.resize(PAIRS, none)?;
     Ok(links)
 }
 

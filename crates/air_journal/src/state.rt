@@ -51,7 +51,7 @@ impl AirState {
     {
         let encounter = enc.copy(alloc)?;
         let usual = UsualFates::new(alloc, enc)?;
-        let journal = Journal::new(alloc, usize::from(enc.cycles()), pages_for(enc))?;
+        let journal = Journal::new(alloc, count_of(enc), enc.cycles(), pages_for(enc))?;
         let tables = Tables::new(alloc, enc)?;
         Ok(AirState {
             encounter,

@@ -87,6 +87,8 @@ fn count_feeds(text: &[u8]) -> usize
 fn first_in(text: &[u8], other: &Encounter) -> Option<usize>
     ensures { (lines : List (List ℕ)) → AllByRecursion IsLine lines → text.now ≡ joined lines → IsFirstDifference lines (canonical_lines other.now) result }
 {
+    // For the proof: its text is whole lines.
+    other.valid_law();
     let mut reading = Reading {
         rest: text,
         differs: false,
@@ -112,6 +114,8 @@ pub(crate) fn first_difference(
 ) -> Result<Option<usize>, AllocError>
     ensures { IfOk result (IsFirstDifference (canonical_lines one.now) (canonical_lines other.now)) }
 {
+    // For the proof: its text is whole lines.
+    one.valid_law();
     let text = text_of(alloc, one)?;
     Ok(first_in(text.as_slice(), other))
 }

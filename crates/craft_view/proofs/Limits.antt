@@ -21,7 +21,6 @@ use Rattle.acas_base.specs.declared.setting.Profile.TheVariants.{One}
 use Rattle.acas_base.specs.declared.view.View.{View}
 use Rattle.acas_num.specs.declared.track.TrackState.{TrackState}
 use Rattle.craft_view.specs.Facts.{MeetsLimits}
-use Rattle.craft_view.specs.Hits.{is_hit}
 use Rattle.craft_view.specs.KnownTracks.{motion_of, own_track, tracks_by}
 use Rattle.craft_view.specs.Own.{own_of}
 use Rattle.craft_view.specs.Separations.{asked_rate, first_response, halves_to, later_response, own_after, separation, separations}

@@ -1,5 +1,5 @@
 -- From one cycle to the next.
-use Rattle.std.proofs.Common.{◌≡◌, ℕ, zero, suc, ◌+◌, ◌<◌, false, ℤ, List, ◌∷◌, map, length, get_or, Option, Some, None, refl, sym, ◌∙◌, ap, rules, IsTrue}
+use Rattle.std.proofs.Common.{◌≡◌, ℕ, suc, ◌+◌, ◌<◌, false, ℤ, List, ◌∷◌, map, length, get_or, Option, Some, None, refl, sym, ◌∙◌, ap, rules, IsTrue}
 use Rattle.std.specs.Prelude.{option_map, slice_get}
 use Rattle.std.specs.Option.{option_map_or}
 use Rattle.std.proofs.Math.Numerals.{add-one}
@@ -13,13 +13,11 @@ use Rattle.acas_num.specs.declared.track.TrackState.{TrackState}
 use Rattle.alt_track.specs.AltTrack.{altitude_track}
 use Rattle.craft_view.specs.Kept.{IsActive}
 use Rattle.craft_view.specs.KnownTracks.{altitude_seen, no_tracks, own_track, range_seen, square_after, square_by, square_seen, tracks_after, tracks_by, tracks_of, tracks_then}
-use Rattle.craft_view.specs.Sight.{Other, Sight, known_of, newest_first, other_craft, sight_of}
+use Rattle.craft_view.specs.Sight.{Other, Sight, known_of, other_craft, sight_of}
 use Rattle.craft_view.specs.declared.tracks.Tracks.{Tracks}
-use Rattle.flight.specs.Measurement.{measurement, own_altitude}
+use Rattle.flight.specs.Measurement.{measurement, newest_first, own_altitude}
 use Rattle.flight.specs.declared.measuring.Meas.{Meas}
 use Rattle.range_track.specs.RangeTrack.{range_track}
-use Rattle.sens_table.specs.Above.{above_of}
-use Rattle.sens_table.specs.declared.above.Above.{Above}
 
 -- The track of the square of one cycle, after what is measured in the next, is that of the next.
 square-suc : (profile : Profile) (own : ℤ) (owns : List ℤ) (meas : Option Meas) (seen : List (Option Meas))
@@ -77,18 +75,3 @@ own-next e own cycle next before after feet gains is same at from law =
     law ms (from ∙ ap (λ (g : Gains). altitude_track g ms) (sym same))
     ∙ (λ i. altitude_track (same i) (Some (measured i) ∷ ms))
     ∙ ap (λ n. own_track (sight_of e own n)) (sym to)
-
--- The bounds that own aircraft is above go on by the altitude of the next cycle.
-pub above-next : (e : Parts) (own cycle next : ℕ) (before after : Above) (feet : ℤ) → next ≡ cycle + 1 → feet ≡ own_altitude e own next → before ≡ above_of e.profile e.elevation (sight_of e own cycle).own
-    → ((earlier : List ℤ) → length earlier ≡ cycle → before ≡ above_of e.profile e.elevation earlier → after ≡ above_of e.profile e.elevation (feet ∷ earlier))
-    → after ≡ above_of e.profile e.elevation (sight_of e own next).own
-above-next e own cycle next before after feet is at from law =
-    let to : next ≡ suc cycle = is ∙ add-one cycle in
-    let measured : feet ≡ own_altitude e own (suc cycle) = at ∙ ap (own_altitude e own) to in
-    law (newest_first (own_altitude e own) cycle) (count cycle) from
-    ∙ ap (λ (f : ℤ). above_of e.profile e.elevation (f ∷ newest_first (own_altitude e own) cycle)) measured
-    ∙ ap (λ n. above_of e.profile e.elevation (sight_of e own n).own) (sym to)
-  where
-    count : (n : ℕ) → length (newest_first (own_altitude e own) n) ≡ n
-    count zero = refl
-    count (suc n) = ap (λ k. suc k) (count n)

@@ -1,5 +1,5 @@
 -- What an aircraft may know of the air up to a cycle.
-use Rattle.std.specs.Prelude.{ℕ, zero, suc, ◌==◌, if◌then◌else◌, ℤ, List, [], ◌∷◌, Option, None, option_map, slice_get}
+use Rattle.std.specs.Prelude.{ℕ, ◌==◌, if◌then◌else◌, ℤ, List, Option, None, option_map, slice_get}
 use Rattle.std.specs.Option.{option_and_then}
 use Rattle.acas_base.specs.Encounter.{Parts, address_in}
 use Rattle.acas_base.specs.Next.{rank_by}
@@ -8,7 +8,7 @@ use Rattle.acas_base.specs.declared.craft.CraftSpec.{CraftSpec}
 use Rattle.acas_base.specs.declared.craft.Gains.{Gains}
 use Rattle.acas_base.specs.declared.craft.Kind.{Kind}
 use Rattle.acas_base.specs.declared.setting.Profile.{Profile}
-use Rattle.flight.specs.Measurement.{measurement, own_altitude}
+use Rattle.flight.specs.Measurement.{measurement, newest_first, own_altitude}
 use Rattle.flight.specs.declared.measuring.Meas.{Meas}
 
 -- Another aircraft: its kind, the rank towards it, and what was measured of it in each cycle, the newest first.
@@ -28,11 +28,6 @@ pub record Sight : Type 0 where
   pub ceiling : Option ℤ
   pub own : List ℤ
   pub others : ℕ → Option Other
-
--- What a function of the cycle gives in the cycles 1 to n, the newest first.
-abbrev pub newest_first : {X : Type 0} → (ℕ → X) → ℕ → List X
-newest_first f zero = []
-newest_first f (suc n) = f (suc n) ∷ newest_first f n
 
 -- The aircraft at an index, where it is another one.
 abbrev pub other_craft : Parts → ℕ → ℕ → Option CraftSpec

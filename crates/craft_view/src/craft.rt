@@ -11,7 +11,7 @@ ghost use Rattle.flight.specs.Inside.{IsInside};
 
 use crate::motion::{Motion, motion_of};
 use crate::others::{is_other, step_tracks};
-use crate::own::{OwnAircraft, above_next, above_none, own_at};
+use crate::own::{OwnAircraft, own_at};
 use crate::pair::{no_picture, no_view, put_no_view, put_view};
 use crate::tracks::Tracks;
 use acas_base::{CRAFTS, Cells, Encounter, Picture, View};
@@ -53,7 +53,7 @@ impl Craft {
         Craft {
             own,
             cycle: 0,
-            above: above_none(),
+            above: Above::none(),
             altitude: AltTrack::new(),
             tracks: [Tracks::new(); CRAFTS],
         }
@@ -176,7 +176,7 @@ impl Craft {
         self.altitude
             .step(Some(altitude), encounter.altitude_gains());
         step_tracks(&mut self.tracks, places, own, altitude);
-        self.above = above_next(self.above, self.cycle, encounter, altitude);
+        self.above = self.above.go_on(self.cycle, encounter, altitude);
         self.cycle += 1;
     }
 
@@ -239,7 +239,8 @@ impl Craft {
         }
     }
 
-    // Puts the view of the aircraft at an index in the present cycle.
+    // Puts the view of the aircraft at an index in the present cycle. It is inlined where an aircraft looks at all others.
+    #[inline(always)]
     fn put_view(
         &self,
         encounter: &Encounter,

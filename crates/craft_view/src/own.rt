@@ -1,10 +1,8 @@
 // Own aircraft, and what it brings into each of its views.
-ghost use Rattle.std.specs.Prelude.{◌≡◌, ◌↔◌, [], ◌∷◌, ℤ, ◌-ℤ◌, List, length, Some, IfSome, IsTrue};
+ghost use Rattle.std.specs.Prelude.{◌≡◌, ◌↔◌, ◌-ℤ◌, Some, IfSome, IsTrue};
 ghost use Rattle.acas_base.specs.Ranges.{IsWithin};
-ghost use Rattle.acas_base.specs.declared.setting.Profile.{Profile};
 ghost use Rattle.craft_view.specs.Kept.{IsActive};
 ghost use Rattle.craft_view.specs.Own.{own_at, resolution_row, may_climb, AreRows};
-ghost use Rattle.sens_table.specs.Above.{above_of};
 ghost use Rattle.sens_table.specs.Levels.{IsLevel, IsTableRow};
 
 use acas_base::{CraftSpec, Encounter, Kind, Level, Profile, Row, is_active_at};
@@ -29,36 +27,6 @@ pub fn is_active(encounter: &Encounter, own: u8) -> bool
     ensures { IsTrue result ↔ IsActive encounter.now own }
 {
     is_active_at(encounter.crafts(), own)
-}
-
-// The bounds that own aircraft is above a cycle later, at this altitude, in ft. Before the first cycle there is none.
-pub(crate) fn above_next(above: Above, cycle: u16, encounter: &Encounter, altitude: i32) -> Above
-    requires { IsWithin 100000 altitude }
-    ensures { (earlier : List ℤ) → length earlier ≡ cycle → above ≡ above_of encounter.now.profile encounter.now.elevation earlier → result ≡ above_of encounter.now.profile encounter.now.elevation (altitude ∷ earlier) }
-{
-    // For the proof: the elevation is in its range.
-    encounter.valid_law();
-    if cycle == 0 {
-        Above::first(altitude, encounter.ground())
-    } else {
-        above.next(encounter.profile(), altitude, encounter.ground())
-    }
-}
-
-// Above no bound, as before the first cycle.
-pub(crate) fn above_none() -> Above
-    ensures { (profile : Profile) (elevation : ℤ) → result ≡ above_of profile elevation [] }
-{
-    Above {
-        band_2: false,
-        band_3: false,
-        band_4: false,
-        band_5: false,
-        band_6: false,
-        band_7: false,
-        descends: false,
-        descends_faster: false,
-    }
 }
 
 // What follows from the profile, own kind and ceiling, the bounds that own aircraft is above, its altitude, and the

@@ -1,5 +1,5 @@
 // The aircraft of an encounter look at each other.
-ghost use Rattle.std.specs.Prelude.{◌≡◌, ◌<◌, ◌≤◌, None, IsSome, option_copied, slice_index_or};
+ghost use Rattle.std.specs.Prelude.{◌≡◌, ◌<◌, ◌≤◌, None, IsSome, option_copied, replicate, slice_index_or};
 ghost use Rattle.acas_base.specs.declared.TheConstants.{CRAFTS};
 ghost use Rattle.craft_view.specs.Looking.{AreReady, IsReady, LookedOn, MayLook};
 ghost use Rattle.craft_view.specs.Views.{SayNothingFrom, picture_after, picture_of};
@@ -29,15 +29,23 @@ impl Surveillance {
         requires { IsInside encounter.now }
         ensures { AreReady encounter.now (λ _. 0) result.crafts }
     {
-        Surveillance::of(from_fn(|own| { craft_at(encounter, own) }))
+        Surveillance {
+            crafts: from_fn(|own| { craft_at(encounter, own) }),
+            picture: no_picture(),
+            seen: 0,
+        }
     }
 
-    /// Aircraft, each at its index, after the looks that they have made.
-    pub fn of(crafts: [Option<Craft>; CRAFTS]) -> Surveillance
-        ensures { result.crafts ≡ crafts }
+    /// No aircraft. Those that have looked already are put where they stay, so that the places of all sixteen aren't
+    /// moved.
+    pub fn none() -> Surveillance
+        ensures { result.crafts ≡ replicate CRAFTS None }
     {
         Surveillance {
-            crafts,
+            crafts: [
+                None, None, None, None, None, None, None, None, None, None, None, None, None, None,
+                None, None,
+            ],
             picture: no_picture(),
             seen: 0,
         }

@@ -33,14 +33,16 @@ fn square_seen(meas: Option<Meas>, own: i32) -> Option<MeasuredSquare>
     }
 }
 
-// The track of a square one second later. In profile 1 nothing follows it.
-fn step_square(track: &mut SquareTrack, profile: Profile, seen: Option<MeasuredSquare>)
-    requires { IfSome seen IsMeasured }
-    ensures { track.new ≡ square_after profile track.old seen }
+// The track of a square one second later, by what was measured and own altitude, in ft. In profile 1 nothing follows it.
+fn step_square(track: &mut SquareTrack, profile: Profile, meas: Option<Meas>, own: i32)
+    requires range { IfSome meas (λ m. m.range ≤ 182280) }
+    requires altitude { IfSome meas (λ m. LiesBetween (neg_ℤ (pos 2000)) (pos 62000) m.alt) }
+    requires own { IsWithin 100000 own }
+    ensures { track.new ≡ square_after profile track.old (square_seen own meas) }
 {
     match profile {
         Profile::One => {}
-        Profile::Two => track.step(seen),
+        Profile::Two => track.step(square_seen(meas, own)),
     }
 }
 
@@ -67,10 +69,6 @@ impl Tracks {
             .step(meas.map(|m| m.range), encounter.range_gains());
         self.altitude
             .step(meas.map(|m| m.alt), encounter.altitude_gains());
-        step_square(
-            &mut self.square,
-            encounter.profile(),
-            square_seen(meas, own),
-        );
+        step_square(&mut self.square, encounter.profile(), meas, own);
     }
 }

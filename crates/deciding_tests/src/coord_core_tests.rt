@@ -1,6 +1,9 @@
-// Expected values: by hand from "The next cell" and "Messages" in docs/RULES.md.
-use crate::threat::THREAT;
-use acas_base::{Address, Cell, Intent, Kind, Rank, ResMsg, Sense, Strength, Vrc};
+// Expected values: by hand from "The next cell" and "Messages" in docs/RULES.md, and of profile 2 from what
+// `coord_core` and `reversal` state.
+ghost use Rattle.std.specs.Prelude.{◌<◌};
+
+use crate::threat::{THREAT, advisory};
+use acas_base::{Address, BySense, Cell, Intent, Kind, Rank, ResMsg, Sense, Strength, View, Vrc};
 use coord_core::{next_cell, next_message, rank_of};
 use std::test::Fail;
 
@@ -89,4 +92,68 @@ fn starts_an_advisory(rt: HostRuntime) -> Result<(), Fail> {
     assert_eq!(rt; rank_of(low, high, Kind::Ra), Rank::First);
     assert_eq!(rt; first_unlike(&RANKS), None);
     Ok(())
+}
+
+// An aircraft in a chase, while an increase waits.
+const CHASED: View = View {
+    chases: BySense {
+        up: true,
+        down: false,
+    },
+    hurries: BySense {
+        up: false,
+        down: false,
+    },
+    ..THREAT
+};
+
+// The advisory up of this age a cycle later, where the rank is so.
+fn chased(before: Intent, rank: Rank) -> Cell
+    requires { before.age < 600 }
+{
+    next_cell(&Cell::Ra(before), &CHASED, Vrc::Nil, rank)
+}
+
+// In a chase an advisory is reversed from an age of twelve cycles on, once. The other aircraft is 100 ft lower, so down
+// crosses. The one that gives way doesn't reverse by itself.
+#[test]
+fn reverses_a_chase(rt: HostRuntime) {
+    let down = Cell::Ra(Intent {
+        sense: Sense::Down,
+        turned: true,
+        crossing: true,
+        ..advisory(13)
+    });
+    assert!(rt; chased(advisory(11), Rank::First) == Cell::Ra(advisory(12)));
+    assert!(rt; chased(advisory(12), Rank::First) == down);
+    assert!(rt; chased(advisory(12), Rank::Free) == down);
+    assert!(rt; chased(advisory(12), Rank::Second) == Cell::Ra(advisory(13)));
+    let turned = Intent {
+        turned: true,
+        ..advisory(12)
+    };
+    let goes_on = Intent {
+        turned: true,
+        ..advisory(13)
+    };
+    assert!(rt; chased(turned, Rank::First) == Cell::Ra(goes_on));
+}
+
+// Without a threat an advisory goes on while it lasts. Where it doesn't, it ends from an age of five cycles on.
+#[test]
+fn goes_on_while_it_lasts(rt: HostRuntime) {
+    let lasting = View {
+        threat: false,
+        ..CHASED
+    };
+    let over = View {
+        lasts: false,
+        ..lasting
+    };
+    let old = Cell::Ra(advisory(5));
+    let young = Cell::Ra(advisory(4));
+    assert!(rt; next_cell(&old, &lasting, Vrc::Nil, Rank::First) == Cell::Ra(advisory(6)));
+    assert!(rt; next_cell(&old, &over, Vrc::Nil, Rank::First) == Cell::Traffic);
+    assert!(rt; next_cell(&young, &over, Vrc::Nil, Rank::First) == Cell::Ra(advisory(5)));
+    assert!(rt; next_cell(&Cell::Traffic, &lasting, Vrc::Nil, Rank::First) == Cell::Traffic);
 }

@@ -1,5 +1,7 @@
-// A view that the tests vary.
-use acas_base::{BySense, Sense, Seps, View};
+// A view and an advisory that the tests vary.
+ghost use Rattle.std.specs.Prelude.{◌≡◌};
+
+use acas_base::{BySense, Intent, Sense, Seps, Strength, View};
 
 pub(crate) const FOOT: i64 = 1024;
 
@@ -42,3 +44,17 @@ pub(crate) const THREAT: View = View {
     first: NONE,
     later: NONE,
 };
+
+/// An advisory up of this age, in cycles: climb.
+pub(crate) fn advisory(age: u16) -> Intent
+    ensures { result.age ≡ age }
+{
+    Intent {
+        sense: Sense::Up,
+        strength: Strength::Positive,
+        age,
+        turned: false,
+        crossing: false,
+        corrective: true,
+    }
+}

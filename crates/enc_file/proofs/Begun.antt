@@ -6,9 +6,10 @@ use Rattle.std.proofs.lemmas.Bool.{false≢true}
 use Rattle.std.proofs.lemmas.Slice.Eq.{bytes_eq-Decides}
 use Rattle.enc_file.specs.Conditions.{ArePassed, HasNoFault, IsRefused, has_fault, is_first}
 use Rattle.enc_file.specs.Earlier.{has_ended, version_of}
-use Rattle.enc_file.specs.Saying.{climb_of, craft_of, end_of, fate_of, gains_of, leg_of, miss_of, needs, plan_of, record_of, run_of, version_in}
+use Rattle.enc_file.specs.Saying.{call_of, climb_of, clock_of, craft_of, end_of, fate_of, gains_of, leg_of, miss_of, name_of, needs, plan_of, profile_of, record_of, run_of, version_in}
 use Rattle.enc_file.specs.Values.{field}
 use Rattle.acas_base.specs.declared.craft.CraftSpec.{CraftSpec}
+use Rattle.acas_base.specs.declared.setting.Profile.{Profile}
 use Rattle.enc_file.specs.declared.record.Addresses.{Addresses}
 use Rattle.enc_file.specs.declared.record.Copies.{Copies}
 use Rattle.enc_file.specs.declared.record.Course.{Course}
@@ -67,6 +68,22 @@ keeps-fate : (p : Addresses) (n : ℕ) (x : Copies) → Keeps (Ok (said.Fate p n
 unfolding Keeps
 keeps-fate p n x = λ earlier. refl
 
+keeps-profile : (x : Profile) → Keeps (Ok (said.Profile x))
+unfolding Keeps
+keeps-profile x = λ earlier. refl
+
+keeps-name : (x : List ℕ) → Keeps (Ok (said.Name x))
+unfolding Keeps
+keeps-name x = λ earlier. refl
+
+keeps-clock : (x : ℕ) → Keeps (Ok (said.Clock x))
+unfolding Keeps
+keeps-clock x = λ earlier. refl
+
+keeps-call : (a : ℕ) (x : List ℕ) → Keeps (Ok (said.Call a x))
+unfolding Keeps
+keeps-call a x = λ earlier. refl
+
 keeps-end : Keeps (Ok said.End)
 unfolding Keeps
 keeps-end = λ earlier. refl
@@ -107,13 +124,29 @@ fate-keeps : (fields : List (List ℕ)) → Keeps (fate_of fields)
 unfolding fate_of
 fate-keeps fields = search (keeps-if, keeps-needs, keeps-fate, keeps-fault) depth 12
 
+profile-keeps : (fields : List (List ℕ)) → Keeps (profile_of fields)
+unfolding profile_of
+profile-keeps fields = search (keeps-if, keeps-needs, keeps-profile, keeps-fault) depth 12
+
+name-keeps : (fields : List (List ℕ)) → Keeps (name_of fields)
+unfolding name_of
+name-keeps fields = search (keeps-if, keeps-needs, keeps-name, keeps-fault) depth 12
+
+clock-keeps : (fields : List (List ℕ)) → Keeps (clock_of fields)
+unfolding clock_of
+clock-keeps fields = search (keeps-if, keeps-needs, keeps-clock, keeps-fault) depth 12
+
+call-keeps : (fields : List (List ℕ)) → Keeps (call_of fields)
+unfolding call_of
+call-keeps fields = search (keeps-if, keeps-needs, keeps-call, keeps-fault) depth 12
+
 end-keeps : (fields : List (List ℕ)) → Keeps (end_of fields)
 unfolding end_of
 end-keeps fields = search (keeps-if, keeps-end, keeps-fault) depth 12
 
 record-keeps : (version : ℕ) (fields : List (List ℕ)) → Keeps (record_of version fields)
 unfolding record_of
-record-keeps version fields = search (keeps-if, fate-keeps, leg-keeps, miss-keeps, craft-keeps, run-keeps, gains-keeps, end-keeps, climb-keeps, plan-keeps, keeps-fault) depth 14
+record-keeps version fields = search (keeps-if, fate-keeps, leg-keeps, miss-keeps, craft-keeps, run-keeps, gains-keeps, end-keeps, climb-keeps, plan-keeps, profile-keeps, name-keeps, clock-keeps, call-keeps, keeps-fault) depth 18
 
 keeps-known : (r : Result Record Code) (now : Record) → Keeps r → r ≡ Ok now → (earlier : List Record) → version_of (now ∷ earlier) ≡ version_of earlier
 unfolding Keeps
@@ -200,6 +233,22 @@ ends-fate : (fields : List (List ℕ)) (p : Addresses) (n : ℕ) (x : Copies) �
 unfolding Ends
 ends-fate fields p n x = λ earlier e f. never (has_ended earlier) e f
 
+ends-profile : (fields : List (List ℕ)) (x : Profile) → Ends fields (Ok (said.Profile x))
+unfolding Ends
+ends-profile fields x = λ earlier e f. never (has_ended earlier) e f
+
+ends-name : (fields : List (List ℕ)) (x : List ℕ) → Ends fields (Ok (said.Name x))
+unfolding Ends
+ends-name fields x = λ earlier e f. never (has_ended earlier) e f
+
+ends-clock : (fields : List (List ℕ)) (x : ℕ) → Ends fields (Ok (said.Clock x))
+unfolding Ends
+ends-clock fields x = λ earlier e f. never (has_ended earlier) e f
+
+ends-call : (fields : List (List ℕ)) (a : ℕ) (x : List ℕ) → Ends fields (Ok (said.Call a x))
+unfolding Ends
+ends-call fields a x = λ earlier e f. never (has_ended earlier) e f
+
 ends-fault : (fields : List (List ℕ)) (why : Code) → Ends fields (Err why)
 unfolding Ends
 ends-fault fields why = tt
@@ -236,6 +285,22 @@ fate-ends : (fields : List (List ℕ)) → Ends fields (fate_of fields)
 unfolding fate_of
 fate-ends fields = search (ends-if, ends-needs, ends-fate, ends-fault) depth 12
 
+profile-ends : (fields : List (List ℕ)) → Ends fields (profile_of fields)
+unfolding profile_of
+profile-ends fields = search (ends-if, ends-needs, ends-profile, ends-fault) depth 12
+
+name-ends : (fields : List (List ℕ)) → Ends fields (name_of fields)
+unfolding name_of
+name-ends fields = search (ends-if, ends-needs, ends-name, ends-fault) depth 12
+
+clock-ends : (fields : List (List ℕ)) → Ends fields (clock_of fields)
+unfolding clock_of
+clock-ends fields = search (ends-if, ends-needs, ends-clock, ends-fault) depth 12
+
+call-ends : (fields : List (List ℕ)) → Ends fields (call_of fields)
+unfolding call_of
+call-ends fields = search (ends-if, ends-needs, ends-call, ends-fault) depth 12
+
 only-field : (fields : List (List ℕ)) → length fields ≡ 1 → field fields 0 ≡ codes "end" → fields ≡ codes "end" ∷ []
 only-field [] n e = absurd (omega (arith, n))
 only-field (f ∷ []) n e = ap (λ (g : List ℕ). g ∷ []) e
@@ -252,7 +317,7 @@ pub record-ends : (version : ℕ) (fields : List (List ℕ)) → Ends fields (re
 unfolding record_of end_of
 record-ends version fields =
     let last = end-ends (length fields == 1) (bytes_eq (field fields 0) (codes "end")) fields in
-    search (ends-if, fate-ends, leg-ends, miss-ends, craft-ends, run-ends, gains-ends, climb-ends, plan-ends, ends-fault, last) depth 14
+    search (ends-if, fate-ends, leg-ends, miss-ends, craft-ends, run-ends, gains-ends, climb-ends, plan-ends, profile-ends, name-ends, clock-ends, call-ends, ends-fault, last) depth 18
 
 pub ends-known : (fields : List (List ℕ)) (r : Result Record Code) (now : Record) → Ends fields r → r ≡ Ok now → (earlier : List Record) → has_ended earlier ≡ false → has_ended (now ∷ earlier) ≡ true → fields ≡ codes "end" ∷ []
 unfolding Ends

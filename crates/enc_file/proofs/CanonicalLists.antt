@@ -1,8 +1,7 @@
 -- The legs, misses, plans and fates of an encounter are read from its canonical records.
 use Rattle.std.proofs.Common.{◌≡◌, ℕ, ◌*◌, ◌<◌, ◌≤◌, true, List, [], ◌∷◌, ◌++◌, length, map, ap, ◌∙◌, arith}
-use Rattle.std.proofs.lemmas.Bool.Decides.{nat_tests}
 use Rattle.std.proofs.lemmas.List.Elements.{recursion_from_All}
-use Rattle.acas_base.specs.Encounter.{IsEncounter, IsFate, IsLeg, IsMiss, IsPlan, Parts, most_crafts, address_in}
+use Rattle.acas_base.specs.Encounter.{IsEncounter, IsFate, IsLeg, IsMiss, IsPlan, Parts, address_in}
 use Rattle.acas_base.specs.Order.{fate_below, leg_below, miss_below, plan_below}
 use Rattle.acas_base.specs.Ranges.{IsAddress}
 use Rattle.acas_base.specs.declared.TheConstants.{CRAFTS}
@@ -11,24 +10,17 @@ use Rattle.acas_base.specs.declared.craft.Miss.{Miss}
 use Rattle.acas_base.specs.declared.link.Fate.{Fate}
 use Rattle.acas_base.specs.declared.link.LinkPlan.{LinkPlan}
 use Rattle.enc_file.specs.Earlier.{fate_group, leg_group, miss_group, plan_group}
-use Rattle.enc_file.specs.Saying.{record_of}
 use Rattle.enc_file.specs.Spelling.{fate_record, leg_record, miss_record, plan_record}
 use Rattle.enc_file.specs.declared.record.Addresses.{Addresses}
 use Rattle.enc_file.specs.declared.record.Record.TheVariants as said
 use Rattle.enc_file.proofs.AircraftFound.{address-within, index-found, pair-found}
-use Rattle.enc_file.proofs.CanonicalSaid.{all-crafts, all-differ, is-two, with-lists}
+use Rattle.enc_file.proofs.CanonicalSaid.{all-crafts, all-differ, few-crafts, least-two, with-lists}
 use Rattle.enc_file.proofs.Orders.{fate-order, leg-order, miss-order, plan-order}
 use Rattle.enc_file.proofs.OwnOrder.{IsInOrder, in-order}
 use Rattle.enc_file.proofs.Pairwise.{all-here, pairs-before}
 use Rattle.enc_file.proofs.ReadBack.{Goes, goes-map, goes-one}
 use Rattle.enc_file.proofs.RecordsFollow.{fate-follows, leg-follows, miss-follows, plan-follows}
 use Rattle.enc_file.proofs.SaidByLines.{course-of, fate-said, fate-copies, leg-said, miss-said, plan-said, plan-copies}
-
-most-crafts : (version : ℕ) → most_crafts version ≤ 16
-most-crafts version = grind (arith, nat_tests)
-
-few-crafts : (e : Parts) → IsEncounter e → length e.crafts ≤ 16
-few-crafts e h = omega (arith, h.crafts.few, most-crafts e.version)
 
 -- Its lists in their order.
 pub legs-own : (e : Parts) → IsEncounter e → IsInOrder leg_group CRAFTS leg_below e.legs
@@ -71,9 +63,9 @@ goes-misses e h = goes-map (miss_record e.crafts) e.misses (λ done _. with-list
       (miss-said e.version (address_in e.crafts x.own) (address_in e.crafts x.target) x.from x.to (address-in e h x.own is.pair.first) (address-in e h x.target is.pair.second) is.from is.to is.order)
       (miss-follows (with-lists e e.legs done [] []) (pair-of e x.own x.target) x found later)
 
--- Where there is a plan, the format is the second.
-plan-format : (e : Parts) → IsEncounter e → (done : List LinkPlan) (x : LinkPlan) (rest : List LinkPlan) → done ++ x ∷ rest ≡ e.plans → e.version ≡ 2
-plan-format e h done x rest w = is-two e.version h.run.format (λ one. none done (w ∙ (h.format one).no_plan)) where
+-- Where there is a plan, the format is not the first.
+plan-format : (e : Parts) → IsEncounter e → (done : List LinkPlan) (x : LinkPlan) (rest : List LinkPlan) → done ++ x ∷ rest ≡ e.plans → 2 ≤ e.version
+plan-format e h done x rest w = least-two e.version h.run.format (λ one. none done (w ∙ (h.format one).no_plan)) where
   none : (before : List LinkPlan) → before ++ x ∷ rest ≡ [] → ⊥
   none [] same = cc
   none (y ∷ ys) same = cc
@@ -86,9 +78,9 @@ goes-plans e h = goes-map (plan_record e.crafts) e.plans (λ done _. with-lists 
       let is = all-here (IsPlan (length e.crafts)) e.plans done x rest w (recursion_from_All (IsPlan (length e.crafts)) e.plans h.records.plans.0) in
       let later = pairs-before (λ a b. plan_below a b ≡ true) e.plans done x rest w (plans-own e h).later in
       let found = pair-found e.crafts x.sender x.receiver (all-differ e h) is.pair in
-      let says = plan-said (address_in e.crafts x.sender) (address_in e.crafts x.receiver) x (address-in e h x.sender is.pair.first) (address-in e h x.receiver is.pair.second) is.copies in
+      let says = plan-said e.version (address_in e.crafts x.sender) (address_in e.crafts x.receiver) x (plan-format e h done x rest w) (address-in e h x.sender is.pair.first) (address-in e h x.receiver is.pair.second) is.copies in
       goes-one (plan_record e.crafts x) (said.Plan (pair-of e x.sender x.receiver) (plan-copies x)) (with-lists e e.legs e.misses done []) (with-lists e e.legs e.misses (done ++ x ∷ []) [])
-      (ap (λ version. record_of version (plan_record e.crafts x)) (plan-format e h done x rest w) ∙ says)
+      says
       (plan-follows (with-lists e e.legs e.misses done []) (pair-of e x.sender x.receiver) x found later is.copies)
 
 pub goes-fates : (e : Parts) → IsEncounter e → Goes (map (fate_record e.crafts) e.fates) (with-lists e e.legs e.misses e.plans []) (with-lists e e.legs e.misses e.plans e.fates)

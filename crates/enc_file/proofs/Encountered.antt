@@ -1,29 +1,33 @@
 -- The records of a text that ends well say an encounter.
-use Rattle.std.proofs.Common.{◌≡◌, ℕ, ◌*◌, ◌≤◌, Bool, true, false, not, List, [], ◌∷◌, length, Option, Some, None, refl, arith, inl, inr}
+use Rattle.std.proofs.Common.{◌≡◌, ℕ, ◌*◌, ◌<◌, ◌≤◌, Bool, true, false, List, [], ◌∷◌, length, Option, Some, None, refl, ap, arith, inl, inr}
 use Rattle.std.specs.Prelude.{IsTrue, IfSome, is_none, unwrap_or}
 use Rattle.std.specs.List.{list_any}
-use Rattle.std.proofs.lemmas.Bool.{cases_lt, false≢true, not-false, or_parts, true≢false}
+use Rattle.std.proofs.lemmas.Bool.{cases_lt, false≢true, true≢false}
 use Rattle.std.proofs.lemmas.List.Elements.{All-nil, All-push}
-use Rattle.acas_base.specs.Encounter.{AreCrafts, AreLabels, AreListed, AreRecords, IsCall, IsEncounter, IsFate, IsLeg, IsMiss, IsPlain, IsPlan, IsVersion, is_active}
-use Rattle.acas_base.specs.Order.{fate_below, leg_below, miss_below, plan_below}
+use Rattle.acas_base.specs.Encounter.{AreCrafts, AreLabels, AreListed, AreRecords, IsCall, IsEncounter, IsFate, IsLeg, IsMiss, IsPlain, IsPlan, IsUnlabelled, IsVersion, is_active}
+use Rattle.acas_base.specs.Labels.{is_label}
+use Rattle.acas_base.specs.Order.{call_below, fate_below, leg_below, miss_below, plan_below}
 use Rattle.acas_base.specs.declared.TheConstants.{CRAFTS}
 use Rattle.acas_base.specs.declared.craft.CraftSpec.{CraftSpec}
 use Rattle.acas_base.specs.declared.craft.Leg.{Leg}
 use Rattle.acas_base.specs.declared.craft.Miss.{Miss}
+use Rattle.acas_base.specs.declared.label.Call.{Call}
 use Rattle.acas_base.specs.declared.link.Fate.{Fate}
 use Rattle.acas_base.specs.declared.link.LinkPlan.{LinkPlan}
-use Rattle.enc_file.specs.Earlier.{by_group, crafts_of, encounter_by, fate_group, fates_of, gains_of, leg_group, legs_of, miss_group, misses_of, plan_group, plans_of, run_of, usual_gains, version_of}
-use Rattle.enc_file.specs.Faults.{miscounts}
+use Rattle.acas_base.specs.declared.setting.Profile.TheVariants.{One}
+use Rattle.enc_file.specs.Earlier.{by_group, call_group, calls_of, crafts_of, encounter_by, fate_group, fates_of, gains_of, heading_of, leg_group, legs_of, miss_group, misses_of, no_heading, plan_group, plans_of, run_of, usual_gains, version_of}
 use Rattle.enc_file.specs.WellRead.{AreGainsSaid, AreRead, IsNext, IsRunSaid}
+use Rattle.enc_file.specs.declared.record.Heading.{Heading}
 use Rattle.enc_file.specs.declared.record.Record.{Record}
 use Rattle.enc_file.specs.declared.record.Record.TheVariants as said
 use Rattle.enc_file.specs.declared.record.Run.{Run}
 use Rattle.enc_file.specs.declared.record.TrackGains.{TrackGains}
+use Rattle.enc_file.proofs.Called.{AreCallsRead, calls-apart, calls-read}
 use Rattle.enc_file.proofs.Crafted.{AreCraftsRead, crafts-read, most-few}
 use Rattle.enc_file.proofs.Faultless.{by-read}
 use Rattle.enc_file.proofs.Grouped.{all-by-group, by-group-rising, no-group}
 use Rattle.enc_file.proofs.Listed.{AreInOrder, AreListsRead, lists-read}
-use Rattle.enc_file.proofs.Orders.{IsOrder, fate-order, leg-order, miss-order, plan-order}
+use Rattle.enc_file.proofs.Orders.{IsOrder, call-order, fate-order, leg-order, miss-order, plan-order}
 
 -- The version is that of the header.
 version-read : (last : Record) (earlier : List Record) → AreRead (last ∷ earlier) → IsVersion (version_of (last ∷ earlier))
@@ -97,31 +101,70 @@ are-records count xs ys zs ws few read = record {
   fates = group-listed IsFate fate_group (CRAFTS * CRAFTS) fate_below count ws (fate-order count few) read.fates;
 }
 
--- No labels are given.
-no-labels : (count : ℕ) → AreLabels count None None []
-no-labels count = record { name = tt; clock = tt; calls = (All-nil (IsCall count), λ k d h. absurd (omega arith)); apart = λ i j d order h. absurd (omega arith) }
+-- What a text says of itself.
+record IsHeadingRead (heading : Heading) : Type 0 where
+  name : IfSome heading.name (λ text. IsTrue (is_label text))
+  clock : IfSome heading.clock (λ second. second < 86400)
 
--- What was read up to a good end is an encounter.
-pub encounter-said : (earlier : List Record) → AreRead earlier → miscounts earlier said.End ≡ false → IsEncounter (encounter_by earlier)
-encounter-said [] read end = absurd (true≢false end)
-encounter-said (last ∷ before) read end =
+heading-next : (earlier : List Record) (now : Record) → IsHeadingRead (heading_of earlier) → IsNext earlier now → IsHeadingRead (heading_of (now ∷ earlier))
+heading-next earlier (said.Profile profile) before next = record { name = before.name; clock = before.clock }
+heading-next earlier (said.Name text) before next = record { name = next.ranges; clock = before.clock }
+heading-next earlier (said.Clock second) before next = record { name = before.name; clock = next.ranges }
+heading-next earlier other before next = before
+
+heading-read : (earlier : List Record) → AreRead earlier → IsHeadingRead (heading_of earlier)
+heading-read = by-read (λ earlier. IsHeadingRead (heading_of earlier)) (record { name = tt; clock = tt }) (λ version. record { name = tt; clock = tt }) heading-next
+
+-- In formats 1 and 2 it says nothing of itself, and there is no call sign.
+older-next : (earlier : List Record) (now : Record) → (version_of earlier ≤ 2 → (heading_of earlier ≡ no_heading) × (calls_of earlier ≡ [])) → IsNext earlier now
+    → version_of (now ∷ earlier) ≤ 2 → (heading_of (now ∷ earlier) ≡ no_heading) × (calls_of (now ∷ earlier) ≡ [])
+older-next earlier (said.Header version) before next few = absurd next.format
+older-next earlier (said.Profile profile) before next few = absurd (omega (arith, few, next.format))
+older-next earlier (said.Name text) before next few = absurd (omega (arith, few, next.format))
+older-next earlier (said.Clock second) before next few = absurd (omega (arith, few, next.format))
+older-next earlier (said.Call address sign) before next few = absurd (omega (arith, few, next.format))
+older-next earlier other before next few = before few
+
+older-read : (earlier : List Record) → AreRead earlier → version_of earlier ≤ 2 → (heading_of earlier ≡ no_heading) × (calls_of earlier ≡ [])
+older-read = by-read (λ earlier. version_of earlier ≤ 2 → (heading_of earlier ≡ no_heading) × (calls_of earlier ≡ [])) (λ few. (refl, refl)) (λ version few. (refl, refl)) older-next
+
+are-unlabelled : (earlier : List Record) → AreRead earlier → version_of earlier ≤ 2 → IsUnlabelled (encounter_by earlier)
+are-unlabelled earlier read few =
+    let older = older-read earlier read few in
+    record {
+      profile = ap (λ (heading : Heading). unwrap_or heading.profile One) older.0;
+      name = ap (λ (heading : Heading). heading.name) older.0;
+      clock = ap (λ (heading : Heading). heading.clock) older.0;
+      calls = no-group call_group CRAFTS (calls_of earlier) older.1;
+    }
+
+are-labels : (count : ℕ) (heading : Heading) (calls : List Call) → count ≤ CRAFTS → IsHeadingRead heading → AreCallsRead count calls → AreLabels count heading.name heading.clock (by_group call_group CRAFTS calls)
+are-labels count heading calls few said read = record {
+  name = said.name;
+  clock = said.clock;
+  calls = group-listed IsCall call_group CRAFTS call_below count calls (call-order count few) read.order;
+  apart = calls-apart CRAFTS calls read.apart;
+}
+
+-- What was read is an encounter, where there are a run and an active aircraft.
+pub encounter-said : (earlier : List Record) → AreRead earlier → is_none (run_of earlier) ≡ false → list_any is_active (crafts_of earlier) ≡ true → IsEncounter (encounter_by earlier)
+encounter-said [] read given active = absurd (true≢false given)
+encounter-said (last ∷ before) read given active =
     let earlier = last ∷ before in
-    let active = list_any is_active (crafts_of earlier) in
-    let parts = or_parts (is_none (run_of earlier)) (not active) end in
-    let run = some-run (run_of earlier) (record { cycles = 0; elevation = _ }) parts.0 (run-read earlier read) in
+    let run = some-run (run_of earlier) (record { cycles = 0; elevation = _ }) given (run-read earlier read) in
     let gains = some-gains (gains_of earlier) (gains-read earlier read) in
     let crafts = crafts-read earlier read in
     record {
       run = record { format = version-read last before read; length = run.cycles; terrain = run.elevation };
       range = gains.range;
       altitude = gains.altitude;
-      crafts = are-crafts (version_of earlier) (crafts_of earlier) crafts (not-false active parts.1);
+      crafts = are-crafts (version_of earlier) (crafts_of earlier) crafts active;
       format = λ is. record {
         no_ceiling = (plain-read earlier read is).no_ceiling;
         no_plan = no-group plan_group (CRAFTS * CRAFTS) (plans_of earlier) (plain-read earlier read is).no_plan;
       };
-      older = λ few. record { profile = refl; name = refl; clock = refl; calls = refl };
-      labels = no-labels (length (crafts_of earlier));
+      older = λ few. are-unlabelled earlier read few;
+      labels = are-labels (length (crafts_of earlier)) (heading_of earlier) (calls_of earlier) (omega (arith, crafts.few, most-few (version_of earlier))) (heading-read earlier read) (calls-read earlier read);
       records =
           are-records (length (crafts_of earlier)) (legs_of earlier) (misses_of earlier) (plans_of earlier) (fates_of earlier)
           (omega (arith, crafts.few, most-few (version_of earlier))) (lists-read earlier read);

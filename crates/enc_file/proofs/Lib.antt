@@ -14,11 +14,13 @@ pub mod Faultless
 pub mod Crafted
 pub mod Named
 pub mod Listed
+pub mod Called
 pub mod Encountered
 pub mod Repeated
 pub mod Climbing
 pub mod Refused
 pub mod Tabled
+pub mod Clocked
 pub mod SaidByLines
 pub mod Pairwise
 pub mod OwnGroups

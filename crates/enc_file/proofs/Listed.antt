@@ -37,7 +37,7 @@ pub record AreListsRead (count : ℕ) (xs : List Leg) (ys : List Miss) (zs : Lis
   pub fates : AreInOrder (IsFate count) fate_group fate_below ws
 
 -- No element passes.
-any-false : {X : Type 0} (test : X → Bool) (xs : List X) → list_any test xs ≡ false → All (λ x. test x ≡ false) xs
+pub any-false : {X : Type 0} (test : X → Bool) (xs : List X) → list_any test xs ≡ false → All (λ x. test x ≡ false) xs
 any-false test [] none = All-nil (λ x. test x ≡ false)
 any-false test (x ∷ xs) none =
     let both = or_parts (test x) (list_any test xs) none in
@@ -49,7 +49,7 @@ in-time true false h e = absurd (false≢true (sym h))
 in-time false below h e = absurd (false≢true e)
 
 -- What an index gives is added, where it doesn't come too late.
-list-add : {I X : Type 0} (Fits : X → Type 0) (group : X → ℕ) (below : X → X → Bool) (f : I → X) (o : Option I) (xs : List X)
+pub list-add : {I X : Type 0} (Fits : X → Type 0) (group : X → ℕ) (below : X → X → Bool) (f : I → X) (o : Option I) (xs : List X)
     → AreInOrder Fits group below xs → ((i : I) → o ≡ Some i → Fits (f i))
     → holds (option_map (λ i. comes_late group below xs (f i)) o) ≡ false → AreInOrder Fits group below (xs ++ option_to_list (option_map f o))
 list-add Fits group below f None xs before fits new = subst (AreInOrder Fits group below) (sym (append-nil xs)) before

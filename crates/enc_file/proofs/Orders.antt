@@ -1,11 +1,11 @@
 -- The orders of an encounter's lists, and the groups of their records: one aircraft, or one pair.
 use Rattle.std.proofs.Common.{◌≡◌, ℕ, ◌*◌, ◌<◌, ◌≤◌, Bool, true, arith}
 use Rattle.std.proofs.lemmas.Bool.Decides.{nat_tests}
-use Rattle.acas_base.specs.Encounter.{IsFate, IsLeg, IsMiss, IsPair, IsPlan}
-use Rattle.acas_base.specs.Order.{fate_below, is_below, leg_below, miss_below, plan_below}
+use Rattle.acas_base.specs.Encounter.{IsCall, IsFate, IsLeg, IsMiss, IsPair, IsPlan}
+use Rattle.acas_base.specs.Order.{call_below, fate_below, is_below, leg_below, miss_below, plan_below}
 use Rattle.acas_base.specs.declared.TheConstants.{CRAFTS}
 use Rattle.acas_base.proofs.KeyOrder.{below-trans}
-use Rattle.enc_file.specs.Earlier.{fate_group, leg_group, miss_group, pair_number, plan_group}
+use Rattle.enc_file.specs.Earlier.{call_group, fate_group, leg_group, miss_group, pair_number, plan_group}
 
 -- What fits goes on in order, and stands as its groups stand.
 pub record IsOrder {X : Type 0} (Fits : X → Type 0) (group : X → ℕ) (groups : ℕ) (below : X → X → Bool) : Type 0 where
@@ -32,6 +32,14 @@ pair-between a b c d e f small other h = grind (arith, nat_tests)
 -- The number of a pair is below that of all pairs.
 pub pair-within : (count a b : ℕ) → count ≤ CRAFTS → IsPair count a b → pair_number a b < CRAFTS * CRAFTS
 pair-within count a b few two = omega (arith, few, two.first, two.second)
+
+pub call-order : (count : ℕ) → count ≤ CRAFTS → IsOrder (IsCall count) call_group CRAFTS call_below
+call-order count small = record {
+  trans = λ a b c _ one two. below-trans a.craft 0 0 b.craft 0 0 c.craft 0 0 one two;
+  few = λ a h. omega (arith, h.craft);
+  rises = λ a b _ _ k. craft-rises a.craft 0 b.craft 0 k;
+  between = λ a b _ _ k. craft-between a.craft 0 b.craft 0 k;
+}
 
 pub leg-order : (count : ℕ) → count ≤ CRAFTS → IsOrder (IsLeg count) leg_group CRAFTS leg_below
 leg-order count small = record {

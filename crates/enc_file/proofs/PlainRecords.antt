@@ -1,22 +1,29 @@
 -- The records of an encounter are readable: their words, numbers and addresses have no comma and no end of line.
-use Rattle.std.proofs.Common.{◌≡◌, ℕ, zero, suc, ◌+◌, ◌/◌, ◌%◌, ◌<◌, ℤ, pos, negsuc, List, [], ◌∷◌, ◌++◌, map, Option, Some, None, Bool, true, false, if◌then◌else◌, nat_lt, codes, refl, arith, ltb-true, ne_eqb, take}
-use Rattle.std.specs.Prelude.{◌==◌}
+use Rattle.std.proofs.Common.{◌≡◌, ℕ, zero, suc, ◌+◌, ◌/◌, ◌%◌, ◌<◌, ℤ, pos, negsuc, List, [], ◌∷◌, ◌++◌, map, Option, Some, None, Bool, true, false, if◌then◌else◌, nat_le, nat_lt, codes, refl, arith, ltb-true, ne_eqb, take}
+use Rattle.std.specs.Prelude.{◌==◌, IfSome, IsTrue}
 use Rattle.std.specs.Fmt.{digit_glyph, digits_onto, digits, decimal, signed_decimal}
 use Rattle.std.specs.List.{AllByRecursion, flat_map, list_all}
 use Rattle.std.proofs.lemmas.Bool.{and_parts}
+use Rattle.std.proofs.lemmas.Bool.Decides.{nat_tests}
+use Rattle.std.proofs.lemmas.List.Elements.{recursion_from_All}
 use Rattle.acas_base.specs.Encounter.{Parts}
+use Rattle.acas_base.specs.Labels.{is_label, is_label_letter, is_sized}
 use Rattle.acas_base.specs.declared.craft.CraftSpec.{CraftSpec}
 use Rattle.acas_base.specs.declared.craft.Gains.{Gains}
 use Rattle.acas_base.specs.declared.craft.Kind.{Kind}
 use Rattle.acas_base.specs.declared.craft.Kind.TheVariants.{Ra, Ta, Xpdr}
 use Rattle.acas_base.specs.declared.craft.Leg.{Leg}
 use Rattle.acas_base.specs.declared.craft.Miss.{Miss}
+use Rattle.acas_base.specs.declared.label.Call.{Call}
 use Rattle.acas_base.specs.declared.link.CopyPlan.{CopyPlan}
 use Rattle.acas_base.specs.declared.link.Fate.{Fate}
 use Rattle.acas_base.specs.declared.link.LinkPlan.{LinkPlan}
+use Rattle.acas_base.specs.declared.setting.Profile.{Profile}
+use Rattle.acas_base.specs.declared.setting.Profile.TheVariants.{One, Two}
 use Rattle.acas_text.specs.Hex.{hex}
-use Rattle.enc_file.specs.Canonical.{canonical_records}
-use Rattle.enc_file.specs.Spelling.{number, kind_text, header_record, run_record, gains_record, craft_record, climb_of, climb_records, leg_record, miss_record, copy_fields, plan_record, fate_record, end_record}
+use Rattle.plot_axes.specs.Clock.{clock_text}
+use Rattle.enc_file.specs.Canonical.{IsLabelled, canonical_records}
+use Rattle.enc_file.specs.Spelling.{number, kind_text, call_record, clock_records, name_records, profile_record, profile_records, header_record, run_record, gains_record, craft_record, climb_of, climb_records, leg_record, miss_record, copy_fields, plan_record, fate_record, end_record}
 use Rattle.enc_file.proofs.LinesRead.{IsPlainByte, IsPlainField, IsReadable, AreReadable}
 
 -- Words.
@@ -78,7 +85,59 @@ unfolding hex
 hex-plain zero n = tt
 hex-plain (suc k) n = each-append IsPlainByte (hex k (n / 16)) (digit_glyph true (n % 16) ∷ []) (hex-plain k (n / 16)) (glyph-plain true (n % 16), tt)
 
+-- Labels and times of day.
+
+letter-plain : (c : ℕ) → is_label_letter c ≡ true → IsPlainByte c
+letter-plain c is = record {
+  no_comma = ne_eqb c 44 (λ e. grind (arith, nat_tests, is, e));
+  no_return = ne_eqb c 13 (λ e. grind (arith, nat_tests, is, e));
+  no_feed = ne_eqb c 10 (λ e. grind (arith, nat_tests, is, e));
+}
+
+letters-plain : (text : List ℕ) → list_all is_label_letter text ≡ true → IsPlainField text
+letters-plain [] is = tt
+letters-plain (c ∷ cs) is =
+    let both = and_parts (is_label_letter c) (list_all is_label_letter cs) is in
+    (letter-plain c both.0, letters-plain cs both.1)
+
+label-plain : (text : List ℕ) → is_label text ≡ true → IsPlainField text
+unfolding is_label
+label-plain text is = letters-plain text (and_parts (is_sized 60 text) (list_all is_label_letter text) is).1
+
+digit-plain : (n : ℕ) → IsPlainByte (48 + n)
+digit-plain n = after-comma (48 + n) (omega arith)
+
+clock-plain : (second : ℕ) → IsPlainField (clock_text second)
+unfolding clock_text
+clock-plain second =
+    let colon = after-comma 58 (omega arith) in (
+      digit-plain (second / 3600 / 10 % 10),
+      (
+        digit-plain (second / 3600 % 10),
+        (colon, (digit-plain (second / 60 % 60 / 10 % 10), (digit-plain (second / 60 % 60 % 10), (colon, (digit-plain (second % 60 / 10 % 10), (digit-plain (second % 60 % 10), tt)))))),
+      ),
+    )
+
 -- Records.
+
+profile-readable : (version : ℕ) (profile : Profile) → AreReadable (profile_records version profile)
+profile-readable version profile = at (nat_le 3 version) profile where
+  at : (b : Bool) (p : Profile) → AreReadable (if b then profile_record p ∷ [] else [])
+  at false p = tt
+  at true One = ((word-plain (codes "profile") refl, (word-plain (codes "1") refl, tt)), tt)
+  at true Two = ((word-plain (codes "profile") refl, (word-plain (codes "2") refl, tt)), tt)
+
+name-readable : (o : Option (List ℕ)) → IfSome o (λ text. IsTrue (is_label text)) → AreReadable (name_records o)
+name-readable None h = tt
+name-readable (Some text) h = ((word-plain (codes "name") refl, (label-plain text h, tt)), tt)
+
+clock-readable : (o : Option ℕ) → AreReadable (clock_records o)
+clock-readable None = tt
+clock-readable (Some second) = ((word-plain (codes "clock") refl, (clock-plain second, tt)), tt)
+
+calls-readable : (crafts : List CraftSpec) (calls : List Call) → AllByRecursion (λ (call : Call). IsTrue (is_label call.sign)) calls → AreReadable (map (call_record crafts) calls)
+calls-readable crafts [] h = tt
+calls-readable crafts (call ∷ calls) h = ((word-plain (codes "call") refl, (hex-plain 6 _, (label-plain call.sign h.0, tt))), calls-readable crafts calls h.1)
 
 header-readable : (version : ℕ) → IsReadable (header_record version)
 header-readable version = (word-plain (codes "encounter") refl, (number-plain version, tt))
@@ -126,13 +185,30 @@ more-readable {X} rows f xs h k = each-append IsReadable rows (map f xs) h (all 
   all [] = tt
   all (y ∷ ys) = (k y, all ys)
 
-pub canonical-readable : (e : Parts) → AreReadable (canonical_records e)
-canonical-readable e =
-    let crafts = more-readable [] craft_record e.crafts tt craft-readable in
-    let climbs = each-append IsReadable _ (flat_map climb_records e.crafts) crafts (climbs-readable e.crafts) in
-    let legs = more-readable _ (leg_record e.crafts) e.legs climbs (leg-readable e.crafts) in
-    let misses = more-readable _ (miss_record e.crafts) e.misses legs (miss-readable e.crafts) in
-    let plans = more-readable _ (plan_record e.crafts) e.plans misses (plan-readable e.crafts) in
-    let fates = more-readable _ (fate_record e.crafts) e.fates plans (fate-readable e.crafts) in
-    let all = each-append IsReadable _ (end_record ∷ []) fates (end-readable, tt) in
-    (header-readable e.version, (run-readable e.cycles e.elevation, (gains-readable e.range e.altitude, all)))
+pub canonical-readable : (e : Parts) → IsLabelled e → AreReadable (canonical_records e)
+canonical-readable e labels =
+    let front : List (List (List ℕ)) = header_record e.version ∷ [] in
+    let numbers : List (List (List ℕ)) = run_record e.cycles e.elevation ∷ gains_record e.range e.altitude ∷ [] in
+    let profile = each-append IsReadable front (profile_records e.version e.profile) (header-readable e.version, tt) (profile-readable e.version e.profile) in
+    let with_profile : List (List (List ℕ)) = front ++ profile_records e.version e.profile in
+    let name = each-append IsReadable with_profile (name_records e.name) profile (name-readable e.name labels.name) in
+    let with_name : List (List (List ℕ)) = with_profile ++ name_records e.name in
+    let clock = each-append IsReadable with_name (clock_records e.clock) name (clock-readable e.clock) in
+    let with_clock : List (List (List ℕ)) = with_name ++ clock_records e.clock in
+    let gains = each-append IsReadable with_clock numbers clock (run-readable e.cycles e.elevation, (gains-readable e.range e.altitude, tt)) in
+    let with_gains : List (List (List ℕ)) = with_clock ++ numbers in
+    let crafts = more-readable with_gains craft_record e.crafts gains craft-readable in
+    let with_crafts : List (List (List ℕ)) = with_gains ++ map craft_record e.crafts in
+    let signs = calls-readable e.crafts e.calls (recursion_from_All (λ (call : Call). IsTrue (is_label call.sign)) e.calls labels.signs) in
+    let calls = each-append IsReadable with_crafts (map (call_record e.crafts) e.calls) crafts signs in
+    let with_calls : List (List (List ℕ)) = with_crafts ++ map (call_record e.crafts) e.calls in
+    let climbs = each-append IsReadable with_calls (flat_map climb_records e.crafts) calls (climbs-readable e.crafts) in
+    let with_climbs : List (List (List ℕ)) = with_calls ++ flat_map climb_records e.crafts in
+    let legs = more-readable with_climbs (leg_record e.crafts) e.legs climbs (leg-readable e.crafts) in
+    let with_legs : List (List (List ℕ)) = with_climbs ++ map (leg_record e.crafts) e.legs in
+    let misses = more-readable with_legs (miss_record e.crafts) e.misses legs (miss-readable e.crafts) in
+    let with_misses : List (List (List ℕ)) = with_legs ++ map (miss_record e.crafts) e.misses in
+    let plans = more-readable with_misses (plan_record e.crafts) e.plans misses (plan-readable e.crafts) in
+    let with_plans : List (List (List ℕ)) = with_misses ++ map (plan_record e.crafts) e.plans in
+    let fates = more-readable with_plans (fate_record e.crafts) e.fates plans (fate-readable e.crafts) in
+    each-append IsReadable (with_plans ++ map (fate_record e.crafts) e.fates) (end_record ∷ []) fates (end-readable, tt)

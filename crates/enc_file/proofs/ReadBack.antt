@@ -4,12 +4,14 @@ use Rattle.std.specs.List.{flat_map}
 use Rattle.acas_base.specs.declared.craft.CraftSpec.{CraftSpec}
 use Rattle.acas_base.specs.declared.craft.Leg.{Leg}
 use Rattle.acas_base.specs.declared.craft.Miss.{Miss}
+use Rattle.acas_base.specs.declared.label.Call.{Call}
 use Rattle.acas_base.specs.declared.link.Fate.{Fate}
 use Rattle.acas_base.specs.declared.link.LinkPlan.{LinkPlan}
-use Rattle.enc_file.specs.Earlier.{crafts_of, fates_of, gains_of, has_ended, legs_of, misses_of, plans_of, run_of, version_of}
+use Rattle.enc_file.specs.Earlier.{calls_of, crafts_of, fates_of, gains_of, has_ended, heading_of, legs_of, misses_of, plans_of, run_of, version_of}
 use Rattle.enc_file.specs.Faults.{fault_of}
 use Rattle.enc_file.specs.Reading.{goes_on, later_record, next_record, read_from}
 use Rattle.enc_file.specs.Saying.{record_of}
+use Rattle.enc_file.specs.declared.record.Heading.{Heading}
 use Rattle.enc_file.specs.declared.record.Record.{Record}
 use Rattle.enc_file.specs.declared.record.Run.{Run}
 use Rattle.enc_file.specs.declared.record.TrackGains.{TrackGains}
@@ -17,9 +19,11 @@ use Rattle.enc_file.specs.declared.record.TrackGains.{TrackGains}
 -- What earlier records give.
 pub record Known : Type 0 where
   pub version : ℕ
+  pub heading : Heading
   pub run : Option Run
   pub gains : Option TrackGains
   pub crafts : List CraftSpec
+  pub calls : List Call
   pub legs : List Leg
   pub misses : List Miss
   pub plans : List LinkPlan
@@ -30,9 +34,11 @@ pub record Gives (earlier : List Record) (known : Known) : Type 0 where
   pub begun : (row : List (List ℕ)) → next_record earlier row ≡ later_record earlier row
   pub unended : has_ended earlier ≡ false
   pub version : version_of earlier ≡ known.version
+  pub heading : heading_of earlier ≡ known.heading
   pub run : run_of earlier ≡ known.run
   pub gains : gains_of earlier ≡ known.gains
   pub crafts : crafts_of earlier ≡ known.crafts
+  pub calls : calls_of earlier ≡ known.calls
   pub legs : legs_of earlier ≡ known.legs
   pub misses : misses_of earlier ≡ known.misses
   pub plans : plans_of earlier ≡ known.plans
@@ -41,9 +47,11 @@ pub record Gives (earlier : List Record) (known : Known) : Type 0 where
 abbrev pub known-by : List Record → Known
 known-by earlier = record {
   version = version_of earlier;
+  heading = heading_of earlier;
   run = run_of earlier;
   gains = gains_of earlier;
   crafts = crafts_of earlier;
+  calls = calls_of earlier;
   legs = legs_of earlier;
   misses = misses_of earlier;
   plans = plans_of earlier;
@@ -51,16 +59,18 @@ known-by earlier = record {
 }
 
 known-given : (earlier : List Record) (known : Known) → Gives earlier known → known-by earlier ≡ known
-known-given earlier known g = rw (g.version, g.run, g.gains, g.crafts, g.legs, g.misses, g.plans, g.fates) refl
+known-given earlier known g = rw (g.version, g.heading, g.run, g.gains, g.crafts, g.calls, g.legs, g.misses, g.plans, g.fates) refl
 
 pub gives-known : (last : Record) (earlier : List Record) (known : Known) → has_ended (last ∷ earlier) ≡ false → known-by (last ∷ earlier) ≡ known → Gives (last ∷ earlier) known
 gives-known last earlier known unended e = record {
   begun = λ row. refl;
   unended = unended;
   version = ap (λ (k : Known). k.version) e;
+  heading = ap (λ (k : Known). k.heading) e;
   run = ap (λ (k : Known). k.run) e;
   gains = ap (λ (k : Known). k.gains) e;
   crafts = ap (λ (k : Known). k.crafts) e;
+  calls = ap (λ (k : Known). k.calls) e;
   legs = ap (λ (k : Known). k.legs) e;
   misses = ap (λ (k : Known). k.misses) e;
   plans = ap (λ (k : Known). k.plans) e;

@@ -8,12 +8,14 @@ use Rattle.acas_base.specs.Order.{fate_below, leg_below, miss_below, plan_below}
 use Rattle.acas_base.specs.declared.craft.CraftSpec.{CraftSpec}
 use Rattle.acas_base.specs.declared.craft.Leg.{Leg}
 use Rattle.acas_base.specs.declared.craft.Miss.{Miss}
+use Rattle.acas_base.specs.declared.label.Call.{Call}
 use Rattle.acas_base.specs.declared.link.CopyPlan.{CopyPlan}
 use Rattle.acas_base.specs.declared.link.Fate.{Fate}
 use Rattle.acas_base.specs.declared.link.LinkPlan.{LinkPlan}
+use Rattle.acas_base.specs.declared.setting.Profile.{Profile}
 use Rattle.std.specs.Option.{option_to_list}
-use Rattle.enc_file.specs.Earlier.{fate_by, fate_group, for_index, for_pair, index_of, leg_by, leg_group, miss_by, miss_group, plan_by, plan_group, with_ceiling}
-use Rattle.enc_file.specs.Faults.{are_masks_bad, comes_late, has_ceiling, is_mask_bad}
+use Rattle.enc_file.specs.Earlier.{call_by, fate_by, fate_group, for_index, for_pair, index_of, leg_by, leg_group, miss_by, miss_group, plan_by, plan_group, with_ceiling}
+use Rattle.enc_file.specs.Faults.{are_masks_bad, comes_late, has_call, has_ceiling, is_called, is_mask_bad}
 use Rattle.enc_file.specs.declared.record.Addresses.{Addresses}
 use Rattle.enc_file.specs.declared.record.Record.TheVariants as said
 use Rattle.enc_file.specs.declared.record.Run.{Run}
@@ -22,6 +24,36 @@ use Rattle.enc_file.proofs.AircraftFound.{ArePair, IsOther, index-none}
 use Rattle.enc_file.proofs.Pairwise.{any-fails}
 use Rattle.enc_file.proofs.ReadBack.{Follows, Known}
 use Rattle.enc_file.proofs.SaidByLines.{course-of, fate-copies, plan-copies}
+
+-- What the text says of itself.
+pub profile-follows : (known : Known) (profile : Profile) → known.heading.profile ≡ None
+    → Follows (said.Profile profile) known (record known { heading = record known.heading { profile = Some profile } })
+profile-follows known profile none = record {
+  sound = λ earlier g. rw (g.heading, none) refl;
+  adds = λ k. record k { heading = record k.heading { profile = Some profile } };
+  is = λ earlier. refl;
+  unended = λ earlier. refl;
+  gives = refl;
+}
+
+pub name-follows : (known : Known) (text : List ℕ) → known.heading.name ≡ None → Follows (said.Name text) known (record known { heading = record known.heading { name = Some text } })
+name-follows known text none = record {
+  sound = λ earlier g. rw (g.heading, none) refl;
+  adds = λ k. record k { heading = record k.heading { name = Some text } };
+  is = λ earlier. refl;
+  unended = λ earlier. refl;
+  gives = refl;
+}
+
+pub clock-follows : (known : Known) (second : ℕ) → known.heading.clock ≡ None
+    → Follows (said.Clock second) known (record known { heading = record known.heading { clock = Some second } })
+clock-follows known second none = record {
+  sound = λ earlier g. rw (g.heading, none) refl;
+  adds = λ k. record k { heading = record k.heading { clock = Some second } };
+  is = λ earlier. refl;
+  unended = λ earlier. refl;
+  gives = refl;
+}
 
 pub run-follows : (known : Known) (run : Run) → known.run ≡ None → Follows (said.Run run) known (record known { run = Some run })
 run-follows known run none = record {
@@ -72,6 +104,17 @@ in-time same below h = rw h (and-false same)
 not-late : {X : Type 0} (group : X → ℕ) (below : X → X → Bool) (x : X) (xs : List X) → AllByRecursion (λ other. below other x ≡ true) xs → comes_late group below xs x ≡ false
 not-late group below x xs h =
     any-fails (λ other. group other == group x && not (below other x)) (λ other. below other x ≡ true) (λ other k. in-time (group other == group x) (below other x) k) xs h
+
+-- A call sign that no aircraft has, of an aircraft that has none.
+pub call-follows : (known : Known) (n : ℕ) (call : Call) → index_of known.crafts n ≡ Some call.craft → has_call known.calls call.craft ≡ false → is_called known.calls call.sign ≡ false
+    → Follows (said.Call n call.sign) known (record known { calls = known.calls ++ call ∷ [] })
+call-follows known n call found bare new = record {
+  sound = λ earlier g. rw (g.crafts, g.calls, found, bare, new) refl;
+  adds = λ k. record k { calls = k.calls ++ option_to_list (for_index k.crafts n (call_by call.sign)) };
+  is = λ earlier. refl;
+  unended = λ earlier. refl;
+  gives = rw found refl;
+}
 
 -- A leg that begins after those of its aircraft.
 pub leg-follows : (known : Known) (n : ℕ) (leg : Leg) → index_of known.crafts n ≡ Some leg.craft → AllByRecursion (λ other. leg_below other leg ≡ true) known.legs

@@ -1,5 +1,5 @@
 -- Why the next record is refused, or that it isn't.
-use Rattle.std.proofs.Common.{◌≡◌, ℕ, Bool, true, false, ℤ, List, length, Some, None, refl, ap, ◌∙◌}
+use Rattle.std.proofs.Common.{◌≡◌, ℕ, Bool, true, false, ℤ, List, length, Option, Some, None, refl, ap, ◌∙◌}
 use Rattle.std.specs.Prelude.{◌||◌, if◌then◌else◌, not, IsTrue, is_none, option_map, Result, Ok, Err, MatchResult}
 use Rattle.std.specs.Result.{IsErrAnd}
 use Rattle.std.specs.List.{list_any}
@@ -7,8 +7,8 @@ use Rattle.acas_base.specs.Encounter.{is_active}
 use Rattle.acas_base.specs.Order.{fate_below, leg_below, miss_below, plan_below}
 use Rattle.acas_base.specs.declared.craft.CraftSpec.{CraftSpec}
 use Rattle.flight.specs.Inside.{IsInside, stays_inside}
-use Rattle.enc_file.specs.Earlier.{crafts_of, encounter_by, fate_by, fate_group, fates_of, for_pair, index_of, leg_by, leg_group, legs_of, miss_by, miss_group, misses_of, pair_number, plan_by, plan_group, plans_of, run_of}
-use Rattle.enc_file.specs.Faults.{are_masks_bad, comes_late, fault_of, has_bad_mask, has_ceiling, holds, leaves_box, miscounts, names_unknown, repeats}
+use Rattle.enc_file.specs.Earlier.{calls_of, crafts_of, encounter_by, fate_by, fate_group, fates_of, for_pair, index_of, leg_by, leg_group, legs_of, miss_by, miss_group, misses_of, pair_number, plan_by, plan_group, plans_of, run_of}
+use Rattle.enc_file.specs.Faults.{are_masks_bad, comes_late, fault_of, has_bad_mask, has_call, has_ceiling, holds, is_called, lacks_profile, leaves_box, miscounts, names_unknown, repeats}
 use Rattle.enc_file.specs.Reading.{refusal_after}
 use Rattle.enc_file.specs.Tables.{Holds, Refuses}
 use Rattle.enc_file.specs.declared.record.Addresses.{Addresses}
@@ -21,6 +21,7 @@ use Rattle.enc_file.specs.declared.refusal.Code.TheVariants as code
 use Rattle.enc_file.specs.declared.refusal.ReadError.{ReadError}
 use Rattle.enc_file.specs.declared.refusal.ReadError.TheVariants.{OutOfMemory, Refused}
 use Rattle.enc_file.specs.declared.tables.Tables.{Tables}
+use Rattle.std.proofs.Math.Bool.{or-false, or-true}
 use Rattle.flight.proofs.Boxed.{stays-inside}
 use Rattle.enc_file.proofs.Named.{for-pair-none, for-pair-some, pair-of}
 
@@ -61,6 +62,28 @@ pub climb-fine : (earlier : List Record) (address : ℕ) (limit : ℤ) (craft : 
     → fault_of earlier (said.Climb address limit) ≡ None
 climb-fine earlier address limit craft at has =
     by-none earlier (said.Climb address limit) (climb-repeats earlier address limit craft at ∙ has) (ap is_none at) refl refl refl
+
+-- A call sign.
+pub call-signed : (earlier : List Record) (address : ℕ) (sign : List ℕ) → is_called (calls_of earlier) sign ≡ true → fault_of earlier (said.Call address sign) ≡ Some code.Repeat
+call-signed earlier address sign is =
+    by-repeat earlier (said.Call address sign) (ap (λ b. holds (option_map (has_call (calls_of earlier)) (index_of (crafts_of earlier) address)) || b) is ∙ or-true _)
+
+call-repeats : (earlier : List Record) (address : ℕ) (sign : List ℕ) (o : Option ℕ) (b : Bool) → index_of (crafts_of earlier) address ≡ o → is_called (calls_of earlier) sign ≡ false
+    → holds (option_map (has_call (calls_of earlier)) o) ≡ b → repeats earlier (said.Call address sign) ≡ b
+call-repeats earlier address sign o b at new is = rw (at, new, is) (or-false b)
+
+pub call-unknown : (earlier : List Record) (address : ℕ) (sign : List ℕ) → is_called (calls_of earlier) sign ≡ false → index_of (crafts_of earlier) address ≡ None
+    → fault_of earlier (said.Call address sign) ≡ Some code.Unknown
+call-unknown earlier address sign new at = by-unknown earlier (said.Call address sign) (call-repeats earlier address sign None false at new refl) (ap is_none at)
+
+pub call-repeated : (earlier : List Record) (address : ℕ) (sign : List ℕ) (craft : ℕ) → is_called (calls_of earlier) sign ≡ false → index_of (crafts_of earlier) address ≡ Some craft
+    → has_call (calls_of earlier) craft ≡ true → fault_of earlier (said.Call address sign) ≡ Some code.Repeat
+call-repeated earlier address sign craft new at has = by-repeat earlier (said.Call address sign) (call-repeats earlier address sign (Some craft) true at new has)
+
+pub call-fine : (earlier : List Record) (address : ℕ) (sign : List ℕ) (craft : ℕ) → is_called (calls_of earlier) sign ≡ false → index_of (crafts_of earlier) address ≡ Some craft
+    → has_call (calls_of earlier) craft ≡ false → fault_of earlier (said.Call address sign) ≡ None
+call-fine earlier address sign craft new at bare =
+    by-none earlier (said.Call address sign) (call-repeats earlier address sign (Some craft) false at new bare) (ap is_none at) refl refl refl
 
 -- A leg.
 pub leg-unknown : (earlier : List Record) (address : ℕ) (course : Course) → index_of (crafts_of earlier) address ≡ None → fault_of earlier (said.Leg address course) ≡ Some code.Unknown
@@ -118,14 +141,22 @@ wanting P count Q (Err e) h = rw h tt
 
 -- The end.
 pub end-no-run : (earlier : List Record) → run_of earlier ≡ None → miscounts earlier said.End ≡ true
-end-no-run earlier none = ap (λ o. is_none o || not (list_any is_active (crafts_of earlier))) none
+end-no-run earlier none = ap (λ o. is_none o || (lacks_profile earlier || not (list_any is_active (crafts_of earlier)))) none
 
-or-not : (a b : Bool) → b ≡ false → (a || not b) ≡ true
-or-not true b e = refl
-or-not false b e = rw e refl
+or-not : (a b c : Bool) → c ≡ false → (a || (b || not c)) ≡ true
+or-not true b c e = refl
+or-not false true c e = refl
+or-not false false c e = rw e refl
+
+or-second : (a b c : Bool) → b ≡ true → (a || (b || c)) ≡ true
+or-second true b c e = refl
+or-second false b c e = rw e refl
+
+pub end-lacking : (earlier : List Record) → lacks_profile earlier ≡ true → miscounts earlier said.End ≡ true
+end-lacking earlier lacking = or-second (is_none (run_of earlier)) (lacks_profile earlier) (not (list_any is_active (crafts_of earlier))) lacking
 
 pub end-nobody : (earlier : List Record) → list_any is_active (crafts_of earlier) ≡ false → miscounts earlier said.End ≡ true
-end-nobody earlier nobody = or-not (is_none (run_of earlier)) (list_any is_active (crafts_of earlier)) nobody
+end-nobody earlier nobody = or-not (is_none (run_of earlier)) (lacks_profile earlier) (list_any is_active (crafts_of earlier)) nobody
 
 pub end-miscounted : (earlier : List Record) → miscounts earlier said.End ≡ true → fault_of earlier said.End ≡ Some code.Count
 end-miscounted earlier missing = by-count earlier said.End refl refl missing

@@ -5,6 +5,7 @@ use Rattle.std.specs.Fmt.{signed_decimal}
 use Rattle.std.proofs.lemmas.Bool.Decides.{nat_tests}
 use Rattle.std.proofs.lemmas.Int.{ints}
 use Rattle.acas_base.specs.Encounter.{AreCopies, AreRates, IsAltitude, IsCraft, IsElevation, IsGains, IsVersion}
+use Rattle.acas_base.specs.Labels.{is_call_sign, is_label}
 use Rattle.acas_base.specs.Ranges.{IsAddress, IsBetween, IsCycle}
 use Rattle.acas_base.specs.declared.craft.CraftSpec.{CraftSpec}
 use Rattle.acas_base.specs.declared.craft.Gains.{Gains}
@@ -14,13 +15,16 @@ use Rattle.acas_base.specs.declared.craft.Leg.{Leg}
 use Rattle.acas_base.specs.declared.link.CopyPlan.{CopyPlan}
 use Rattle.acas_base.specs.declared.link.Fate.{Fate}
 use Rattle.acas_base.specs.declared.link.LinkPlan.{LinkPlan}
+use Rattle.acas_base.specs.declared.setting.Profile.{Profile}
+use Rattle.acas_base.specs.declared.setting.Profile.TheVariants.{One, Two}
 use Rattle.acas_text.specs.Hex.{hex}
-use Rattle.enc_file.specs.Saying.{climb_of, craft_of, end_of, fate_of, gains_of, header_of, leg_of, miss_of, plan_of, record_of, run_of, version_in}
-use Rattle.enc_file.specs.Spelling.{address, climb_record, copies_fields, craft_record, end_record, gains_record, header_record, kind_text, leg_fields, number, run_record}
+use Rattle.enc_file.specs.Saying.{call_of, climb_of, clock_of, craft_of, end_of, fate_of, gains_of, header_of, leg_of, miss_of, name_of, plan_of, profile_of, record_of, run_of, version_in}
+use Rattle.enc_file.specs.Spelling.{address, call_fields, climb_record, clock_record, copies_fields, craft_record, end_record, gains_record, header_record, kind_text, leg_fields, name_record, number, profile_record, run_record}
 use Rattle.enc_file.specs.Values.{address_in, copies_count, copies_from, copy_in, count_in, field, kind_in, number_in}
 use Rattle.enc_file.specs.declared.record.Copies.{Copies}
 use Rattle.enc_file.specs.declared.record.Course.{Course}
 use Rattle.enc_file.specs.declared.record.Record.TheVariants as said
+use Rattle.enc_file.proofs.Clocked.{clock-is}
 use Rattle.enc_file.proofs.Spelled.{address-is, mask-is, number-inside}
 
 -- Fields.
@@ -53,9 +57,12 @@ kind-said Xpdr = refl
 
 -- Records.
 
+from-format : (least version : ℕ) → least ≤ version → nat_le least version ≡ true
+from-format least version h = grind (arith, h)
+
 pub header-said : (version : ℕ) → IsVersion version → header_of (header_record version) ≡ Ok (said.Header version)
 unfolding version_in
-header-said version h = rw (count-is 1 2 version h.0 h.1 (omega arith)) refl
+header-said version h = rw (count-is 1 3 version h.0 h.1 (omega arith)) refl
 
 pub run-said : (version cycles : ℕ) (elevation : ℤ) → IsCycle cycles → IsElevation elevation
     → record_of version (run_record cycles elevation) ≡ Ok (said.Run (record { cycles = cycles; elevation = elevation }))
@@ -102,9 +109,11 @@ craft-said version craft h =
       address-said craft.address h.address,
     ) refl
 
-pub climb-said : (n : ℕ) (limit : ℤ) → IsAddress n → IsAltitude limit → record_of 2 (climb_record n limit) ≡ Ok (said.Climb n limit)
+pub climb-said : (version n : ℕ) (limit : ℤ) → 2 ≤ version → IsAddress n → IsAltitude limit → record_of version (climb_record n limit) ≡ Ok (said.Climb n limit)
 unfolding record_of climb_of
-climb-said n limit a h = rw (number-is 1000 60000 limit (omega arith) (omega arith) h, address-said n a) refl
+climb-said version n limit few a h =
+    let second = from-format 2 version few in
+    rw (second, number-is 1000 60000 limit (omega arith) (omega arith) h, address-said n a) refl
 
 pub miss-said : (version first second from to : ℕ) → IsAddress first → IsAddress second → IsCycle from → IsCycle to → from ≤ to
     → record_of version (codes "miss" ∷ address first ∷ address second ∷ number from ∷ number to ∷ []) ≡ Ok (said.Miss (record { first = first; second = second }) from to)
@@ -116,6 +125,25 @@ miss-said version first second from to a b h k order =
 pub end-said : (version : ℕ) → record_of version end_record ≡ Ok said.End
 unfolding record_of end_of
 end-said version = refl
+
+-- The records of format 3 alone.
+
+pub profile-said : (version : ℕ) (profile : Profile) → 3 ≤ version → record_of version (profile_record profile) ≡ Ok (said.Profile profile)
+unfolding record_of profile_of
+profile-said version One few = rw (from-format 3 version few, from-format 2 version (omega (arith, few))) refl
+profile-said version Two few = rw (from-format 3 version few, from-format 2 version (omega (arith, few))) refl
+
+pub name-said : (version : ℕ) (text : List ℕ) → 3 ≤ version → is_label text ≡ true → record_of version (name_record text) ≡ Ok (said.Name text)
+unfolding record_of name_of
+name-said version text few is = rw (from-format 3 version few, from-format 2 version (omega (arith, few)), is) refl
+
+pub clock-said : (version second : ℕ) → 3 ≤ version → second < 86400 → record_of version (clock_record second) ≡ Ok (said.Clock second)
+unfolding record_of clock_of
+clock-said version second few h = rw (from-format 3 version few, from-format 2 version (omega (arith, few)), clock-is second h) refl
+
+pub call-said : (version n : ℕ) (sign : List ℕ) → 3 ≤ version → IsAddress n → is_call_sign sign ≡ true → record_of version (call_fields n sign) ≡ Ok (said.Call n sign)
+unfolding record_of call_of
+call-said version n sign few a is = rw (from-format 3 version few, from-format 2 version (omega (arith, few)), is, address-said n a) refl
 
 -- Copies.
 
@@ -178,12 +206,13 @@ copies-said front (suc (suc (suc (suc n)))) one two three h = absurd (omega (ari
 abbrev pub plan-copies : LinkPlan → Copies
 plan-copies plan = record { count = plan.copies; first = plan.first; second = plan.second; third = plan.third }
 
-pub plan-said : (first second : ℕ) (plan : LinkPlan) → IsAddress first → IsAddress second → AreCopies plan.copies plan.first plan.second plan.third
-    → record_of 2 (codes "plan" ∷ address first ∷ address second ∷ copies_fields plan.copies plan.first plan.second plan.third) ≡ Ok (said.Plan (record { first = first; second = second }) (plan-copies plan))
+pub plan-said : (version first second : ℕ) (plan : LinkPlan) → 2 ≤ version → IsAddress first → IsAddress second → AreCopies plan.copies plan.first plan.second plan.third
+    → record_of version (codes "plan" ∷ address first ∷ address second ∷ copies_fields plan.copies plan.first plan.second plan.third) ≡ Ok (said.Plan (record { first = first; second = second }) (plan-copies plan))
 unfolding record_of plan_of
-plan-said first second plan a b h =
+plan-said version first second plan few a b h =
+    let from = from-format 2 version few in
     let front = codes "plan" ∷ address first ∷ address second ∷ [] in
-    rw (count-said front plan.copies plan.first plan.second plan.third h.few, copies-said front plan.copies plan.first plan.second plan.third h, address-said first a, address-said second b) refl
+    rw (from, count-said front plan.copies plan.first plan.second plan.third h.few, copies-said front plan.copies plan.first plan.second plan.third h, address-said first a, address-said second b) refl
 
 abbrev pub fate-copies : Fate → Copies
 fate-copies fate = record { count = fate.copies; first = fate.first; second = fate.second; third = fate.third }

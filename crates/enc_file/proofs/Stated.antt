@@ -3,6 +3,7 @@ use Rattle.std.proofs.Common.{◌≡◌, ℕ, suc, ◌+◌, ◌<◌, ◌≤◌, 
 use Rattle.std.specs.Prelude.{AllPairs, ◌==◌, nat_le, nat_lt, is_none, is_some, option_map, if◌then◌else◌}
 use Rattle.std.specs.List.{list_any, position, position_or_len}
 use Rattle.std.specs.Option.{option_and_then, option_to_list}
+use Rattle.std.specs.Str.{bytes_eq}
 use Rattle.std.proofs.Math.Bool.{and-false, and-true, or_comm, or-false}
 use Rattle.std.proofs.lemmas.Bool.{eqb-false, eqb-true, false≢true, leb-false}
 use Rattle.std.proofs.lemmas.Bool.Decides.{nat_tests}
@@ -13,11 +14,12 @@ use Rattle.acas_base.specs.Order.{fate_below, is_below, leg_below, miss_below, p
 use Rattle.acas_base.specs.declared.craft.CraftSpec.{CraftSpec}
 use Rattle.acas_base.specs.declared.craft.Leg.{Leg}
 use Rattle.acas_base.specs.declared.craft.Miss.{Miss}
+use Rattle.acas_base.specs.declared.label.Call.{Call}
 use Rattle.acas_base.specs.declared.link.Fate.{Fate}
 use Rattle.acas_base.specs.declared.link.LinkPlan.{LinkPlan}
-use Rattle.enc_file.specs.Conditions.{has_climb, is_fate_since, is_given, is_leg_since, is_miss_until, is_plan_for, is_same_pair}
-use Rattle.enc_file.specs.Earlier.{crafts_of, fate_by, fate_group, fates_of, for_index, for_pair, index_of, leg_by, leg_group, legs_of, miss_by, miss_group, misses_of, pair_number, plan_by, plan_group, plans_of, version_of, with_ceiling}
-use Rattle.enc_file.specs.Faults.{comes_late, fault_of, has_bad_mask, has_ceiling, holds, leaves_box, miscounts, names_unknown, repeats}
+use Rattle.enc_file.specs.Conditions.{has_climb, is_call_by, is_call_for, is_fate_since, is_given, is_leg_since, is_miss_until, is_plan_for, is_same_pair}
+use Rattle.enc_file.specs.Earlier.{call_by, calls_of, crafts_of, fate_by, fate_group, fates_of, for_index, for_pair, index_of, leg_by, leg_group, legs_of, miss_by, miss_group, misses_of, pair_number, plan_by, plan_group, plans_of, version_of, with_ceiling}
+use Rattle.enc_file.specs.Faults.{comes_late, fault_of, has_bad_mask, has_call, has_ceiling, holds, is_called, leaves_box, miscounts, names_unknown, repeats}
 use Rattle.enc_file.specs.declared.record.Addresses.{Addresses}
 use Rattle.enc_file.specs.declared.record.Copies.{Copies}
 use Rattle.enc_file.specs.declared.record.Course.{Course}
@@ -197,6 +199,36 @@ legs-stated crafts address course (said.Leg named other ∷ earlier) sound keeps
 legs-stated crafts address course (said.Craft craft ∷ earlier) sound keeps = legs-stated crafts address course earlier sound.0 (keeps-earlier (said.Craft craft) earlier crafts keeps)
 legs-stated crafts address course (said.Climb named limit ∷ earlier) sound keeps = legs-stated crafts address course earlier sound.0 (keeps-earlier (said.Climb named limit) earlier crafts keeps)
 legs-stated crafts address course (other ∷ earlier) sound keeps = legs-stated crafts address course earlier sound.0 keeps
+
+-- The call signs of an aircraft.
+pub calls-stated : (crafts : List CraftSpec) (address : ℕ) (earlier : List Record) → AreSound earlier → Keeps earlier crafts
+    → holds (for_index crafts address (has_call (calls_of earlier))) ≡ list_any (is_call_for address) earlier
+calls-stated crafts address [] sound keeps = none-tested (index_of crafts address)
+calls-stated crafts address (said.Call named sign ∷ earlier) sound keeps =
+    let parts = sound-parts earlier (said.Call named sign) sound.1 in
+    let k = some-of (index_of (crafts_of earlier) named) parts.1 in
+    let call = call_by sign k.0 in
+    let given : option_to_list (for_index (crafts_of earlier) named (call_by sign)) ≡ call ∷ [] = ap (λ o. option_to_list (option_map (call_by sign) o)) k.1 in
+    ap (λ xs. holds (for_index crafts address (λ craft. list_any (λ (other : Call). other.craft == craft) (calls_of earlier ++ xs)))) given
+    ∙ added (λ craft (other : Call). other.craft == craft) (calls_of earlier) call (index_of crafts address)
+    ∙ ap (λ b. b || holds (for_index crafts address (has_call (calls_of earlier)))) (same-index crafts named address k.0 (keeps named k.0 k.1))
+    ∙ ap (λ b. named == address || b) (calls-stated crafts address earlier sound.0 keeps)
+calls-stated crafts address (said.Craft craft ∷ earlier) sound keeps = calls-stated crafts address earlier sound.0 (keeps-earlier (said.Craft craft) earlier crafts keeps)
+calls-stated crafts address (said.Climb named limit ∷ earlier) sound keeps = calls-stated crafts address earlier sound.0 (keeps-earlier (said.Climb named limit) earlier crafts keeps)
+calls-stated crafts address (other ∷ earlier) sound keeps = calls-stated crafts address earlier sound.0 keeps
+
+-- And the aircraft of a call sign.
+pub signs-stated : (sign : List ℕ) (earlier : List Record) → AreSound earlier → is_called (calls_of earlier) sign ≡ list_any (is_call_by sign) earlier
+signs-stated sign [] sound = refl
+signs-stated sign (said.Call named other ∷ earlier) sound =
+    let parts = sound-parts earlier (said.Call named other) sound.1 in
+    let k = some-of (index_of (crafts_of earlier) named) parts.1 in
+    let given : option_to_list (for_index (crafts_of earlier) named (call_by other)) ≡ call_by other k.0 ∷ [] = ap (λ o. option_to_list (option_map (call_by other) o)) k.1 in
+    ap (λ xs. is_called (calls_of earlier ++ xs) sign) given
+    ∙ list_any-append (λ (call : Call). bytes_eq call.sign sign) (calls_of earlier) (call_by other k.0 ∷ [])
+    ∙ or_comm (is_called (calls_of earlier) sign) (bytes_eq other sign || false) ∙ ap (λ b. b || is_called (calls_of earlier) sign) (or-false (bytes_eq other sign))
+    ∙ ap (λ b. bytes_eq other sign || b) (signs-stated sign earlier sound.0)
+signs-stated sign (other ∷ earlier) sound = signs-stated sign earlier sound.0
 
 -- Of one pair.
 pair-test : (a b f c d g : ℕ) → b < 16 → d < 16 → (pair_number a b == pair_number c d && not (is_below (a, b, f) (c, d, g))) ≡ ((a == c && b == d) && nat_le g f)

@@ -9,13 +9,15 @@ use Rattle.std.proofs.lemmas.Option.{none-some, same_Some}
 use Rattle.acas_base.specs.Encounter.{is_active, most_crafts, plain_copy}
 use Rattle.acas_base.specs.declared.craft.Kind.{Kind}
 use Rattle.acas_base.specs.declared.link.CopyPlan.{CopyPlan}
-use Rattle.enc_file.specs.Conditions.{RecordKind, RunKind, GainsKind, CraftKind, ClimbKind, LegKind, MissKind, PlanKind, FateKind, EndKind, are_masked, has_climb, if_said, is_address_wrong, is_count_wrong, is_fate_since, is_given, is_leg_since, is_masked, is_miscounted, is_miss_until, is_number_wrong, is_outside, is_plan_for, is_repeat, is_unknown, no_copies}
+use Rattle.acas_base.specs.declared.setting.Profile.{Profile}
+use Rattle.enc_file.specs.Clock.{clock_in}
+use Rattle.enc_file.specs.Conditions.{RecordKind, RunKind, GainsKind, CraftKind, ClimbKind, LegKind, MissKind, PlanKind, FateKind, EndKind, ProfileKind, NameKind, ClockKind, CallKind, are_masked, has_climb, if_said, is_address_wrong, is_call_by, is_call_for, is_count_wrong, is_fate_since, is_given, is_leg_since, is_masked, is_miscounted, is_miss_until, is_number_wrong, is_outside, is_plan_for, is_repeat, is_unknown, no_copies}
 use Rattle.enc_file.specs.Earlier as gives
 use Rattle.flight.specs.Inside.{stays_inside}
-use Rattle.enc_file.specs.Faults.{are_masks_bad, fault_of, is_mask_bad}
+use Rattle.enc_file.specs.Faults.{are_masks_bad, fault_of, is_mask_bad, lacks_profile}
 use Rattle.enc_file.specs.Reading.{checked, unless_faulty}
-use Rattle.enc_file.specs.Saying.{climb_of, craft_of, end_of, fate_of, gains_of, leg_of, miss_of, needs, plan_of, run_of}
-use Rattle.enc_file.specs.Values.{address_in, copies_count, copies_from, count_in, field, kind_in, mask_in, number_in}
+use Rattle.enc_file.specs.Saying.{call_of, climb_of, clock_of, craft_of, end_of, fate_of, gains_of, leg_of, miss_of, name_of, needs, plan_of, profile_of, run_of}
+use Rattle.enc_file.specs.Values.{address_in, copies_count, copies_from, count_in, field, kind_in, label_in, mask_in, number_in, profile_in, sign_in}
 use Rattle.enc_file.specs.declared.record.Addresses.{Addresses}
 use Rattle.enc_file.specs.declared.record.Copies.{Copies}
 use Rattle.enc_file.specs.declared.record.Record.{Record}
@@ -23,7 +25,7 @@ use Rattle.enc_file.specs.declared.record.Record.TheVariants as said
 use Rattle.enc_file.specs.declared.refusal.Code.{Code}
 use Rattle.enc_file.specs.declared.refusal.Code.TheVariants as code
 use Rattle.enc_file.proofs.LowestCode.{lowest_of, or_else}
-use Rattle.enc_file.proofs.Stated.{AreSound, climb-stated, crafts-named, fates-stated, given-is, index-stated, legs-stated, misses-stated, plans-stated, unknown-stated}
+use Rattle.enc_file.proofs.Stated.{AreSound, calls-stated, climb-stated, crafts-named, fates-stated, given-is, index-stated, legs-stated, misses-stated, plans-stated, signs-stated, unknown-stated}
 
 -- The faults of a record of a kind.
 abbrev pub fault_by : List Record → RecordKind → List (List ℕ) → Code → Bool
@@ -60,6 +62,10 @@ read-by MissKind fields = miss_of fields
 read-by PlanKind fields = plan_of fields
 read-by FateKind fields = fate_of fields
 read-by EndKind fields = end_of fields
+read-by ProfileKind fields = profile_of fields
+read-by NameKind fields = name_of fields
+read-by ClockKind fields = clock_of fields
+read-by CallKind fields = call_of fields
 
 -- It is read as it says, and its lowest fault is told.
 abbrev pub IsTold : List Record → RecordKind → List (List ℕ) → Type 0
@@ -353,13 +359,53 @@ fate-told earlier fields sound =
     (sym (counted (length fields == 4) (length fields == 6) (length fields == 8) (length fields == 10)))
 
 end-at : (earlier : List Record) (fits : Bool) → fault_in (checked earlier (if fits then Ok said.End else Err code.Fields))
-    ≡ or_else (not (fits || false)) code.Fields (or_else (is_none (gives.run_of earlier) || not (list_any is_active (gives.crafts_of earlier))) code.Count (or_else (not (stays_inside (gives.encounter_by earlier))) code.Box None))
+    ≡ or_else (not (fits || false)) code.Fields (or_else (is_none (gives.run_of earlier) || (lacks_profile earlier || not (list_any is_active (gives.crafts_of earlier)))) code.Count (or_else (not (stays_inside (gives.encounter_by earlier))) code.Box None))
 end-at earlier false = refl
 end-at earlier true = fault-unless said.End _
 
 end-told : (earlier : List Record) (fields : List (List ℕ)) → IsTold earlier EndKind fields
 unfolding end_of
 end-told earlier fields = end-at earlier (length fields == 1)
+
+-- A record that is given once, with one field.
+once-at : {X : Type 0} (earlier : List Record) (now : X → Record) (given : Bool) → ((x : X) → fault_of earlier (now x) ≡ or_else given code.Repeat None) → (fits : Bool) (o : Option X)
+    → fault_in (checked earlier (if fits then needs o code.Number (λ x. Ok (now x)) else Err code.Fields))
+    ≡ or_else (not (fits || false)) code.Fields (or_else (is_none o) code.Number (or_else given code.Repeat None))
+once-at earlier now given fault false o = refl
+once-at earlier now given fault true None = refl
+once-at earlier now given fault true (Some x) = fault-unless (now x) (fault_of earlier (now x)) ∙ fault x
+
+profile-told : (earlier : List Record) (fields : List (List ℕ)) → IsTold earlier ProfileKind fields
+unfolding profile_of
+profile-told earlier fields = once-at earlier (λ profile. said.Profile profile) (is_some (gives.heading_of earlier).profile) (λ x. refl) (length fields == 2) (profile_in (field fields 1))
+
+name-told : (earlier : List Record) (fields : List (List ℕ)) → IsTold earlier NameKind fields
+unfolding name_of
+name-told earlier fields = once-at earlier (λ text. said.Name text) (is_some (gives.heading_of earlier).name) (λ x. refl) (length fields == 2) (label_in (field fields 1))
+
+clock-told : (earlier : List Record) (fields : List (List ℕ)) → IsTold earlier ClockKind fields
+unfolding clock_of
+clock-told earlier fields = once-at earlier (λ second. said.Clock second) (is_some (gives.heading_of earlier).clock) (λ x. refl) (length fields == 2) (clock_in (field fields 1))
+
+call-fault : (earlier : List Record) (address : ℕ) (sign : List ℕ) → AreSound earlier
+    → fault_of earlier (said.Call address sign)
+    ≡ or_else (list_any (is_call_for address) earlier || list_any (is_call_by sign) earlier) code.Repeat (or_else (not (is_given earlier address)) code.Unknown None)
+call-fault earlier address sign sound =
+    rw (calls-stated (gives.crafts_of earlier) address earlier sound (λ a k is. is), signs-stated sign earlier sound, index-stated earlier address) refl
+
+call-at : (earlier : List Record) → AreSound earlier → (fits : Bool) (sign : Option (List ℕ)) (address : Option ℕ)
+    → fault_in (checked earlier (if fits then needs sign code.Number (λ s. needs address code.Address (λ n. Ok (said.Call n s))) else Err code.Fields))
+    ≡ or_else (not (fits || false)) code.Fields (or_else (is_none sign) code.Number (or_else (is_none address) code.Address
+    (or_else (if_said address (λ n. list_any (is_call_for n) earlier) || if_said sign (λ s. list_any (is_call_by s) earlier)) code.Repeat
+    (or_else (if_said address (λ n. not (is_given earlier n))) code.Unknown None))))
+call-at earlier sound false sign address = refl
+call-at earlier sound true None address = refl
+call-at earlier sound true (Some s) None = refl
+call-at earlier sound true (Some s) (Some n) = fault-unless (said.Call n s) _ ∙ call-fault earlier n s sound
+
+call-told : (earlier : List Record) (fields : List (List ℕ)) → AreSound earlier → IsTold earlier CallKind fields
+unfolding call_of
+call-told earlier fields sound = call-at earlier sound (length fields == 3) (sign_in (field fields 2)) (address_in (field fields 1))
 
 pub kind-told : (earlier : List Record) (kind : RecordKind) (fields : List (List ℕ)) → AreSound earlier → IsTold earlier kind fields
 kind-told earlier RunKind fields sound = run-told earlier fields
@@ -371,3 +417,7 @@ kind-told earlier MissKind fields sound = miss-told earlier fields sound
 kind-told earlier PlanKind fields sound = plan-told earlier fields sound
 kind-told earlier FateKind fields sound = fate-told earlier fields sound
 kind-told earlier EndKind fields sound = end-told earlier fields
+kind-told earlier ProfileKind fields sound = profile-told earlier fields
+kind-told earlier NameKind fields sound = name-told earlier fields
+kind-told earlier ClockKind fields sound = clock-told earlier fields
+kind-told earlier CallKind fields sound = call-told earlier fields sound

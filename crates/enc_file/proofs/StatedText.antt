@@ -1,11 +1,11 @@
 -- A text is refused as the rules' conditions say.
 use Rattle.std.proofs.Common.{◌≡◌, ℕ, zero, suc, ◌+◌, Bool, true, false, ◌&&◌, not, List, [], ◌∷◌, length, Option, Some, None, refl, sym, ap, ◌∙◌, arith, inl, inr, ◌⊎◌, add-zero, ne_eqb, subst}
-use Rattle.std.specs.Prelude.{◌==◌, is_some, codes, find, if◌then◌else◌, slice_get, take, Result, Ok, Err}
+use Rattle.std.specs.Prelude.{◌==◌, ◌++◌, nat_le, is_some, codes, find, if◌then◌else◌, slice_get, take, Result, Ok, Err}
 use Rattle.std.specs.Str.{bytes_eq}
 use Rattle.std.proofs.lemmas.Option.{none-some, same_Some}
 use Rattle.std.proofs.lemmas.Slice.Eq.{bytes_eq-Decides}
 use Rattle.acas_base.specs.Encounter.{Parts}
-use Rattle.enc_file.specs.Conditions.{ArePassed, IsLowestFault, IsRefused, RecordKind, RunKind, GainsKind, CraftKind, ClimbKind, LegKind, MissKind, PlanKind, FateKind, EndKind, has_fault, kind_named, kind_word, said_by}
+use Rattle.enc_file.specs.Conditions.{ArePassed, IsLowestFault, IsRefused, RecordKind, RunKind, GainsKind, CraftKind, ClimbKind, LegKind, MissKind, PlanKind, FateKind, EndKind, ProfileKind, NameKind, ClockKind, CallKind, has_fault, kind_named, kind_word, said_by}
 use Rattle.enc_file.specs.Earlier.{encounter_by, has_ended, version_of}
 use Rattle.enc_file.specs.Faults.{fault_of}
 use Rattle.enc_file.specs.Reading.{checked, goes_on, missing_after, next_record, read_from, refusal_after, unless_faulty}
@@ -31,8 +31,18 @@ abbrev pub kind-result : Option RecordKind → List (List ℕ) → Result Record
 kind-result None fields = Err code.Kind
 kind-result (Some kind) fields = read-by kind fields
 
-abbrev by-name : Bool → List ℕ → List (List ℕ) → Result Record Code
-by-name second name fields =
+abbrev of-third : Bool → List ℕ → List (List ℕ) → Result Record Code
+of-third third name fields =
+    if third && bytes_eq name (codes "profile") then read-by ProfileKind fields else
+    if third && bytes_eq name (codes "name") then read-by NameKind fields else
+    if third && bytes_eq name (codes "clock") then read-by ClockKind fields else
+    if third && bytes_eq name (codes "call") then read-by CallKind fields else Err code.Kind
+
+abbrev third_kinds : Bool → List RecordKind
+third_kinds third = if third then ProfileKind ∷ NameKind ∷ ClockKind ∷ CallKind ∷ [] else []
+
+abbrev by-name : Bool → Bool → List ℕ → List (List ℕ) → Result Record Code
+by-name second third name fields =
     if bytes_eq name (codes "fate") then read-by FateKind fields else
     if bytes_eq name (codes "miss") then read-by MissKind fields else
     if bytes_eq name (codes "leg") then read-by LegKind fields else
@@ -41,24 +51,38 @@ by-name second name fields =
     if bytes_eq name (codes "gains") then read-by GainsKind fields else
     if bytes_eq name (codes "end") then read-by EndKind fields else
     if second && bytes_eq name (codes "climb") then read-by ClimbKind fields else
-    if second && bytes_eq name (codes "plan") then read-by PlanKind fields else Err code.Kind
+    if second && bytes_eq name (codes "plan") then read-by PlanKind fields else of-third third name fields
 
-abbrev kind_by : Bool → List ℕ → Option RecordKind
-kind_by second name = find (λ kind. bytes_eq name (kind_word kind)) (RunKind ∷ GainsKind ∷ CraftKind ∷ LegKind ∷ MissKind ∷ FateKind ∷ EndKind ∷ (if second then ClimbKind ∷ PlanKind ∷ [] else []))
+abbrev kind_by : Bool → Bool → List ℕ → Option RecordKind
+kind_by second third name =
+    find (λ kind. bytes_eq name (kind_word kind)) (RunKind ∷ GainsKind ∷ CraftKind ∷ LegKind ∷ MissKind ∷ FateKind ∷ EndKind ∷ (if second then ClimbKind ∷ PlanKind ∷ [] else []) ++ third_kinds third)
+
+-- A name of none of the first nine kinds.
+third-name : (third : Bool) (name : List ℕ) (fields : List (List ℕ)) → of-third third name fields ≡ kind-result (find (λ kind. bytes_eq name (kind_word kind)) (third_kinds third)) fields
+third-name false name fields = refl
+third-name true name fields = at (bytes_eq name (codes "profile")) (bytes_eq name (codes "name")) (bytes_eq name (codes "clock")) (bytes_eq name (codes "call")) where
+  at : (a b c d : Bool) → (if a then read-by ProfileKind fields else if b then read-by NameKind fields else if c then read-by ClockKind fields else if d then read-by CallKind fields else Err code.Kind)
+      ≡ kind-result (if a then Some ProfileKind else if b then Some NameKind else if c then Some ClockKind else if d then Some CallKind else None) fields
+  at true b c d = refl
+  at false true c d = refl
+  at false false true d = refl
+  at false false false true = refl
+  at false false false false = refl
 
 -- A name of none of the first seven kinds.
-later-name : (second : Bool) (name : List ℕ) (fields : List (List ℕ))
-    → (if second && bytes_eq name (codes "climb") then read-by ClimbKind fields else if second && bytes_eq name (codes "plan") then read-by PlanKind fields else Err code.Kind)
-    ≡ kind-result (find (λ kind. bytes_eq name (kind_word kind)) (if second then ClimbKind ∷ PlanKind ∷ [] else [])) fields
-later-name false name fields = refl
-later-name true name fields = at (bytes_eq name (codes "climb")) (bytes_eq name (codes "plan")) where
-  at : (a b : Bool) → (if a then read-by ClimbKind fields else if b then read-by PlanKind fields else Err code.Kind) ≡ kind-result (if a then Some ClimbKind else if b then Some PlanKind else None) fields
-  at true b = refl
-  at false true = refl
-  at false false = refl
+later-name : (second third : Bool) (name : List ℕ) (fields : List (List ℕ))
+    → (if second && bytes_eq name (codes "climb") then read-by ClimbKind fields else if second && bytes_eq name (codes "plan") then read-by PlanKind fields else of-third third name fields)
+    ≡ kind-result (find (λ kind. bytes_eq name (kind_word kind)) ((if second then ClimbKind ∷ PlanKind ∷ [] else []) ++ third_kinds third)) fields
+later-name false third name fields = third-name third name fields
+later-name true third name fields = at (bytes_eq name (codes "climb")) (bytes_eq name (codes "plan")) (of-third third name fields) (find (λ kind. bytes_eq name (kind_word kind)) (third_kinds third)) (third-name third name fields) where
+  at : (a b : Bool) (r : Result Record Code) (o : Option RecordKind) → r ≡ kind-result o fields
+      → (if a then read-by ClimbKind fields else if b then read-by PlanKind fields else r) ≡ kind-result (if a then Some ClimbKind else if b then Some PlanKind else o) fields
+  at true b r o same = refl
+  at false true r o same = refl
+  at false false r o same = same
 
-name-told : (second : Bool) (name : List ℕ) (fields : List (List ℕ)) → by-name second name fields ≡ kind-result (kind_by second name) fields
-name-told second name fields = elim (named-or name (codes "fate")) [
+name-told : (second third : Bool) (name : List ℕ) (fields : List (List ℕ)) → by-name second third name fields ≡ kind-result (kind_by second third name) fields
+name-told second third name fields = elim (named-or name (codes "fate")) [
   | inl e ↦ rw e refl
   | inr a ↦ elim (named-or name (codes "miss")) [
     | inl e ↦ rw e refl
@@ -72,7 +96,7 @@ name-told second name fields = elim (named-or name (codes "fate")) [
             | inl f ↦ rw f refl
             | inr f ↦ elim (named-or name (codes "end")) [
               | inl g ↦ rw g refl
-              | inr g ↦ rw (a, b, c, d, e, f, g) (later-name second name fields)
+              | inr g ↦ rw (a, b, c, d, e, f, g) (later-name second third name fields)
             ]
           ]
         ]
@@ -83,7 +107,7 @@ name-told second name fields = elim (named-or name (codes "fate")) [
 
 pub record-told : (version : ℕ) (fields : List (List ℕ)) → record_of version fields ≡ kind-result (kind_named version (field fields 0)) fields
 unfolding record_of
-record-told version fields = name-told (version == 2) (field fields 0) fields
+record-told version fields = name-told (nat_le 2 version) (nat_le 3 version) (field fields 0) fields
 
 -- The next record.
 
@@ -177,6 +201,10 @@ header-of (Some version) (said.Miss pair from to) is = absurd (cc is)
 header-of (Some version) (said.Plan pair copies) is = absurd (cc is)
 header-of (Some version) (said.Fate pair number copies) is = absurd (cc is)
 header-of (Some version) said.End is = absurd (cc is)
+header-of (Some version) (said.Profile profile) is = absurd (cc is)
+header-of (Some version) (said.Name text) is = absurd (cc is)
+header-of (Some version) (said.Clock second) is = absurd (cc is)
+header-of (Some version) (said.Call address sign) is = absurd (cc is)
 
 later-of : (last : Record) (before : List Record) (fields : List (List ℕ)) (b : Bool) (now : Record)
     → (if b then Err code.After else checked (last ∷ before) (record_of (version_of (last ∷ before)) fields)) ≡ Ok now → (fault_of (last ∷ before) now ≡ None) × (said_by (last ∷ before) fields ≡ Ok now)

@@ -16,8 +16,8 @@ use Rattle.acas_base.specs.declared.label.Call.{Call}
 use Rattle.acas_base.specs.declared.link.Fate.{Fate}
 use Rattle.acas_base.specs.declared.link.LinkPlan.{LinkPlan}
 use Rattle.acas_base.specs.declared.setting.Setting.{Setting}
-use Rattle.enc_file.specs.Earlier.{all_gains, by_group, crafts_of, encounter_by, fate_by, fate_group, fates_of, for_index, for_pair, has_ended, in_group, index_of, leg_by, leg_group, legs_of, miss_by, miss_group, misses_of, pair_number, plan_by, plan_group, plans_of, run_of, setting_by, usual_gains, version_of, with_ceiling}
-use Rattle.enc_file.specs.Faults.{comes_late, fault_of, miscounts}
+use Rattle.enc_file.specs.Earlier.{all_gains, by_group, call_by, call_group, calls_of, crafts_of, encounter_by, fate_by, fate_group, fates_of, for_index, for_pair, has_ended, heading_of, in_group, index_of, leg_by, leg_group, legs_of, miss_by, miss_group, misses_of, pair_number, plan_by, plan_group, plans_of, run_of, setting_by, usual_gains, version_of, with_ceiling}
+use Rattle.enc_file.specs.Faults.{comes_late, fault_of, lacks_profile, miscounts}
 use Rattle.enc_file.specs.Groups.{Lists, fate_masked, group_at, is_late, last_of, leg_masked, listed_fault, miss_masked, plan_masked}
 use Rattle.enc_file.specs.Reading.{refusal_after}
 use Rattle.enc_file.specs.Tables.{Adds, AreGoing, Holds, IsMade, Settles, grouped}
@@ -25,6 +25,7 @@ use Rattle.enc_file.specs.WellRead.{AreRead, IsNext, IsOfFormat, IsSaid}
 use Rattle.enc_file.specs.declared.record.Addresses.{Addresses}
 use Rattle.enc_file.specs.declared.record.Copies.{Copies}
 use Rattle.enc_file.specs.declared.record.Course.{Course}
+use Rattle.enc_file.specs.declared.record.Heading.{Heading}
 use Rattle.enc_file.specs.declared.record.Record.{Record}
 use Rattle.enc_file.specs.declared.record.Record.TheVariants as said
 use Rattle.enc_file.specs.declared.record.Run.{Run}
@@ -70,9 +71,11 @@ still-holds earlier old new kept h = subst (Holds earlier) (sym kept) (record {
   read = h.read;
   count = h.count;
   version = h.version;
+  heading = h.heading;
   run = h.run;
   gains = h.gains;
   crafts = h.crafts;
+  calls = h.calls;
   legs = h.legs;
   misses = h.misses;
   plans = h.plans;
@@ -154,9 +157,11 @@ held-leg earlier tables address course craft legs h going fine at new = record {
   read = more-read earlier tables (said.Leg address course) h going fine;
   count = ap (λ n. n + 1) h.count ∙ omega arith;
   version = h.version;
+  heading = h.heading;
   run = h.run;
   gains = h.gains;
   crafts = h.crafts;
+  calls = h.calls;
   legs = one-more leg_group (legs_of earlier) tables.legs legs CRAFTS craft (for_index (crafts_of earlier) address (leg_by course)) (leg_by course craft) h.legs refl (craft-within earlier address craft h.read at) (ap (option_map (leg_by course)) at) new;
   misses = h.misses;
   plans = h.plans;
@@ -172,9 +177,11 @@ held-miss earlier tables pair from to p misses h going fine at new = record {
   read = more-read earlier tables (said.Miss pair from to) h going fine;
   count = ap (λ n. n + 1) h.count ∙ omega arith;
   version = h.version;
+  heading = h.heading;
   run = h.run;
   gains = h.gains;
   crafts = h.crafts;
+  calls = h.calls;
   legs = h.legs;
   misses = one-more miss_group (misses_of earlier) tables.misses misses (CRAFTS * CRAFTS) (pair_number p.0 p.1) (for_pair (crafts_of earlier) pair (miss_by from to)) (miss_by from to p.0 p.1) h.misses refl (number-within earlier pair p h.read at) (for-pair-some (crafts_of earlier) pair (miss_by from to) p at) new;
   plans = h.plans;
@@ -190,9 +197,11 @@ held-plan earlier tables pair copies p plans h going fine at new = record {
   read = more-read earlier tables (said.Plan pair copies) h going fine;
   count = ap (λ n. n + 1) h.count ∙ omega arith;
   version = h.version;
+  heading = h.heading;
   run = h.run;
   gains = h.gains;
   crafts = h.crafts;
+  calls = h.calls;
   legs = h.legs;
   misses = h.misses;
   plans = one-more plan_group (plans_of earlier) tables.plans plans (CRAFTS * CRAFTS) (pair_number p.0 p.1) (for_pair (crafts_of earlier) pair (plan_by copies)) (plan_by copies p.0 p.1) h.plans refl (number-within earlier pair p h.read at) (for-pair-some (crafts_of earlier) pair (plan_by copies) p at) new;
@@ -208,14 +217,35 @@ held-fate earlier tables pair number copies p fates h going fine at new = record
   read = more-read earlier tables (said.Fate pair number copies) h going fine;
   count = ap (λ n. n + 1) h.count ∙ omega arith;
   version = h.version;
+  heading = h.heading;
   run = h.run;
   gains = h.gains;
   crafts = h.crafts;
+  calls = h.calls;
   legs = h.legs;
   misses = h.misses;
   plans = h.plans;
   fates = one-more fate_group (fates_of earlier) tables.fates fates (CRAFTS * CRAFTS) (pair_number p.0 p.1) (for_pair (crafts_of earlier) pair (fate_by number copies)) (fate_by number copies p.0 p.1) h.fates refl (number-within earlier pair p h.read at) (for-pair-some (crafts_of earlier) pair (fate_by number copies) p at) new;
   made = still-none earlier (said.Fate pair number copies ∷ earlier) tables.made h.made going.unended going.unended;
+}
+
+pub held-call : (earlier : List Record) (tables : Tables) (address : ℕ) (sign : List ℕ) (craft : ℕ) (calls : Vec Call Global)
+    → Holds earlier tables → AreGoing earlier → IsFine earlier (said.Call address sign) → index_of (crafts_of earlier) address ≡ Some craft → calls.items ≡ tables.calls.items ++ call_by sign craft ∷ []
+    → Holds (said.Call address sign ∷ earlier) (record tables { calls = calls; count = tables.count + 1 })
+held-call earlier tables address sign craft calls h going fine at new = record {
+  read = more-read earlier tables (said.Call address sign) h going fine;
+  count = ap (λ n. n + 1) h.count ∙ omega arith;
+  version = h.version;
+  heading = h.heading;
+  run = h.run;
+  gains = h.gains;
+  crafts = h.crafts;
+  calls = new ∙ ap (λ (xs : List Call). xs ++ call_by sign craft ∷ []) h.calls ∙ ap (λ o. calls_of earlier ++ option_to_list (option_map (call_by sign) o)) (sym at);
+  legs = h.legs;
+  misses = h.misses;
+  plans = h.plans;
+  fates = h.fates;
+  made = still-none earlier (said.Call address sign ∷ earlier) tables.made h.made going.unended going.unended;
 }
 
 pub held-climb : (earlier : List Record) (tables : Tables) (address : ℕ) (limit : ℤ) (crafts : Vec CraftSpec Global)
@@ -225,9 +255,11 @@ held-climb earlier tables address limit crafts h going fine new = record {
   read = more-read earlier tables (said.Climb address limit) h going fine;
   count = ap (λ n. n + 1) h.count ∙ omega arith;
   version = h.version;
+  heading = h.heading;
   run = h.run;
   gains = h.gains;
   crafts = new;
+  calls = h.calls;
   legs = h.legs;
   misses = h.misses;
   plans = h.plans;
@@ -239,31 +271,40 @@ held-climb earlier tables address limit crafts h going fine new = record {
 joined-are : {X : Type 0} (group : X → ℕ) (n : ℕ) (xs all : List X) (lists : List (List X)) → all ≡ flat_map (λ list. list) lists → lists ≡ grouped group n xs → all ≡ by_group group n xs
 joined-are group n xs all lists joined is = joined ∙ ap (flat_map (λ list. list)) is ∙ groups-joined group xs n
 
-parts-are : (earlier : List Record) (version : ℕ) (run : Run) (gains : TrackGains) (crafts : List CraftSpec) (legs : List Leg) (misses : List Miss) (plans : List LinkPlan) (fates : List Fate)
-    → version ≡ version_of earlier → run_of earlier ≡ Some run → gains ≡ all_gains earlier → crafts ≡ crafts_of earlier
+parts-are : (earlier : List Record) (version : ℕ) (heading : Heading) (run : Run) (gains : TrackGains) (calls : List Call) (crafts : List CraftSpec) (legs : List Leg) (misses : List Miss) (plans : List LinkPlan) (fates : List Fate)
+    → version ≡ version_of earlier → heading ≡ heading_of earlier → run_of earlier ≡ Some run → gains ≡ all_gains earlier → calls ≡ by_group call_group CRAFTS (calls_of earlier) → crafts ≡ crafts_of earlier
     → legs ≡ by_group leg_group CRAFTS (legs_of earlier) → misses ≡ by_group miss_group (CRAFTS * CRAFTS) (misses_of earlier)
     → plans ≡ by_group plan_group (CRAFTS * CRAFTS) (plans_of earlier) → fates ≡ by_group fate_group (CRAFTS * CRAFTS) (fates_of earlier)
-    → encounter_of (setting_by version run gains) [] crafts legs misses plans fates ≡ encounter_by earlier
-parts-are earlier version run gains crafts legs misses plans fates v r g c l m p f = rw (v, r, g, c, l, m, p, f) refl
+    → encounter_of (setting_by version heading run gains) calls crafts legs misses plans fates ≡ encounter_by earlier
+parts-are earlier version heading run gains calls crafts legs misses plans fates v d r g s c l m p f = rw (v, d, r, g, s, c, l, m, p, f) refl
 
 -- The parts that the tables give are those of the encounter that the records say.
 pub parts-held : (earlier : List Record) (tables : Tables) (run : Run) (gains : TrackGains) (setting : Setting) (calls : List Call) (crafts : List CraftSpec) (legs : List Leg) (misses : List Miss) (plans : List LinkPlan) (fates : List Fate)
-    → Holds earlier tables → tables.run ≡ Some run → gains ≡ unwrap_or tables.gains usual_gains → setting ≡ setting_by tables.version run gains → calls ≡ [] → crafts ≡ tables.crafts.items
+    → Holds earlier tables → tables.run ≡ Some run → gains ≡ unwrap_or tables.gains usual_gains → setting ≡ setting_by tables.version tables.heading run gains
+    → calls ≡ by_group call_group CRAFTS tables.calls.items → crafts ≡ tables.crafts.items
     → legs ≡ flat_map (λ list. list) tables.legs → misses ≡ flat_map (λ list. list) tables.misses → plans ≡ flat_map (λ list. list) tables.plans → fates ≡ flat_map (λ list. list) tables.fates
     → encounter_of setting calls crafts legs misses plans fates ≡ encounter_by earlier
-parts-held earlier tables run gains setting calls crafts legs misses plans fates h r g s none c l m p f =
+parts-held earlier tables run gains setting calls crafts legs misses plans fates h r g s signs c l m p f =
     ap (λ (it : Setting). encounter_of it calls crafts legs misses plans fates) s
-    ∙ ap (λ (signs : List Call). encounter_of (setting_by tables.version run gains) signs crafts legs misses plans fates) none
-    ∙ parts-are earlier tables.version run gains crafts legs misses plans fates h.version (sym h.run ∙ r) (g ∙ ap (λ o. unwrap_or o usual_gains) h.gains) (c ∙ h.crafts)
+    ∙ parts-are earlier tables.version tables.heading run gains calls crafts legs misses plans fates h.version h.heading (sym h.run ∙ r) (g ∙ ap (λ o. unwrap_or o usual_gains) h.gains)
+    (signs ∙ ap (by_group call_group CRAFTS) h.calls) (c ∙ h.crafts)
     (joined-are leg_group CRAFTS (legs_of earlier) legs tables.legs l h.legs) (joined-are miss_group (CRAFTS * CRAFTS) (misses_of earlier) misses tables.misses m h.misses)
     (joined-are plan_group (CRAFTS * CRAFTS) (plans_of earlier) plans tables.plans p h.plans) (joined-are fate_group (CRAFTS * CRAFTS) (fates_of earlier) fates tables.fates f h.fates)
 
+-- There is a run, and an active aircraft.
+pub run-held : (earlier : List Record) (tables : Tables) (run : Run) → Holds earlier tables → tables.run ≡ Some run → is_none (run_of earlier) ≡ false
+run-held earlier tables run h r = ap is_none (sym h.run ∙ r)
+
+pub active-held : (earlier : List Record) (tables : Tables) → Holds earlier tables → list_any is_active tables.crafts.items ≡ true → list_any is_active (crafts_of earlier) ≡ true
+active-held earlier tables h active = ap (list_any is_active) (sym h.crafts) ∙ active
+
 -- At the end nothing is missing.
-pub nothing-missing : (earlier : List Record) (tables : Tables) (run : Run) → Holds earlier tables → tables.run ≡ Some run → list_any is_active tables.crafts.items ≡ true → miscounts earlier said.End ≡ false
-nothing-missing earlier tables run h r active =
-    let given : is_none (run_of earlier) ≡ false = ap is_none (sym h.run ∙ r) in
-    let some : list_any is_active (crafts_of earlier) ≡ true = ap (list_any is_active) (sym h.crafts) ∙ active in
-    rw (given, some) refl
+pub nothing-missing : (earlier : List Record) (tables : Tables) (run : Run) → Holds earlier tables → tables.run ≡ Some run → lacks_profile earlier ≡ false → list_any is_active tables.crafts.items ≡ true
+    → miscounts earlier said.End ≡ false
+nothing-missing earlier tables run h r profile active =
+    let given = run-held earlier tables run h r in
+    let some = active-held earlier tables h active in
+    rw (given, profile, some) refl
 
 pub held-end : (earlier : List Record) (tables : Tables) (e : Parts) → Holds earlier tables → AreGoing earlier → fault_of earlier said.End ≡ None → e ≡ encounter_by earlier
     → Holds (said.End ∷ earlier) (record tables { made = Some e; count = tables.count + 1 })
@@ -271,9 +312,11 @@ held-end earlier tables e h going fine is = record {
   read = more-read earlier tables said.End h going (tt, tt, fine);
   count = ap (λ n. n + 1) h.count ∙ omega arith;
   version = h.version;
+  heading = h.heading;
   run = h.run;
   gains = h.gains;
   crafts = h.crafts;
+  calls = h.calls;
   legs = h.legs;
   misses = h.misses;
   plans = h.plans;

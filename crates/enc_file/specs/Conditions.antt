@@ -1,15 +1,17 @@
 -- The faults of a record as the rules state them: one condition for each code. A condition looks at the fields that it
 -- is about and at what the earlier records say. It doesn't matter what else is wrong with the record.
-use Rattle.std.specs.Prelude.{◌≡◌, ℕ, ◌+◌, ◌==◌, ◌<◌, ◌&&◌, ◌||◌, not, nat_le, nat_lt, if◌then◌else◌, Bool, true, false, pos, neg_ℤ, List, [], ◌∷◌, length, find, codes, Option, Some, None, is_none, is_some, count_ones, slice_get, take, Result, Ok}
+use Rattle.std.specs.Prelude.{◌≡◌, ℕ, ◌+◌, ◌==◌, ◌<◌, ◌&&◌, ◌||◌, not, nat_le, nat_lt, if◌then◌else◌, Bool, true, false, pos, neg_ℤ, List, [], ◌∷◌, ◌++◌, length, find, codes, Option, Some, None, is_none, is_some, count_ones, slice_get, take, Result, Ok}
 use Rattle.std.specs.List.{list_any}
 use Rattle.std.specs.Str.{bytes_eq}
 use Rattle.acas_base.specs.Encounter.{is_active, most_crafts}
 use Rattle.acas_base.specs.declared.craft.CraftSpec.{CraftSpec}
+use Rattle.enc_file.specs.Clock.{clock_in}
 use Rattle.enc_file.specs.Codes.{code_number}
-use Rattle.enc_file.specs.Earlier.{crafts_of, encounter_by, gains_of, has_ended, run_of, version_of}
+use Rattle.enc_file.specs.Earlier.{crafts_of, encounter_by, gains_of, has_ended, heading_of, run_of, version_of}
+use Rattle.enc_file.specs.Faults.{lacks_profile}
 use Rattle.flight.specs.Inside.{stays_inside}
 use Rattle.enc_file.specs.Saying.{header_of, record_of, version_in}
-use Rattle.enc_file.specs.Values.{address_in, copy_in, count_in, field, kind_in, mask_in, number_in}
+use Rattle.enc_file.specs.Values.{address_in, copy_in, count_in, field, kind_in, label_in, mask_in, number_in, profile_in, sign_in}
 use Rattle.enc_file.specs.declared.record.Addresses.{Addresses}
 use Rattle.enc_file.specs.declared.record.Record.{Record}
 use Rattle.enc_file.specs.declared.record.Record.TheVariants as said
@@ -28,6 +30,10 @@ pub data RecordKind : Type 0 where
   PlanKind : RecordKind
   FateKind : RecordKind
   EndKind : RecordKind
+  ProfileKind : RecordKind
+  NameKind : RecordKind
+  ClockKind : RecordKind
+  CallKind : RecordKind
 
 abbrev pub kind_word : RecordKind → List ℕ
 kind_word RunKind = codes "run"
@@ -39,10 +45,17 @@ kind_word MissKind = codes "miss"
 kind_word PlanKind = codes "plan"
 kind_word FateKind = codes "fate"
 kind_word EndKind = codes "end"
+kind_word ProfileKind = codes "profile"
+kind_word NameKind = codes "name"
+kind_word ClockKind = codes "clock"
+kind_word CallKind = codes "call"
 
--- The kinds of records of a format. Format 2 alone has ceilings and plans.
+-- The kinds of records of a format. Formats 2 and 3 have ceilings and plans. Format 3 alone has a profile, a name, a
+-- time of day and call signs.
 abbrev pub kinds_of : ℕ → List RecordKind
-kinds_of version = RunKind ∷ GainsKind ∷ CraftKind ∷ LegKind ∷ MissKind ∷ FateKind ∷ EndKind ∷ (if version == 2 then ClimbKind ∷ PlanKind ∷ [] else [])
+kinds_of version =
+    RunKind ∷ GainsKind ∷ CraftKind ∷ LegKind ∷ MissKind ∷ FateKind ∷ EndKind ∷ (if nat_le 2 version then ClimbKind ∷ PlanKind ∷ [] else [])
+    ++ (if nat_le 3 version then ProfileKind ∷ NameKind ∷ ClockKind ∷ CallKind ∷ [] else [])
 
 -- The kind that the first field names.
 abbrev pub kind_named : ℕ → List ℕ → Option RecordKind
@@ -59,6 +72,10 @@ counts_of MissKind = 5 ∷ []
 counts_of PlanKind = 3 ∷ 5 ∷ 7 ∷ 9 ∷ []
 counts_of FateKind = 4 ∷ 6 ∷ 8 ∷ 10 ∷ []
 counts_of EndKind = 1 ∷ []
+counts_of ProfileKind = 2 ∷ []
+counts_of NameKind = 2 ∷ []
+counts_of ClockKind = 2 ∷ []
+counts_of CallKind = 3 ∷ []
 
 abbrev pub is_count_wrong : RecordKind → List (List ℕ) → Bool
 is_count_wrong kind fields = not (list_any (λ n. length fields == n) (counts_of kind))
@@ -87,7 +104,7 @@ no_copy_at fields place = nat_lt (place + 1) (length fields) && is_none (copy_in
 abbrev pub no_copies : List (List ℕ) → ℕ → Bool
 no_copies fields place = no_copy_at fields place || (no_copy_at fields (place + 2) || no_copy_at fields (place + 4))
 
--- A number, the kind of an aircraft or a mask is wrong, or TO is below FROM.
+-- A number, the kind of an aircraft, a mask, a name, a time of day or a call sign is wrong, or TO is below FROM.
 abbrev pub is_number_wrong : RecordKind → List (List ℕ) → Bool
 is_number_wrong RunKind fields = no_count fields 1 1 600 || no_number fields 2 1000 15000
 is_number_wrong GainsKind fields = no_count fields 1 0 1024 || (no_count fields 2 0 1024 || (no_count fields 3 0 1024 || no_count fields 4 0 1024))
@@ -98,6 +115,10 @@ is_number_wrong MissKind fields = no_count fields 3 1 600 || (no_count fields 4 
 is_number_wrong PlanKind fields = no_copies fields 3
 is_number_wrong FateKind fields = no_count fields 3 1 600 || no_copies fields 4
 is_number_wrong EndKind fields = false
+is_number_wrong ProfileKind fields = is_none (profile_in (field fields 1))
+is_number_wrong NameKind fields = is_none (label_in (field fields 1))
+is_number_wrong ClockKind fields = is_none (clock_in (field fields 1))
+is_number_wrong CallKind fields = is_none (sign_in (field fields 2))
 
 -- The field at a place is no address.
 abbrev pub no_address : List (List ℕ) → ℕ → Bool
@@ -113,6 +134,7 @@ is_address_wrong LegKind fields = no_address fields 1
 is_address_wrong MissKind fields = no_pair fields
 is_address_wrong PlanKind fields = no_pair fields
 is_address_wrong FateKind fields = no_pair fields
+is_address_wrong CallKind fields = no_address fields 1
 is_address_wrong other fields = false
 
 -- An aircraft with this address was given. For `has_climb` it also has a ceiling.
@@ -121,6 +143,15 @@ is_given earlier address = list_any (λ (craft : CraftSpec). craft.address == ad
 
 abbrev pub has_climb : List Record → ℕ → Bool
 has_climb earlier address = list_any (λ (craft : CraftSpec). craft.address == address && is_some craft.ceiling) (crafts_of earlier)
+
+-- A call sign of this aircraft, and this call sign.
+abbrev pub is_call_for : ℕ → Record → Bool
+is_call_for address (said.Call other sign) = other == address
+is_call_for address other = false
+
+abbrev pub is_call_by : List ℕ → Record → Bool
+is_call_by sign (said.Call address other) = bytes_eq other sign
+is_call_by sign other = false
 
 -- The same two addresses, in the same order.
 abbrev pub is_same_pair : Addresses → Addresses → Bool
@@ -161,6 +192,11 @@ is_repeat earlier MissKind fields = if_pair fields (λ pair. if_said (count_in 1
 is_repeat earlier PlanKind fields = if_pair fields (λ pair. list_any (is_plan_for pair) earlier)
 is_repeat earlier FateKind fields = if_pair fields (λ pair. if_said (count_in 1 600 (field fields 3)) (λ number. list_any (is_fate_since pair number) earlier))
 is_repeat earlier EndKind fields = false
+is_repeat earlier ProfileKind fields = is_some (heading_of earlier).profile
+is_repeat earlier NameKind fields = is_some (heading_of earlier).name
+is_repeat earlier ClockKind fields = is_some (heading_of earlier).clock
+is_repeat earlier CallKind fields =
+    if_said (address_in (field fields 1)) (λ address. list_any (is_call_for address) earlier) || if_said (sign_in (field fields 2)) (λ sign. list_any (is_call_by sign) earlier)
 
 -- The address at a place names no earlier aircraft.
 abbrev pub is_stranger : List Record → List (List ℕ) → ℕ → Bool
@@ -176,12 +212,13 @@ is_unknown earlier LegKind fields = is_stranger earlier fields 1
 is_unknown earlier MissKind fields = is_pair_unknown earlier fields
 is_unknown earlier PlanKind fields = is_pair_unknown earlier fields
 is_unknown earlier FateKind fields = is_pair_unknown earlier fields
+is_unknown earlier CallKind fields = is_stranger earlier fields 1
 is_unknown earlier other fields = false
 
--- One aircraft too many; at the end, no run or no active aircraft.
+-- One aircraft too many; at the end, no run, no profile where it is needed, or no active aircraft.
 abbrev pub is_miscounted : List Record → RecordKind → List (List ℕ) → Bool
 is_miscounted earlier CraftKind fields = nat_le (most_crafts (version_of earlier)) (length (crafts_of earlier))
-is_miscounted earlier EndKind fields = is_none (run_of earlier) || not (list_any is_active (crafts_of earlier))
+is_miscounted earlier EndKind fields = is_none (run_of earlier) || (lacks_profile earlier || not (list_any is_active (crafts_of earlier)))
 is_miscounted earlier other fields = false
 
 -- At the end, an aircraft isn't in the box in some cycle of the run.

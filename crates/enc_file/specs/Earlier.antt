@@ -8,6 +8,7 @@ use Rattle.acas_base.specs.declared.TheConstants.{CRAFTS}
 use Rattle.acas_base.specs.declared.craft.CraftSpec.{CraftSpec}
 use Rattle.acas_base.specs.declared.craft.Leg.{Leg}
 use Rattle.acas_base.specs.declared.craft.Miss.{Miss}
+use Rattle.acas_base.specs.declared.label.Call.{Call}
 use Rattle.acas_base.specs.declared.link.Fate.{Fate}
 use Rattle.acas_base.specs.declared.link.LinkPlan.{LinkPlan}
 use Rattle.acas_base.specs.declared.setting.Profile.TheVariants.{One}
@@ -15,6 +16,7 @@ use Rattle.acas_base.specs.declared.setting.Setting.{Setting}
 use Rattle.enc_file.specs.declared.record.Addresses.{Addresses}
 use Rattle.enc_file.specs.declared.record.Copies.{Copies}
 use Rattle.enc_file.specs.declared.record.Course.{Course}
+use Rattle.enc_file.specs.declared.record.Heading.{Heading}
 use Rattle.enc_file.specs.declared.record.Record.{Record}
 use Rattle.enc_file.specs.declared.record.Record.TheVariants as said
 use Rattle.enc_file.specs.declared.record.Run.{Run}
@@ -25,6 +27,17 @@ abbrev pub version_of : List Record → ℕ
 version_of [] = 0
 version_of (said.Header version ∷ earlier) = version
 version_of (other ∷ earlier) = version_of earlier
+
+-- What a text says of itself.
+abbrev pub no_heading : Heading
+no_heading = record { profile = None; name = None; clock = None }
+
+abbrev pub heading_of : List Record → Heading
+heading_of [] = no_heading
+heading_of (said.Profile profile ∷ earlier) = record (heading_of earlier) { profile = Some profile }
+heading_of (said.Name text ∷ earlier) = record (heading_of earlier) { name = Some text }
+heading_of (said.Clock second ∷ earlier) = record (heading_of earlier) { clock = Some second }
+heading_of (other ∷ earlier) = heading_of earlier
 
 abbrev pub run_of : List Record → Option Run
 run_of [] = None
@@ -66,6 +79,9 @@ for_pair crafts pair f =
     if pair.first == pair.second then None else
     option_and_then (λ first. option_map (λ second. f first second) (index_of crafts pair.second)) (index_of crafts pair.first)
 
+abbrev pub call_by : List ℕ → ℕ → Call
+call_by sign craft = record { craft = craft; sign = sign }
+
 abbrev pub leg_by : Course → ℕ → Leg
 leg_by course craft = record { craft = craft; from = course.from; vx = course.vx; vy = course.vy; vz = course.vz }
 
@@ -93,7 +109,12 @@ fate_by number copies sender receiver = record {
   third = copies.third;
 }
 
--- The legs, misses, plans and fates, in the order of the text. They name aircraft by their indices.
+-- The call signs, legs, misses, plans and fates, in the order of the text. They name aircraft by their indices.
+abbrev pub calls_of : List Record → List Call
+calls_of [] = []
+calls_of (said.Call address sign ∷ earlier) = calls_of earlier ++ option_to_list (for_index (crafts_of earlier) address (call_by sign))
+calls_of (other ∷ earlier) = calls_of earlier
+
 abbrev pub legs_of : List Record → List Leg
 legs_of [] = []
 legs_of (said.Leg address course ∷ earlier) = legs_of earlier ++ option_to_list (for_index (crafts_of earlier) address (leg_by course))
@@ -117,6 +138,9 @@ fates_of (other ∷ earlier) = fates_of earlier
 -- The number of an ordered pair of aircraft. Pairs are ordered by the first index, then by the second.
 abbrev pub pair_number : ℕ → ℕ → ℕ
 pair_number first second = first * CRAFTS + second
+
+abbrev pub call_group : Call → ℕ
+call_group call = call.craft
 
 abbrev pub leg_group : Leg → ℕ
 leg_group leg = leg.craft
@@ -148,23 +172,22 @@ all_gains earlier = unwrap_or (gains_of earlier) usual_gains
 abbrev pub whole_run : List Record → Run
 whole_run earlier = unwrap_or (run_of earlier) (record { cycles = 0; elevation = pos 0 })
 
--- The setting of a text of format 1 or 2 with this version, run and gains. It has profile 1, no name and no time of
--- day, since these formats have no records for them.
-abbrev pub setting_by : ℕ → Run → TrackGains → Setting
-setting_by version run gains = record {
+-- The setting of a text. Where it gives no profile, it has profile 1: formats 1 and 2 have no record for it.
+abbrev pub setting_by : ℕ → Heading → Run → TrackGains → Setting
+setting_by version heading run gains = record {
   version = version;
-  profile = One;
+  profile = unwrap_or heading.profile One;
   cycles = run.cycles;
   elevation = run.elevation;
   range = gains.range;
   altitude = gains.altitude;
-  name = None;
-  clock = None;
+  name = heading.name;
+  clock = heading.clock;
 }
 
--- The encounter that these records say. They say no call signs.
+-- The encounter that these records say.
 abbrev pub encounter_by : List Record → Parts
 encounter_by earlier =
-    encounter_of (setting_by (version_of earlier) (whole_run earlier) (all_gains earlier)) [] (crafts_of earlier)
+    encounter_of (setting_by (version_of earlier) (heading_of earlier) (whole_run earlier) (all_gains earlier)) (by_group call_group CRAFTS (calls_of earlier)) (crafts_of earlier)
     (by_group leg_group CRAFTS (legs_of earlier)) (by_group miss_group (CRAFTS * CRAFTS) (misses_of earlier))
     (by_group plan_group (CRAFTS * CRAFTS) (plans_of earlier)) (by_group fate_group (CRAFTS * CRAFTS) (fates_of earlier))

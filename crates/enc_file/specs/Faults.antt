@@ -2,12 +2,14 @@
 use Rattle.std.specs.Prelude.{ℕ, ◌==◌, ◌&&◌, ◌||◌, not, nat_le, nat_lt, if◌then◌else◌, Bool, false, List, length, Option, Some, None, is_none, is_some, slice_get, count_ones}
 use Rattle.std.specs.List.{list_any}
 use Rattle.std.specs.Option.{option_map_or}
+use Rattle.std.specs.Str.{bytes_eq}
 use Rattle.acas_base.specs.Encounter.{is_active, most_crafts}
 use Rattle.acas_base.specs.Order.{fate_below, leg_below, miss_below, plan_below}
 use Rattle.acas_base.specs.declared.craft.CraftSpec.{CraftSpec}
+use Rattle.acas_base.specs.declared.label.Call.{Call}
 use Rattle.acas_base.specs.declared.link.CopyPlan.{CopyPlan}
 use Rattle.flight.specs.Inside.{stays_inside}
-use Rattle.enc_file.specs.Earlier.{crafts_of, encounter_by, fate_by, fate_group, fates_of, for_index, for_pair, gains_of, index_of, leg_by, leg_group, legs_of, miss_by, miss_group, misses_of, pair_number, plan_by, plan_group, plans_of, run_of, version_of}
+use Rattle.enc_file.specs.Earlier.{calls_of, crafts_of, encounter_by, fate_by, fate_group, fates_of, for_index, for_pair, gains_of, heading_of, index_of, leg_by, leg_group, legs_of, miss_by, miss_group, misses_of, pair_number, plan_by, plan_group, plans_of, run_of, version_of}
 use Rattle.enc_file.specs.declared.record.Record.{Record}
 use Rattle.enc_file.specs.declared.record.Record.TheVariants as said
 use Rattle.enc_file.specs.declared.refusal.Code.{Code}
@@ -21,6 +23,13 @@ holds (Some b) = b
 abbrev pub has_ceiling : List CraftSpec → ℕ → Bool
 has_ceiling crafts i = option_map_or (λ (craft : CraftSpec). is_some craft.ceiling) (slice_get crafts i) false
 
+-- An aircraft has a call sign, and a call sign is one of an aircraft.
+abbrev pub has_call : List Call → ℕ → Bool
+has_call calls i = list_any (λ (call : Call). call.craft == i) calls
+
+abbrev pub is_called : List Call → List ℕ → Bool
+is_called calls sign = list_any (λ (call : Call). bytes_eq call.sign sign) calls
+
 -- Some earlier record of its group doesn't stand before it.
 abbrev pub comes_late : {X : Type 0} → (X → ℕ) → (X → X → Bool) → List X → X → Bool
 comes_late group below earlier x = list_any (λ last. group last == group x && not (below last x)) earlier
@@ -28,6 +37,10 @@ comes_late group below earlier x = list_any (λ last. group last == group x && n
 -- The record gives what was given before, or it doesn't come after what was given before.
 abbrev pub repeats : List Record → Record → Bool
 repeats earlier (said.Header version) = false
+repeats earlier (said.Profile profile) = is_some (heading_of earlier).profile
+repeats earlier (said.Name text) = is_some (heading_of earlier).name
+repeats earlier (said.Clock second) = is_some (heading_of earlier).clock
+repeats earlier (said.Call address sign) = holds (for_index (crafts_of earlier) address (has_call (calls_of earlier))) || is_called (calls_of earlier) sign
 repeats earlier (said.Run run) = is_some (run_of earlier)
 repeats earlier (said.Gains gains) = is_some (gains_of earlier)
 repeats earlier (said.Craft craft) = is_some (index_of (crafts_of earlier) craft.address)
@@ -40,6 +53,7 @@ repeats earlier said.End = false
 
 -- It names an aircraft that wasn't given, or one aircraft twice.
 abbrev pub names_unknown : List Record → Record → Bool
+names_unknown earlier (said.Call address sign) = is_none (index_of (crafts_of earlier) address)
 names_unknown earlier (said.Climb address limit) = is_none (index_of (crafts_of earlier) address)
 names_unknown earlier (said.Leg address course) = is_none (index_of (crafts_of earlier) address)
 names_unknown earlier (said.Miss pair from to) = is_none (for_pair (crafts_of earlier) pair pair_number)
@@ -47,10 +61,14 @@ names_unknown earlier (said.Plan pair copies) = is_none (for_pair (crafts_of ear
 names_unknown earlier (said.Fate pair number copies) = is_none (for_pair (crafts_of earlier) pair pair_number)
 names_unknown earlier other = false
 
--- There are too many aircraft; at the end, there is no run, or nobody is active.
+-- Format 3 needs a profile.
+abbrev pub lacks_profile : List Record → Bool
+lacks_profile earlier = nat_le 3 (version_of earlier) && is_none (heading_of earlier).profile
+
+-- There are too many aircraft; at the end, there is no run, or no profile where it is needed, or nobody is active.
 abbrev pub miscounts : List Record → Record → Bool
 miscounts earlier (said.Craft craft) = nat_le (most_crafts (version_of earlier)) (length (crafts_of earlier))
-miscounts earlier said.End = is_none (run_of earlier) || not (list_any is_active (crafts_of earlier))
+miscounts earlier said.End = is_none (run_of earlier) || (lacks_profile earlier || not (list_any is_active (crafts_of earlier)))
 miscounts earlier other = false
 
 -- At the end, an aircraft isn't in the box in some cycle of the run.

@@ -3,6 +3,7 @@ pub mod Rows
 pub mod Spelling
 pub mod Canonical
 pub mod Codes
+pub mod Clock
 pub mod Values
 pub mod Saying
 pub mod Earlier

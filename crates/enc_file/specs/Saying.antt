@@ -1,7 +1,8 @@
 -- What a record says by itself. Numbers are read before addresses, so that the fault with the lowest code is reported.
-use Rattle.std.specs.Prelude.{ℕ, ◌==◌, ◌&&◌, nat_lt, if◌then◌else◌, ℤ, pos, neg_ℤ, List, length, codes, Option, Some, None, Result, Ok, Err}
+use Rattle.std.specs.Prelude.{ℕ, ◌==◌, ◌&&◌, nat_le, nat_lt, if◌then◌else◌, ℤ, pos, neg_ℤ, List, length, codes, Option, Some, None, Result, Ok, Err}
 use Rattle.std.specs.Str.{bytes_eq}
-use Rattle.enc_file.specs.Values.{address_in, copies_count, copies_from, count_in, field, kind_in, number_in}
+use Rattle.enc_file.specs.Clock.{clock_in}
+use Rattle.enc_file.specs.Values.{address_in, copies_count, copies_from, count_in, field, kind_in, label_in, number_in, profile_in, sign_in}
 use Rattle.enc_file.specs.declared.record.Addresses.{Addresses}
 use Rattle.enc_file.specs.declared.record.Record.{Record}
 use Rattle.enc_file.specs.declared.record.Record.TheVariants as said
@@ -29,7 +30,7 @@ with_fields fields count what = if length fields == count then what else Err cod
 
 -- The version of the format that a header says.
 unfoldable pub version_in : List (List ℕ) → Option ℕ
-version_in fields = if length fields == 2 && bytes_eq (field fields 0) (codes "encounter") then count_in 1 2 (field fields 1) else None
+version_in fields = if length fields == 2 && bytes_eq (field fields 0) (codes "encounter") then count_in 1 3 (field fields 1) else None
 
 -- The first record.
 abbrev pub header_of : List (List ℕ) → Result Record Code
@@ -104,14 +105,38 @@ fate_of fields =
     needs_pair fields (λ pair.
     Ok (said.Fate pair number copies)))))
 
+unfoldable pub profile_of : List (List ℕ) → Result Record Code
+profile_of fields = with_fields fields 2 (needs (profile_in (field fields 1)) code.Number (λ profile. Ok (said.Profile profile)))
+
+unfoldable pub name_of : List (List ℕ) → Result Record Code
+name_of fields = with_fields fields 2 (needs (label_in (field fields 1)) code.Number (λ text. Ok (said.Name text)))
+
+unfoldable pub clock_of : List (List ℕ) → Result Record Code
+clock_of fields = with_fields fields 2 (needs (clock_in (field fields 1)) code.Number (λ second. Ok (said.Clock second)))
+
+unfoldable pub call_of : List (List ℕ) → Result Record Code
+call_of fields =
+    with_fields fields 3 (
+    needs (sign_in (field fields 2)) code.Number (λ sign.
+    needs_address fields 1 (λ address.
+    Ok (said.Call address sign))))
+
 unfoldable pub end_of : List (List ℕ) → Result Record Code
 end_of fields = with_fields fields 1 (Ok said.End)
 
--- The kinds of records that format 2 alone has.
+-- The kinds of records that format 3 alone has.
+abbrev pub of_format_3 : ℕ → List (List ℕ) → Result Record Code
+of_format_3 version fields =
+    if nat_le 3 version && bytes_eq (field fields 0) (codes "profile") then profile_of fields else
+    if nat_le 3 version && bytes_eq (field fields 0) (codes "name") then name_of fields else
+    if nat_le 3 version && bytes_eq (field fields 0) (codes "clock") then clock_of fields else
+    if nat_le 3 version && bytes_eq (field fields 0) (codes "call") then call_of fields else Err code.Kind
+
+-- The kinds of records that format 1 hasn't.
 abbrev pub of_format_2 : ℕ → List (List ℕ) → Result Record Code
 of_format_2 version fields =
-    if version == 2 && bytes_eq (field fields 0) (codes "climb") then climb_of fields else
-    if version == 2 && bytes_eq (field fields 0) (codes "plan") then plan_of fields else Err code.Kind
+    if nat_le 2 version && bytes_eq (field fields 0) (codes "climb") then climb_of fields else
+    if nat_le 2 version && bytes_eq (field fields 0) (codes "plan") then plan_of fields else of_format_3 version fields
 
 -- A later record, by its kind.
 unfoldable pub record_of : ℕ → List (List ℕ) → Result Record Code

@@ -1,5 +1,5 @@
 -- The records of an encounter's canonical text, each as its fields.
-use Rattle.std.specs.Prelude.{ℕ, ℤ, pos, List, [], ◌∷◌, take, codes, Option, Some, None}
+use Rattle.std.specs.Prelude.{ℕ, ℤ, pos, if◌then◌else◌, nat_le, List, [], ◌∷◌, take, codes, Option, Some, None}
 use Rattle.std.specs.Fmt.{signed_decimal}
 use Rattle.std.specs.List.{flat_map}
 use Rattle.acas_base.specs.Encounter.{address_in}
@@ -9,10 +9,14 @@ use Rattle.acas_base.specs.declared.craft.Kind.{Kind}
 use Rattle.acas_base.specs.declared.craft.Kind.TheVariants.{Ra, Ta, Xpdr}
 use Rattle.acas_base.specs.declared.craft.Leg.{Leg}
 use Rattle.acas_base.specs.declared.craft.Miss.{Miss}
+use Rattle.acas_base.specs.declared.label.Call.{Call}
 use Rattle.acas_base.specs.declared.link.CopyPlan.{CopyPlan}
 use Rattle.acas_base.specs.declared.link.Fate.{Fate}
 use Rattle.acas_base.specs.declared.link.LinkPlan.{LinkPlan}
+use Rattle.acas_base.specs.declared.setting.Profile.{Profile}
+use Rattle.acas_base.specs.declared.setting.Profile.TheVariants.{One, Two}
 use Rattle.acas_text.specs.Hex.{hex}
+use Rattle.plot_axes.specs.Clock.{clock_text}
 pub use Rattle.acas_lines.specs.Lines.{line_of}
 
 -- A number that is at least 0.
@@ -36,6 +40,33 @@ address_at crafts i = address (address_in crafts i)
 abbrev pub header_record : ℕ → List (List ℕ)
 header_record version = codes "encounter" ∷ number version ∷ []
 
+-- The profile, which format 3 alone says.
+abbrev pub profile_text : Profile → List ℕ
+profile_text One = codes "1"
+profile_text Two = codes "2"
+
+abbrev pub profile_record : Profile → List (List ℕ)
+profile_record profile = codes "profile" ∷ profile_text profile ∷ []
+
+abbrev pub profile_records : ℕ → Profile → List (List (List ℕ))
+profile_records version profile = if nat_le 3 version then profile_record profile ∷ [] else []
+
+-- The name, if there is one.
+abbrev pub name_record : List ℕ → List (List ℕ)
+name_record text = codes "name" ∷ text ∷ []
+
+abbrev pub name_records : Option (List ℕ) → List (List (List ℕ))
+name_records None = []
+name_records (Some text) = name_record text ∷ []
+
+-- The time of day in cycle 1, if it is given.
+abbrev pub clock_record : ℕ → List (List ℕ)
+clock_record second = codes "clock" ∷ clock_text second ∷ []
+
+abbrev pub clock_records : Option ℕ → List (List (List ℕ))
+clock_records None = []
+clock_records (Some second) = clock_record second ∷ []
+
 abbrev pub run_record : ℕ → ℤ → List (List ℕ)
 run_record cycles elevation = codes "run" ∷ number cycles ∷ signed_decimal elevation ∷ []
 
@@ -56,6 +87,13 @@ climb_of n (Some limit) = climb_record n limit ∷ []
 
 abbrev pub climb_records : CraftSpec → List (List (List ℕ))
 climb_records craft = climb_of craft.address craft.ceiling
+
+-- The call sign of an aircraft.
+abbrev pub call_fields : ℕ → List ℕ → List (List ℕ)
+call_fields n sign = codes "call" ∷ address n ∷ sign ∷ []
+
+abbrev pub call_record : List CraftSpec → Call → List (List ℕ)
+call_record crafts call = call_fields (address_in crafts call.craft) call.sign
 
 -- A leg of the aircraft with an address.
 abbrev pub leg_fields : ℕ → Leg → List (List ℕ)

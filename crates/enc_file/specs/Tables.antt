@@ -4,7 +4,7 @@ use Rattle.std.specs.List.{range_with_len}
 use Rattle.std.specs.Result.{IsErrAnd}
 use Rattle.acas_base.specs.Encounter.{Parts}
 use Rattle.acas_base.specs.declared.TheConstants.{CRAFTS}
-use Rattle.enc_file.specs.Earlier.{crafts_of, encounter_by, fate_group, fates_of, gains_of, has_ended, in_group, leg_group, legs_of, miss_group, misses_of, plan_group, plans_of, run_of, version_of}
+use Rattle.enc_file.specs.Earlier.{calls_of, crafts_of, encounter_by, fate_group, fates_of, gains_of, has_ended, heading_of, in_group, leg_group, legs_of, miss_group, misses_of, plan_group, plans_of, run_of, version_of}
 use Rattle.enc_file.specs.Faults.{fault_of, miscounts}
 use Rattle.enc_file.specs.Reading.{next_record, refusal_after}
 use Rattle.enc_file.specs.WellRead.{AreRead}
@@ -28,16 +28,19 @@ pub record Holds (earlier : List Record) (tables : Tables) : Type 0 where
   pub read : AreRead earlier
   pub count : tables.count ≡ length earlier
   pub version : tables.version ≡ version_of earlier
+  pub heading : tables.heading ≡ heading_of earlier
   pub run : tables.run ≡ run_of earlier
   pub gains : tables.gains ≡ gains_of earlier
   pub crafts : tables.crafts.items ≡ crafts_of earlier
+  pub calls : tables.calls.items ≡ calls_of earlier
   pub legs : tables.legs ≡ grouped leg_group CRAFTS (legs_of earlier)
   pub misses : tables.misses ≡ grouped miss_group (CRAFTS * CRAFTS) (misses_of earlier)
   pub plans : tables.plans ≡ grouped plan_group (CRAFTS * CRAFTS) (plans_of earlier)
   pub fates : tables.fates ≡ grouped fate_group (CRAFTS * CRAFTS) (fates_of earlier)
   pub made : IsMade earlier tables.made
 
--- The encounter that the records so far say. There is none where they give no run, or no active aircraft.
+-- The encounter that the records so far say. There is none where they give no run, no profile that is needed, or no
+-- active aircraft.
 abbrev pub IsSoFar : List Record → Option Parts → Type 0
 IsSoFar earlier made = MatchOption made (miscounts earlier End ≡ true) (λ e. (miscounts earlier End ≡ false) × (e ≡ encounter_by earlier))
 

@@ -5,9 +5,12 @@ use Rattle.std.specs.Option.{option_and_then}
 use Rattle.std.specs.Str.{bytes_eq}
 use Rattle.std.specs.Str.Parse.{digits_value, signed_digits_value}
 use Rattle.acas_base.specs.Encounter.{plain_copy}
+use Rattle.acas_base.specs.Labels.{is_call_sign, is_label}
 use Rattle.acas_base.specs.declared.craft.Kind.{Kind}
 use Rattle.acas_base.specs.declared.craft.Kind.TheVariants.{Ra, Ta, Xpdr}
 use Rattle.acas_base.specs.declared.link.CopyPlan.{CopyPlan}
+use Rattle.acas_base.specs.declared.setting.Profile.{Profile}
+use Rattle.acas_base.specs.declared.setting.Profile.TheVariants.{One, Two}
 use Rattle.acas_text.specs.Hex.{hex}
 use Rattle.enc_file.specs.declared.record.Copies.{Copies}
 
@@ -44,6 +47,19 @@ kind_in bytes =
     if bytes_eq bytes (codes "RA") then Some Ra else
     if bytes_eq bytes (codes "TA") then Some Ta else
     if bytes_eq bytes (codes "XPDR") then Some Xpdr else None
+
+-- The profile whose number a field is.
+abbrev pub profile_in : List ℕ → Option Profile
+profile_in bytes =
+    if bytes_eq bytes (codes "1") then Some One else
+    if bytes_eq bytes (codes "2") then Some Two else None
+
+-- A text, where it is a label, and where it is a call sign.
+abbrev pub label_in : List ℕ → Option (List ℕ)
+label_in bytes = if is_label bytes then Some bytes else None
+
+abbrev pub sign_in : List ℕ → Option (List ℕ)
+sign_in bytes = if is_call_sign bytes then Some bytes else None
 
 -- A copy: the commits for which it is held back, and the mask.
 abbrev pub copy_in : List ℕ → List ℕ → Option CopyPlan

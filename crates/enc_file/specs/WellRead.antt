@@ -1,6 +1,7 @@
 -- What is known of the records before the next one.
-use Rattle.std.specs.Prelude.{◌≡◌, ℕ, ◌<◌, ◌≤◌, false, List, [], ◌∷◌, None}
+use Rattle.std.specs.Prelude.{◌≡◌, ℕ, ◌<◌, ◌≤◌, false, IsTrue, List, [], ◌∷◌, None}
 use Rattle.acas_base.specs.Encounter.{IsAltitude, IsCraft, IsElevation, IsGains, IsVersion, plain_copy}
+use Rattle.acas_base.specs.Labels.{is_call_sign, is_label}
 use Rattle.acas_base.specs.Ranges.{IsCycle, IsWithin}
 use Rattle.acas_base.specs.declared.craft.CraftSpec.{CraftSpec}
 use Rattle.acas_base.specs.declared.link.CopyPlan.{CopyPlan}
@@ -60,12 +61,20 @@ IsSaid (said.Miss pair from to) = AreCycles from to
 IsSaid (said.Plan pair copies) = AreCopiesSaid copies
 IsSaid (said.Fate pair number copies) = IsCycle number × AreCopiesSaid copies
 IsSaid said.End = Unit {0}
+IsSaid (said.Profile profile) = Unit {0}
+IsSaid (said.Name text) = IsTrue (is_label text)
+IsSaid (said.Clock second) = second < 86400
+IsSaid (said.Call address sign) = IsTrue (is_call_sign sign)
 
 -- It is of a kind that the format has after its header.
 abbrev pub IsOfFormat : ℕ → Record → Type 0
 IsOfFormat version (said.Header other) = ⊥
-IsOfFormat version (said.Climb address limit) = version ≡ 2
-IsOfFormat version (said.Plan pair copies) = version ≡ 2
+IsOfFormat version (said.Climb address limit) = 2 ≤ version
+IsOfFormat version (said.Plan pair copies) = 2 ≤ version
+IsOfFormat version (said.Profile profile) = 3 ≤ version
+IsOfFormat version (said.Name text) = 3 ≤ version
+IsOfFormat version (said.Clock second) = 3 ≤ version
+IsOfFormat version (said.Call address sign) = 3 ≤ version
 IsOfFormat version other = Unit {0}
 
 -- A record that stands well after those before it.

@@ -4,13 +4,13 @@ ghost use Rattle.std.specs.List.{flat_map};
 ghost use Rattle.acas_base.specs.declared.craft.CraftSpec.{CraftSpec};
 ghost use Rattle.acas_io.specs.Stream.{Puts};
 ghost use Rattle.enc_file.specs.Canonical.{canonical_text};
-ghost use Rattle.enc_file.specs.Spelling.{climb_records, line_of};
+ghost use Rattle.enc_file.specs.Spelling.{climb_records, clock_records, line_of, name_records, profile_records};
 
 use crate::spelling::{
-    climb_line, end_line, gains_line, header_line, run_line, spell_craft, spell_fate, spell_leg,
-    spell_miss, spell_plan,
+    climb_line, clock_line, end_line, gains_line, header_line, name_line, profile_line, run_line,
+    spell_call, spell_craft, spell_fate, spell_leg, spell_miss, spell_plan,
 };
-use acas_base::{CraftSpec, Encounter, Fate, Leg, LinkPlan, Miss};
+use acas_base::{Call, CraftSpec, Encounter, Fate, Leg, LinkPlan, Miss};
 use acas_io::{Failed, Sink};
 use acas_lines::{LineSink, Text, write_text};
 use acas_text::Line;
@@ -32,6 +32,16 @@ impl Spelled for CraftSpec {
 
     fn spell(&self, _: &[CraftSpec], line: &mut Line) {
         spell_craft(line, self)
+    }
+}
+
+impl Spelled for Call {
+    ghost use Rattle.enc_file.specs.Spelling.{call_record, line_of};
+
+    ghost spelling = { λ crafts call. line_of (call_record crafts call) };
+
+    fn spell(&self, crafts: &[CraftSpec], line: &mut Line) {
+        spell_call(line, crafts, self)
     }
 }
 
@@ -87,6 +97,33 @@ fn put_each<T: Spelled, S: LineSink>(crafts: &[CraftSpec], records: &[T], sink: 
     }
 }
 
+// Puts the line of the profile, where the format has one.
+fn put_profile<S: LineSink>(encounter: &Encounter, sink: &mut S)
+    ensures { S.took sink.old sink.new (map line_of (profile_records encounter.now.version encounter.now.profile)) }
+{
+    if 3 <= encounter.version() {
+        sink.line(&profile_line(encounter.profile()));
+    }
+}
+
+// Puts the line of the name, if there is one.
+fn put_name<S: LineSink>(encounter: &Encounter, sink: &mut S)
+    ensures { S.took sink.old sink.new (map line_of (name_records encounter.now.name)) }
+{
+    if let Some(name) = encounter.name() {
+        sink.line(&name_line(&name));
+    }
+}
+
+// Puts the line of the time of day, if it is given.
+fn put_clock<S: LineSink>(encounter: &Encounter, sink: &mut S)
+    ensures { S.took sink.old sink.new (map line_of (clock_records encounter.now.clock)) }
+{
+    if let Some(second) = encounter.clock() {
+        sink.line(&clock_line(second));
+    }
+}
+
 // Puts a line for each aircraft that has a ceiling.
 fn put_climbs<S: LineSink>(crafts: &[CraftSpec], sink: &mut S)
     ensures { S.took sink.old sink.new (map line_of (flat_map climb_records crafts.now)) }
@@ -98,8 +135,8 @@ fn put_climbs<S: LineSink>(crafts: &[CraftSpec], sink: &mut S)
     }
 }
 
-/// The canonical text of an encounter: each record on a line of its own, in the order of the encounter's lists, the
-/// ceilings after the aircraft.
+/// The canonical text of an encounter: each record on a line of its own, in the order of the encounter's lists. The
+/// call signs and then the ceilings stand after the aircraft.
 #[derive(Drop)]
 pub struct CanonicalText<'a>(pub &'a Encounter);
 
@@ -112,9 +149,13 @@ impl Text for CanonicalText<'_> {
         let encounter = self.0;
         let crafts = encounter.crafts();
         sink.line(&header_line(encounter.version()));
+        put_profile(encounter, sink);
+        put_name(encounter, sink);
+        put_clock(encounter, sink);
         sink.line(&run_line(encounter));
         sink.line(&gains_line(encounter.range_gains(), encounter.altitude_gains()));
         put_each(crafts, crafts, sink);
+        put_each(crafts, encounter.calls(), sink);
         put_climbs(crafts, sink);
         put_each(crafts, encounter.legs(), sink);
         put_each(crafts, encounter.misses(), sink);

@@ -5,7 +5,7 @@ ghost use Rattle.enc_file.specs.Earlier.{fate_by, index_of, leg_by, miss_by, pla
 ghost use Rattle.enc_file.specs.Faults.{are_masks_bad, has_ceiling, is_mask_bad};
 ghost use Rattle.enc_file.specs.Reading.{missing_after};
 
-use crate::record::{Copies, Course, Run, TrackGains};
+use crate::record::{Copies, Course, Heading, Run, TrackGains};
 use crate::refusal::Code;
 use acas_base::{Address, CopyPlan, CraftSpec, Fate, Leg, LinkPlan, Miss, Profile, Setting};
 
@@ -111,18 +111,18 @@ pub(crate) fn fate_by(number: u16, copies: Copies, sender: u8, receiver: u8) -> 
     }
 }
 
-// It has profile 1, no name and no time of day, since formats 1 and 2 have no records for them.
-pub(crate) fn setting_by(version: u8, run: Run, gains: TrackGains) -> Setting
-    ensures { result ≡ setting_by version run gains }
+// Where the text gives no profile, it has profile 1: formats 1 and 2 have no record for it.
+pub(crate) fn setting_by(version: u8, heading: Heading, run: Run, gains: TrackGains) -> Setting
+    ensures { result ≡ setting_by version heading run gains }
 {
     Setting {
         version,
-        profile: Profile::One,
+        profile: heading.profile.unwrap_or(Profile::One),
         cycles: run.cycles,
         elevation: run.elevation,
         range: gains.range,
         altitude: gains.altitude,
-        name: None,
-        clock: None,
+        name: heading.name,
+        clock: heading.clock,
     }
 }

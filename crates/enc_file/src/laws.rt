@@ -1,7 +1,7 @@
 // What holds of the texts of encounters, whatever the program does with them.
 ghost use Rattle.std.specs.Prelude.{◌≡◌, ◌↔◌, ◌∷◌, ◌-◌, [], ℕ, List, Err, Some, codes, false, length, slice_get, true};
 ghost use Rattle.acas_base.specs.Encounter.{IsEncounter, Parts};
-ghost use Rattle.enc_file.specs.Canonical.{canonical_records, canonical_text};
+ghost use Rattle.enc_file.specs.Canonical.{IsLabelled, canonical_records, canonical_text};
 ghost use Rattle.enc_file.specs.Conditions.{IsRefused, is_first};
 ghost use Rattle.enc_file.specs.Earlier.{has_ended, version_of};
 ghost use Rattle.enc_file.specs.Saying.{version_in};
@@ -11,9 +11,10 @@ ghost use Rattle.enc_file.specs.declared.refusal.Refusal.{Refusal};
 ghost use Rattle.flight.specs.Inside.{IsInside};
 
 /// A law: the records that CSV finds in the canonical text of an encounter are its canonical records. Each stands on
-/// its line, with all its fields, and there are no others. It holds of all parts, in their ranges or not.
+/// its line, with all its fields, and there are no others. It holds of all parts whose names and call signs are labels,
+/// in their ranges or not.
 pub fn canonical_records_law()
-    ensures { (e : Parts) → records_of (canonical_text e) ≡ canonical_records e }
+    ensures { (e : Parts) → IsLabelled e → records_of (canonical_text e) ≡ canonical_records e }
 {}
 
 /// A law: the canonical text of an encounter inside the box says that encounter, and no other.

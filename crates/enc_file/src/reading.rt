@@ -10,7 +10,7 @@ use acas_base::Encounter;
 use csv::ByteRecord;
 use std::alloc::Global;
 
-/// The encounter that a text says, in format 1 or 2.
+/// The encounter that a text says, in format 1, 2 or 3.
 ///
 /// - `Refused`: the text says no encounter. It comes exactly then. It names the first record with a fault, from 1, and
 ///   the lowest code of its faults.

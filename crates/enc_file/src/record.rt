@@ -1,5 +1,13 @@
 // What one record says.
-use acas_base::{Address, CopyPlan, CraftSpec, Gains};
+use acas_base::{Address, CopyPlan, CraftSpec, Gains, Label, Profile};
+
+/// What a text says of itself: its profile, its name, and the time of day in cycle 1, in seconds after midnight.
+#[derive(Clone, Copy)]
+pub struct Heading {
+    pub profile: Option<Profile>,
+    pub name: Option<Label>,
+    pub clock: Option<u32>,
+}
 
 /// How many cycles a run has, and the elevation of the ground in ft.
 #[derive(Clone, Copy)]
@@ -70,4 +78,11 @@ pub enum Record {
         copies: Copies,
     },
     End,
+    Profile(Profile),
+    Name(Label),
+    Clock(u32),
+    Call {
+        address: Address,
+        sign: Label,
+    },
 }

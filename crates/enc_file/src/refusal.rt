@@ -9,14 +9,15 @@ use thiserror::Error;
 /// What is wrong with a record. Where it has several faults, the one with the lowest number is reported.
 #[derive(Clone, Copy, Debug, PartialEq, Eq)]
 pub enum Code {
-    /// The first record isn't a header of format 1 or 2, or there is no record at all.
+    /// The first record isn't a header of format 1, 2 or 3, or there is no record at all.
     Header,
     /// The first field isn't a kind of record of the text's format.
     Kind,
     /// The number of fields isn't one that this kind of record has.
     Fields,
     /// A number isn't a plain decimal or is out of its range; the kind of an aircraft isn't one of the three words; a
-    /// mask isn't two digits 0-9A-F; the last cycle of a miss is before its first.
+    /// mask isn't two digits 0-9A-F; a name, a time of day or a call sign has another form; the last cycle of a miss is
+    /// before its first.
     Number,
     /// An address isn't six digits 0-9A-F, or is 000000 or FFFFFF.
     Address,
@@ -24,7 +25,8 @@ pub enum Code {
     Repeat,
     /// No earlier `craft` record has this address, or the two addresses are equal.
     Unknown,
-    /// There are too many aircraft; at the end there is no run, or no aircraft of kind RA or TA.
+    /// There are too many aircraft; at the end there is no run, no profile in format 3, or no aircraft of kind RA
+    /// or TA.
     Count,
     /// At the end: an aircraft leaves the box in some cycle of the run.
     Box,

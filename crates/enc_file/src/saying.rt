@@ -1,13 +1,17 @@
 // What a record says by itself.
-ghost use Rattle.std.specs.Prelude.{◌≡◌, ℕ, IfOk, IfSome};
+ghost use Rattle.std.specs.Prelude.{◌≡◌, ◌≤◌, ℕ, IfOk, IfSome};
 ghost use Rattle.acas_base.specs.Encounter.{IsVersion};
 ghost use Rattle.csv.specs.Records.{fields_of};
-ghost use Rattle.enc_file.specs.Saying.{climb_of, craft_of, end_of, fate_of, gains_of, leg_of, miss_of, of_format_2, plan_of, record_of, run_of, version_in};
+ghost use Rattle.enc_file.specs.Saying.{call_of, climb_of, clock_of, craft_of, end_of, fate_of, gains_of, leg_of, miss_of, name_of, of_format_2, of_format_3, plan_of, profile_of, record_of, run_of, version_in};
 ghost use Rattle.enc_file.specs.WellRead.{IsOfFormat, IsSaid};
 
+use crate::clock::clock_in;
 use crate::record::{Addresses, Course, Record, Run, TrackGains};
 use crate::refusal::Code;
-use crate::values::{address_in, copies_count, copies_from, count_in, field, kind_in, number_in};
+use crate::values::{
+    address_in, copies_count, copies_from, count_in, field, kind_in, label_in, number_in,
+    profile_in, sign_in,
+};
 use acas_base::{CraftSpec, Gains};
 use csv::ByteRecord;
 
@@ -23,7 +27,7 @@ pub fn version_in(row: &ByteRecord) -> Option<u8>
     if field(row, 0) != b"encounter".as_slice() {
         return None;
     }
-    let version = count_in(field(row, 1), 1, 2)?;
+    let version = count_in(field(row, 1), 1, 3)?;
     Some(version as u8)
 }
 
@@ -116,7 +120,7 @@ fn craft_of(row: &ByteRecord) -> Result<Record, Code>
 fn climb_of(row: &ByteRecord) -> Result<Record, Code>
     ensures value { result ≡ climb_of (fields_of row.now) }
     ensures ranges { IfOk result IsSaid }
-    ensures format { IfOk result (IsOfFormat 2) }
+    ensures format { (version : ℕ) → 2 ≤ version → IfOk result (IsOfFormat version) }
 {
     if row.len() != 3 {
         return Err(Code::Fields);
@@ -196,7 +200,7 @@ fn miss_of(row: &ByteRecord) -> Result<Record, Code>
 fn plan_of(row: &ByteRecord) -> Result<Record, Code>
     ensures value { result ≡ plan_of (fields_of row.now) }
     ensures ranges { IfOk result IsSaid }
-    ensures format { IfOk result (IsOfFormat 2) }
+    ensures format { (version : ℕ) → 2 ≤ version → IfOk result (IsOfFormat version) }
 {
     let Some(count) = copies_count(3, row.len()) else {
         return Err(Code::Fields);
@@ -257,20 +261,105 @@ fn end_of(row: &ByteRecord) -> Result<Record, Code>
     Ok(Record::End)
 }
 
-// A record of a kind that format 2 alone has.
+#[tactic(auto, unfolding(crate::specs::Saying::profile_of))]
+fn profile_of(row: &ByteRecord) -> Result<Record, Code>
+    ensures value { result ≡ profile_of (fields_of row.now) }
+    ensures ranges { IfOk result IsSaid }
+    ensures format { (version : ℕ) → 3 ≤ version → IfOk result (IsOfFormat version) }
+{
+    if row.len() != 2 {
+        return Err(Code::Fields);
+    }
+    let Some(profile) = profile_in(field(row, 1)) else {
+        return Err(Code::Number);
+    };
+    Ok(Record::Profile(profile))
+}
+
+#[tactic(auto, unfolding(crate::specs::Saying::name_of))]
+fn name_of(row: &ByteRecord) -> Result<Record, Code>
+    ensures value { result ≡ name_of (fields_of row.now) }
+    ensures ranges { IfOk result IsSaid }
+    ensures format { (version : ℕ) → 3 ≤ version → IfOk result (IsOfFormat version) }
+{
+    if row.len() != 2 {
+        return Err(Code::Fields);
+    }
+    let Some(name) = label_in(field(row, 1)) else {
+        return Err(Code::Number);
+    };
+    Ok(Record::Name(name))
+}
+
+#[tactic(auto, unfolding(crate::specs::Saying::clock_of))]
+fn clock_of(row: &ByteRecord) -> Result<Record, Code>
+    ensures value { result ≡ clock_of (fields_of row.now) }
+    ensures ranges { IfOk result IsSaid }
+    ensures format { (version : ℕ) → 3 ≤ version → IfOk result (IsOfFormat version) }
+{
+    if row.len() != 2 {
+        return Err(Code::Fields);
+    }
+    let Some(second) = clock_in(field(row, 1)) else {
+        return Err(Code::Number);
+    };
+    Ok(Record::Clock(second))
+}
+
+#[tactic(auto, unfolding(crate::specs::Saying::call_of))]
+fn call_of(row: &ByteRecord) -> Result<Record, Code>
+    ensures value { result ≡ call_of (fields_of row.now) }
+    ensures ranges { IfOk result IsSaid }
+    ensures format { (version : ℕ) → 3 ≤ version → IfOk result (IsOfFormat version) }
+{
+    if row.len() != 3 {
+        return Err(Code::Fields);
+    }
+    let Some(sign) = sign_in(field(row, 2)) else {
+        return Err(Code::Number);
+    };
+    let Some(address) = address_in(field(row, 1)) else {
+        return Err(Code::Address);
+    };
+    Ok(Record::Call { address, sign })
+}
+
+// A record of a kind that format 3 alone has.
+fn of_format_3(version: u8, row: &ByteRecord) -> Result<Record, Code>
+    ensures value { result ≡ of_format_3 version (fields_of row.now) }
+    ensures ranges { IfOk result IsSaid }
+    ensures format { IfOk result (IsOfFormat version) }
+{
+    let kind = field(row, 0);
+    if 3 <= version && kind == b"profile".as_slice() {
+        return profile_of(row);
+    }
+    if 3 <= version && kind == b"name".as_slice() {
+        return name_of(row);
+    }
+    if 3 <= version && kind == b"clock".as_slice() {
+        return clock_of(row);
+    }
+    if 3 <= version && kind == b"call".as_slice() {
+        return call_of(row);
+    }
+    Err(Code::Kind)
+}
+
+// A record of a kind that format 1 hasn't.
 fn of_format_2(version: u8, row: &ByteRecord) -> Result<Record, Code>
     ensures value { result ≡ of_format_2 version (fields_of row.now) }
     ensures ranges { IfOk result IsSaid }
     ensures format { IfOk result (IsOfFormat version) }
 {
     let kind = field(row, 0);
-    if version == 2 && kind == b"climb".as_slice() {
+    if 2 <= version && kind == b"climb".as_slice() {
         return climb_of(row);
     }
-    if version == 2 && kind == b"plan".as_slice() {
+    if 2 <= version && kind == b"plan".as_slice() {
         return plan_of(row);
     }
-    Err(Code::Kind)
+    of_format_3(version, row)
 }
 
 /// A later record, by its kind. It is inlined in the readers of encounters and of tracks, as [`crate::Tables::add`] is,

@@ -2,11 +2,14 @@
 ghost use Rattle.std.specs.Prelude.{◌≡◌, ◌+◌, ◌<◌, ◌≤◌, ◌^◌, ◌∷◌, ◌++◌, [], length, pos};
 ghost use Rattle.std.specs.List.{flat_map};
 ghost use Rattle.acas_base.specs.Encounter.{address_in};
-ghost use Rattle.enc_file.specs.Spelling.{address, copies_fields, copy_fields, craft_record, climb_record, end_record, fate_record, gains_record, header_record, kind_text, leg_record, line_of, miss_record, number, plan_record, run_record};
+ghost use Rattle.enc_file.specs.Spelling.{address, call_record, clock_record, copies_fields, copy_fields, craft_record, climb_record, end_record, fate_record, gains_record, header_record, kind_text, leg_record, line_of, miss_record, name_record, number, plan_record, profile_record, run_record};
 
-use acas_base::{CopyPlan, CraftSpec, Encounter, Fate, Gains, Kind, Leg, LinkPlan, Miss};
+use acas_base::{
+    Call, CopyPlan, CraftSpec, Encounter, Fate, Gains, Kind, Label, Leg, LinkPlan, Miss, Profile,
+};
 use acas_lines::fixed_line;
 use acas_text::{LINE_BYTES, Line};
+use plot_axes::clock_text;
 
 // The number of the address of the aircraft at an index. In an encounter each index of a record is that of an aircraft.
 fn address_in(crafts: &[CraftSpec], index: u8) -> u32
@@ -36,6 +39,54 @@ pub(crate) fn header_line(version: u8) -> Line
     let mut line = Line::new();
     line.text("encounter");
     line.u16_field(u16::from(version));
+    line.text("\n");
+    line
+}
+
+// Adds a text that is given as its bytes.
+fn add_bytes(line: &mut Line, bytes: &[u8])
+    requires { length line.old + length bytes.now ≤ LINE_BYTES }
+    ensures added { line.new ≡ line.old ++ bytes.now }
+    ensures longer { length line.new ≡ length line.old + length bytes.now }
+{
+    for byte in bytes {
+        line.byte(*byte);
+    }
+}
+
+// The text of a label, which fits into a line.
+fn text_of(label: &Label) -> &[u8]
+    ensures value { result.now ≡ label.now }
+    ensures short { length result.now ≤ 60 }
+{
+    label.bytes()
+}
+
+pub(crate) fn profile_line(profile: Profile) -> Line
+    ensures { result ≡ line_of (profile_record profile) }
+{
+    match profile {
+        Profile::One => fixed_line("profile,1\n"),
+        Profile::Two => fixed_line("profile,2\n"),
+    }
+}
+
+pub(crate) fn name_line(name: &Label) -> Line
+    ensures { result ≡ line_of (name_record name.now) }
+{
+    let mut line = Line::new();
+    line.text("name,");
+    add_bytes(&mut line, text_of(name));
+    line.text("\n");
+    line
+}
+
+pub(crate) fn clock_line(second: u32) -> Line
+    ensures { result ≡ line_of (clock_record second) }
+{
+    let mut line = Line::new();
+    line.text("clock,");
+    add_bytes(&mut line, clock_text(second).bytes());
     line.text("\n");
     line
 }
@@ -86,6 +137,17 @@ pub(crate) fn climb_line(craft: &CraftSpec, limit: i32) -> Line
     line.i32_field(limit);
     line.text("\n");
     line
+}
+
+pub(crate) fn spell_call(line: &mut Line, crafts: &[CraftSpec], call: &Call)
+    requires { line.old ≡ [] }
+    ensures { line.new ≡ line_of (call_record crafts.now call.now) }
+{
+    line.text("call");
+    line.address_field(address_in(crafts, call.craft));
+    line.text(",");
+    add_bytes(line, text_of(&call.sign));
+    line.text("\n");
 }
 
 pub(crate) fn spell_leg(line: &mut Line, crafts: &[CraftSpec], leg: &Leg)

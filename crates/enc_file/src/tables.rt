@@ -5,22 +5,24 @@ ghost use Rattle.acas_base.specs.Encounter.{IsVersion, is_active};
 ghost use Rattle.acas_base.specs.declared.TheConstants.{CRAFTS};
 ghost use Rattle.csv.specs.Records.{fields_of};
 ghost use Rattle.enc_file.specs.Earlier.{crafts_of, encounter_by, for_pair, index_of, version_of};
+ghost use Rattle.enc_file.specs.Faults.{lacks_profile};
 ghost use Rattle.enc_file.specs.Reading.{IsReading, read_from, refusal_after};
 ghost use Rattle.enc_file.specs.Tables.{Adds, AreGoing, Holds, IsHeld, IsSoFar, Settles, Takes};
 ghost use Rattle.enc_file.specs.WellRead.{IsOfFormat, IsSaid};
 ghost use Rattle.enc_file.specs.declared.record.Record.{Record};
 
+use crate::calls::{call_by, calls_by_craft, has_call, is_called};
 use crate::conditions::{
     fate_by, has_address, has_ceiling, index_of, leg_by, miss_by, missing_after, plan_by,
     setting_by,
 };
 use crate::groups::Groups;
-use crate::record::{Addresses, Copies, Course, Record, Run, TrackGains};
+use crate::record::{Addresses, Copies, Course, Heading, Record, Run, TrackGains};
 use crate::refusal::{Code, ReadError, Refusal};
 use crate::saying::{record_of, version_in};
 use acas_base::{
-    Address, CRAFTS, CraftSpec, Encounter, Fate, Leg, LinkPlan, Miss, USUAL_ALTITUDE_GAINS,
-    USUAL_RANGE_GAINS, most_crafts, some_active,
+    Address, CRAFTS, Call, CraftSpec, Encounter, Fate, Label, Leg, LinkPlan, Miss, Profile,
+    USUAL_ALTITUDE_GAINS, USUAL_RANGE_GAINS, most_crafts, some_active,
 };
 use csv::ByteRecord;
 use flight::inside;
@@ -32,15 +34,24 @@ const USUAL_GAINS: TrackGains = TrackGains {
     altitude: USUAL_ALTITUDE_GAINS,
 };
 
+// A text that says nothing of itself.
+const NO_HEADING: Heading = Heading {
+    profile: None,
+    name: None,
+    clock: None,
+};
+
 /// What the records of an encounter's text give, up to some record. They are read one after the other. The records of
 /// each aircraft and of each pair stand in groups. So the next record is compared with the last one of its group alone.
 #[derive(Drop)]
 pub struct Tables {
     count: u32,
     version: u8,
+    heading: Heading,
     run: Option<Run>,
     gains: Option<TrackGains>,
     crafts: Vec<CraftSpec>,
+    calls: Vec<Call>,
     legs: Groups<Leg>,
     misses: Groups<Miss>,
     plans: Groups<LinkPlan>,
@@ -58,9 +69,11 @@ impl Tables {
         Ok(Tables {
             count: 0,
             version: 0,
+            heading: NO_HEADING,
             run: None,
             gains: None,
             crafts: Vec::new(alloc),
+            calls: Vec::new(alloc),
             legs: Groups::new(alloc, CRAFTS)?,
             misses: Groups::new(alloc, CRAFTS * CRAFTS)?,
             plans: Groups::new(alloc, CRAFTS * CRAFTS)?,
@@ -160,6 +173,44 @@ impl Tables {
         Ok(())
     }
 
+    fn add_profile(&mut self, profile: Profile) -> Result<(), ReadError>
+        requires room { self.old.count < 2 ^ 32 - 1 }
+        ensures { (earlier : List Record) → AreGoing earlier → IsOfFormat (version_of earlier) (Record.Profile profile) → Holds earlier self.old → Adds earlier (Record.Profile profile) self.new result }
+    {
+        if self.heading.profile.is_some() {
+            return Err(self.refused(Code::Repeat));
+        }
+        self.heading.profile = Some(profile);
+        self.count += 1;
+        Ok(())
+    }
+
+    fn add_name(&mut self, name: Label) -> Result<(), ReadError>
+        requires room { self.old.count < 2 ^ 32 - 1 }
+        requires said { IsSaid (Record.Name name) }
+        ensures { (earlier : List Record) → AreGoing earlier → IsOfFormat (version_of earlier) (Record.Name name) → Holds earlier self.old → Adds earlier (Record.Name name) self.new result }
+    {
+        if self.heading.name.is_some() {
+            return Err(self.refused(Code::Repeat));
+        }
+        self.heading.name = Some(name);
+        self.count += 1;
+        Ok(())
+    }
+
+    fn add_clock(&mut self, second: u32) -> Result<(), ReadError>
+        requires room { self.old.count < 2 ^ 32 - 1 }
+        requires said { IsSaid (Record.Clock second) }
+        ensures { (earlier : List Record) → AreGoing earlier → IsOfFormat (version_of earlier) (Record.Clock second) → Holds earlier self.old → Adds earlier (Record.Clock second) self.new result }
+    {
+        if self.heading.clock.is_some() {
+            return Err(self.refused(Code::Repeat));
+        }
+        self.heading.clock = Some(second);
+        self.count += 1;
+        Ok(())
+    }
+
     fn add_run(&mut self, run: Run) -> Result<(), ReadError>
         requires room { self.old.count < 2 ^ 32 - 1 }
         requires said { IsSaid (Record.Run run) }
@@ -198,6 +249,26 @@ impl Tables {
             return Err(self.refused(Code::Count));
         }
         self.crafts.push(craft)?;
+        self.count += 1;
+        Ok(())
+    }
+
+    fn add_call(&mut self, address: Address, sign: Label) -> Result<(), ReadError>
+        requires room { self.old.count < 2 ^ 32 - 1 }
+        requires held { IsHeld self.old }
+        requires said { IsSaid (Record.Call address sign) }
+        ensures { (earlier : List Record) → AreGoing earlier → IsOfFormat (version_of earlier) (Record.Call address sign) → Holds earlier self.old → Adds earlier (Record.Call address sign) self.new result }
+    {
+        if is_called(&self.calls, sign.bytes()) {
+            return Err(self.refused(Code::Repeat));
+        }
+        let Some(craft) = self.index_of(address) else {
+            return Err(self.refused(Code::Unknown));
+        };
+        if has_call(&self.calls, craft) {
+            return Err(self.refused(Code::Repeat));
+        }
+        self.calls.push(call_by(sign, craft as u8))?;
         self.count += 1;
         Ok(())
     }
@@ -284,8 +355,8 @@ impl Tables {
     {
         let gains = self.gains.unwrap_or(USUAL_GAINS);
         let made = Encounter::make(
-            setting_by(self.version, run, gains),
-            Vec::new(alloc),
+            setting_by(self.version, self.heading, run, gains),
+            calls_by_craft(alloc, &self.calls)?,
             Vec::from_slice(alloc, &self.crafts)?,
             self.legs.joined(alloc)?,
             self.misses.joined(alloc)?,
@@ -298,8 +369,15 @@ impl Tables {
         }
     }
 
-    /// The encounter that the records so far say. None comes exactly where they give no run, or no aircraft of kind RA
-    /// or TA. The error says that memory was wanting.
+    // Format 3 needs a profile.
+    fn lacks_profile(&self) -> bool
+        ensures { (earlier : List Record) → Holds earlier self.now → result ≡ lacks_profile earlier }
+    {
+        3 <= self.version && self.heading.profile.is_none()
+    }
+
+    /// The encounter that the records so far say. None comes exactly where they give no run, no profile in format 3, or
+    /// no aircraft of kind RA or TA. The error says that memory was wanting.
     ///
     /// Whether its aircraft stay in the box isn't asked.
     pub fn encounter(&self, alloc: Global) -> Result<Option<Encounter>, AllocError>
@@ -309,6 +387,9 @@ impl Tables {
         let Some(run) = self.run else {
             return Ok(None);
         };
+        if self.lacks_profile() {
+            return Ok(None);
+        }
         if !some_active(&self.crafts) {
             return Ok(None);
         }
@@ -360,6 +441,10 @@ impl Tables {
                 copies,
             } => self.add_fate(pair, number, copies),
             Record::End => self.add_end(alloc),
+            Record::Profile(profile) => self.add_profile(profile),
+            Record::Name(name) => self.add_name(name),
+            Record::Clock(second) => self.add_clock(second),
+            Record::Call { address, sign } => self.add_call(address, sign),
         }
     }
 

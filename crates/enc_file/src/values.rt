@@ -2,11 +2,11 @@
 ghost use Rattle.std.specs.Prelude.{◌≡◌, ◌≤◌, ◌<◌, ◌+◌, IfSome};
 ghost use Rattle.acas_base.specs.Ranges.{IsBetween};
 ghost use Rattle.csv.specs.Records.{fields_of};
-ghost use Rattle.enc_file.specs.Values.{address_in, copies_count, copies_from, copy_from, copy_in, count_in, field, kind_in, mask_in, number_in};
+ghost use Rattle.enc_file.specs.Values.{address_in, copies_count, copies_from, copy_from, copy_in, count_in, field, kind_in, label_in, mask_in, number_in, profile_in, sign_in};
 ghost use Rattle.enc_file.specs.WellRead.{AreCopiesSaid, IsCopySaid};
 
 use crate::record::Copies;
-use acas_base::{Address, CopyPlan, Kind};
+use acas_base::{Address, CopyPlan, Kind, Label, Profile, is_call_sign};
 use acas_text::{parse, parse_hex};
 use csv::ByteRecord;
 
@@ -76,6 +76,36 @@ pub fn kind_in(bytes: &[u8]) -> Option<Kind>
         return Some(Kind::Xpdr);
     }
     None
+}
+
+/// The profile whose number a field is.
+pub fn profile_in(bytes: &[u8]) -> Option<Profile>
+    ensures { result ≡ profile_in bytes.now }
+{
+    if bytes == b"1".as_slice() {
+        return Some(Profile::One);
+    }
+    if bytes == b"2".as_slice() {
+        return Some(Profile::Two);
+    }
+    None
+}
+
+/// The label that a field is.
+pub fn label_in(bytes: &[u8]) -> Option<Label>
+    ensures { result ≡ label_in bytes.now }
+{
+    Label::new(bytes)
+}
+
+/// The call sign that a field is.
+pub fn sign_in(bytes: &[u8]) -> Option<Label>
+    ensures { result ≡ sign_in bytes.now }
+{
+    if !is_call_sign(bytes) {
+        return None;
+    }
+    Label::new(bytes)
 }
 
 // A copy: the commits for which it is held back, and the mask.

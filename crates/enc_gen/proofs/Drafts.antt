@@ -1,19 +1,21 @@
 -- What is drawn for the aircraft.
 use Rattle.std.proofs.Common.{◌≡◌, ℕ, zero, suc, ◌<◌, ◌≤◌, List, [], ◌∷◌, length, get_or, arith, refl, sym, ◌∙◌, inl, inr, subst, ◌-◌}
-use Rattle.std.specs.Prelude.{All, AllPairs, IsTrue, None, map}
+use Rattle.std.specs.Prelude.{All, AllPairs, IsTrue, None}
 use Rattle.std.specs.List.{list_any}
 use Rattle.std.proofs.lemmas.Bool.{cases_lt}
 use Rattle.std.proofs.lemmas.Int.{ints}
-use Rattle.std.proofs.lemmas.List.{get_or-append_right, get_or_append_left, length-append, length-map}
-use Rattle.std.proofs.lemmas.List.Elements.{All-map}
+use Rattle.std.proofs.lemmas.List.{get_or-append_right, get_or_append_left, length-append}
 use Rattle.acas_base.specs.Encounter.{AreApart, AreCrafts, IsCraft, is_active, most_crafts}
 use Rattle.acas_base.specs.declared.craft.CraftSpec.{CraftSpec}
 use Rattle.acas_base.specs.declared.craft.Kind.TheVariants.{Ra}
-use Rattle.enc_gen.proofs.Each.{all-one, each-all, each-pairs, pairs-map, pairs-one}
+use Rattle.acas_base.specs.declared.setting.Profile.{Profile}
+use Rattle.enc_gen.proofs.Each.{all-one, each-all, each-pairs, pairs-one}
 use Rattle.enc_gen.proofs.Numbers.{altitude-near, climb-near, coordinate-near}
+use Rattle.enc_gen.proofs.Passing.{IsBeside, any-draft, aside-few, placed-beside, placed-long}
 use Rattle.enc_gen.specs.Crafts.{IsDraft, draft, spec_of}
 use Rattle.enc_gen.specs.Draws.{next_state}
 use Rattle.enc_gen.specs.Making.{each}
+use Rattle.enc_gen.specs.Passing.{most_aside, placed}
 use Rattle.enc_gen.specs.declared.crafts.Draft.{Draft}
 
 draft-near : (craft s : ℕ) → All IsDraft (draft craft s).items
@@ -84,33 +86,46 @@ drafts-first (suc (suc n)) s d h =
     let P : Draft → Type 0 = λ x. x.kind ≡ Ra in
     subst P (sym (get_or_append_left (each draft (suc n) s).items (draft (suc n) (each draft (suc n) s).state).items d 0 (omega (arith, drafts-long (suc n) s)))) (drafts-first (suc n) s d (omega arith))
 
-craft-fits : (d : Draft) → IsDraft d → d.craft < 16 → IsCraft (spec_of d)
-craft-fits d near few = record {
-  address = (omega arith, omega arith);
-  x = (omega (arith, ints, near.x.0, near.x.1), omega (arith, ints, near.x.0, near.x.1));
-  y = (omega (arith, ints, near.y.0, near.y.1), omega (arith, ints, near.y.0, near.y.1));
-  alt = (omega (arith, ints, near.alt.0, near.alt.1), omega (arith, ints, near.alt.0, near.alt.1));
-  ceiling = tt;
+craft-fits : (most : ℕ) (d : Draft) (b : CraftSpec) → most ≤ 24304 → IsBeside most (spec_of d) b → IsDraft d → d.craft < 16 → IsCraft b
+craft-fits most d b small is near few = record {
+  address = (omega (arith, is.address), omega (arith, is.address));
+  x = (omega (arith, ints, small, is.x.0, near.x.0), omega (arith, ints, small, is.x.1, near.x.1));
+  y = (omega (arith, ints, small, is.y.0, near.y.0), omega (arith, ints, small, is.y.1, near.y.1));
+  alt = rw is.alt (omega (arith, ints, near.alt.0, near.alt.1), omega (arith, ints, near.alt.0, near.alt.1));
+  ceiling = rw is.ceiling tt;
 }
 
-apart : (a b : Draft) → a.craft < b.craft → AreApart (spec_of a) (spec_of b)
-apart a b h = λ e. omega arith
+apart : (most : ℕ) (a b : Draft) (x y : CraftSpec) → IsBeside most (spec_of a) x → IsBeside most (spec_of b) y → a.craft < b.craft → AreApart x y
+apart most a b x y is that h = λ e. omega (arith, e, is.address, that.address)
 
-pub crafts-listed : (version n s : ℕ) → 1 ≤ n → n ≤ 16 → n ≤ most_crafts version → AreCrafts version (map spec_of (each draft n s).items)
-crafts-listed version n s some most few =
+pub crafts-listed : (profile : Profile) (version n s t : ℕ) → 1 ≤ n → n ≤ 16 → n ≤ most_crafts version → AreCrafts version (placed profile (each draft n s).items t)
+crafts-listed profile version n s t some most few =
     let ds = (each draft n s).items in
-    let long : length (map spec_of ds) ≡ n = length-map ds spec_of ∙ drafts-long n s in
+    let list = placed profile ds t in
+    let many : length ds ≡ n = drafts-long n s in
+    let long : length list ≡ n = placed-long profile ds t ∙ many in
     record {
       some = omega arith;
       few = rw long few;
-      ranges = All-map IsCraft spec_of ds (λ k d h. craft-fits (get_or ds k d) (drafts-near n s k d h) (let small = drafts-few n s k d h in omega arith));
-      addresses = pairs-map (λ (a b : Draft). a.craft < b.craft) AreApart spec_of ds apart (drafts-rise n s);
-      active = active-first ds n (drafts-long n s) some (λ d. drafts-first n s d (omega arith));
+      ranges = λ k b h.
+          let there : k < length ds = omega arith in
+          let small = drafts-few n s k any-draft there in
+          craft-fits (most_aside profile) (get_or ds k any-draft) (get_or list k b) (aside-few profile) (placed-beside profile ds t k any-draft b there) (drafts-near n s k any-draft there) (omega arith);
+      addresses = λ i j b order h.
+          let there : j < length ds = omega arith in
+          apart (most_aside profile) (get_or ds i any-draft) (get_or ds j any-draft) (get_or list i b) (get_or list j b)
+          (placed-beside profile ds t i any-draft b (omega arith)) (placed-beside profile ds t j any-draft b there) (drafts-rise n s i j any-draft order there);
+      active = active-first list n long some (λ b.
+          let is = placed-beside profile ds t 0 any-draft b (omega arith) in
+          is.kind ∙ drafts-first n s any-draft (omega arith));
     }
   where
-    active-first : (ds : List Draft) (n : ℕ) → length ds ≡ n → 1 ≤ n → ((d : Draft) → (get_or ds 0 d).kind ≡ Ra) → IsTrue (list_any is_active (map spec_of ds))
+    active-first : (list : List CraftSpec) (n : ℕ) → length list ≡ n → 1 ≤ n → ((b : CraftSpec) → (get_or list 0 b).kind ≡ Ra) → IsTrue (list_any is_active list)
     active-first [] n long some first = absurd (omega arith)
-    active-first (d ∷ ds) n long some first = rw (first d) refl
+    active-first (x ∷ list) n long some first = rw (first x) refl
 
-pub crafts-plain : (ds : List Draft) → All (λ (craft : CraftSpec). craft.ceiling ≡ None) (map spec_of ds)
-crafts-plain ds = All-map (λ (craft : CraftSpec). craft.ceiling ≡ None) spec_of ds (λ k d h. refl)
+pub crafts-plain : (profile : Profile) (ds : List Draft) (t : ℕ) → All (λ (craft : CraftSpec). craft.ceiling ≡ None) (placed profile ds t)
+crafts-plain profile ds t k b h =
+    let long = placed-long profile ds t in
+    let is = placed-beside profile ds t k any-draft b (omega arith) in
+    is.ceiling

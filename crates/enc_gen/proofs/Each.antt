@@ -1,8 +1,8 @@
 -- What is true of each element that is made, and of each two.
 use Rattle.std.proofs.Common.{◌≡◌, ℕ, zero, suc, ◌+◌, ◌<◌, Bool, true, false, List, [], ◌∷◌, ◌++◌, get_or, arith, refl}
-use Rattle.std.specs.Prelude.{All, AllPairs, IsTrue, map}
+use Rattle.std.specs.Prelude.{All, AllPairs, IsTrue}
 use Rattle.std.specs.List.{flat_map}
-use Rattle.std.proofs.lemmas.List.Elements.{All-append, All-cons, All-map, All-nil}
+use Rattle.std.proofs.lemmas.List.Elements.{All-append, All-cons, All-nil}
 use Rattle.std.proofs.lemmas.List.Kept.{AllPairs-cons}
 use Rattle.acas_base.specs.Order.{IsRising}
 use Rattle.enc_gen.specs.Making.{Made, each, one, only}
@@ -78,13 +78,6 @@ pairs-flat {X} {Y} S R Of f (a ∷ xs) rise of pairs two =
   where
     After : X → Y → Type 0
     After a y = (b : X) × (S a b × Of b y)
-
-pub pairs-map : {X Y : Type 0} (S : X → X → Type 0) (R : Y → Y → Type 0) (f : X → Y) (xs : List X) → ((a b : X) → S a b → R (f a) (f b)) → AllPairs S xs → AllPairs R (map f xs)
-pairs-map S R f [] each two = pairs-none R
-pairs-map S R f (a ∷ xs) each two =
-    AllPairs-cons R (f a) (map f xs)
-    (All-map (R (f a)) f xs (λ k d h. each a (get_or xs k d) (two 0 (suc k) d (omega arith) (omega arith))))
-    (pairs-map S R f xs each (λ i j d order h. two (suc i) (suc j) d (omega arith) (omega arith)))
 
 -- Where each two are below one another, so are each two neighbours.
 pub rising-pairs : {X : Type 0} (below : X → X → Bool) (xs : List X) → AllPairs (λ a b. below a b ≡ true) xs → IsRising below xs

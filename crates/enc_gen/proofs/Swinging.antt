@@ -93,21 +93,21 @@ second-place d = flown (first-place d) (inwards d 1) 200
 abbrev third-place : Draft → Place
 third-place d = flown (second-place d) (backwards d 201) 200
 
-near-out : (d : Draft) (n : ℕ) → IsDraft d → n ≤ 200 → IsNear (flown (first-place d) (inwards d 1) n)
+near-out : (d : Draft) (n : ℕ) → IsDraft d → n ≤ 200 → IsNear 60000 (flown (first-place d) (inwards d 1) n)
 near-out d n near short = record {
   x = swing-out _ _ d.x (speed d.x) n short (swings-across d.x near.x);
   y = swing-out _ _ d.y (speed d.y) n short (swings-across d.y near.y);
   z = swing-out _ _ (pos 60 *ℤ d.alt) d.climb n short (swings-up d.alt d.climb near.alt near.climb);
 }
 
-near-back : (d : Draft) (n : ℕ) → IsDraft d → n ≤ 200 → IsNear (flown (second-place d) (backwards d 201) n)
+near-back : (d : Draft) (n : ℕ) → IsDraft d → n ≤ 200 → IsNear 60000 (flown (second-place d) (backwards d 201) n)
 near-back d n near short = record {
   x = swing-back _ _ d.x (speed d.x) n short (swings-across d.x near.x);
   y = swing-back _ _ d.y (speed d.y) n short (swings-across d.y near.y);
   z = swing-back _ _ (pos 60 *ℤ d.alt) d.climb n short (swings-up d.alt d.climb near.alt near.climb);
 }
 
-near-again : (d : Draft) (n : ℕ) → IsDraft d → n ≤ 200 → IsNear (flown (third-place d) (inwards d 401) n)
+near-again : (d : Draft) (n : ℕ) → IsDraft d → n ≤ 200 → IsNear 60000 (flown (third-place d) (inwards d 401) n)
 near-again d n near short = record {
   x = swing-again _ _ d.x (speed d.x) n short (swings-across d.x near.x);
   y = swing-again _ _ d.y (speed d.y) n short (swings-across d.y near.y);
@@ -139,7 +139,7 @@ place-again d k near some =
     let way = along (first-place d) (three d) 2 k k (inwards d 1) course (omega arith) (omega arith) (omega arith) (omega arith) in
     way ∙ ap (λ n. flown (place_in (first-place d) (three d) n) (inwards d 401) (k - n)) begun ∙ ap (λ p. flown p (inwards d 401) (k - 401)) start
 
-near-three : (d : Draft) (k : ℕ) → IsDraft d → 1 ≤ k → k ≤ 600 → IsNear (place_in (first-place d) (three d) k)
+near-three : (d : Draft) (k : ℕ) → IsDraft d → 1 ≤ k → k ≤ 600 → IsNear 60000 (place_in (first-place d) (three d) k)
 near-three d k near some last = elim (cases_lt 201 k) [
   | inr h ↦ subst Near (sym (place-out d k near some h)) (near-out d (k - 1) near (omega arith))
   | inl h ↦ elim (cases_lt 401 k) [
@@ -148,7 +148,7 @@ near-three d k near some last = elim (cases_lt 201 k) [
   ]
 ] where
   Near : Place → Type 0
-  Near p = IsNear p
+  Near p = IsNear 60000 p
 
 -- Legs that begin after the run don't matter within it.
 begun-both : (a b c : ℕ) → b ≤ c → (nat_le a c ≡ false) → nat_le a b ≡ false
@@ -185,8 +185,8 @@ same-place start legs k cycles h =
     rw (same-way (λ (leg : Leg). leg.vx) legs (k - 1) cycles (omega arith), same-way (λ (leg : Leg). leg.vy) legs (k - 1) cycles (omega arith), same-way (λ (leg : Leg). leg.vz) legs (k - 1) cycles (omega arith)) refl
 
 -- Within the run an aircraft stays near.
-pub stays-near : (d : Draft) (k cycles : ℕ) → IsDraft d → 1 ≤ k → k ≤ cycles → cycles ≤ 600 → IsNear (place_in (start_of (spec_of d)) (legs_of cycles d) k)
+pub stays-near : (d : Draft) (k cycles : ℕ) → IsDraft d → 1 ≤ k → k ≤ cycles → cycles ≤ 600 → IsNear 60000 (place_in (start_of (spec_of d)) (legs_of cycles d) k)
 unfolding legs_of
 stays-near d k cycles near some last most =
-    let Near : Place → Type 0 = λ p. IsNear p in
+    let Near : Place → Type 0 = λ p. IsNear 60000 p in
     subst Near (sym (same-place (first-place d) (three d) k cycles last)) (near-three d k near some (omega arith))

@@ -25,6 +25,11 @@ unfoldable pub each : {X : Type 0} → (ℕ → ℕ → Made X) → ℕ → ℕ 
 each make zero s = nothing s
 each make (suc n) s = and_then (each make n s) (make n)
 
+-- What is made for each element of a list, in their order.
+unfoldable pub each_of : {X Y : Type 0} → (X → ℕ → Made Y) → List X → ℕ → Made Y
+each_of make [] s = nothing s
+each_of make (x ∷ xs) s = and_then (make x s) (each_of make xs)
+
 -- What is made only where a test holds.
 unfoldable pub only : {X : Type 0} → Bool → (ℕ → Made X) → ℕ → Made X
 only test make s = if test then make s else nothing s

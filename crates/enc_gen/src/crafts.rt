@@ -5,10 +5,11 @@ ghost use Rattle.acas_base.specs.Ranges.{IsBetween, IsWithin};
 ghost use Rattle.acas_base.specs.declared.craft.Leg.{Leg};
 ghost use Rattle.enc_gen.specs.Crafts.{address_of, altitude, backwards, climb, coordinate, draft, inwards, IsDraft, kind_of, legs_of, spec_of, speed};
 ghost use Rattle.enc_gen.specs.Draws.{draw};
-ghost use Rattle.enc_gen.specs.Making.{Makes, each};
+ghost use Rattle.enc_gen.specs.Making.{Makes, each, each_of};
+ghost use Rattle.enc_gen.specs.Passing.{aside, moved, placed};
 
 use crate::draws::Draws;
-use acas_base::{Address, CraftSpec, Kind, Leg};
+use acas_base::{Address, CraftSpec, Kind, Leg, Profile};
 use std::alloc::{AllocError, Global};
 
 // What is drawn for an aircraft: its kind, its place in cycle 1 (ft), and its first vertical rate (ft/min).
@@ -138,6 +139,81 @@ pub(crate) fn crafts_of(alloc: Global, drafts: &[Draft]) -> Result<Vec<CraftSpec
         crafts.push(spec_of(draft))?;
     }
     Ok(crafts)
+}
+
+// An aircraft that begins further along, by so many ft, by the number that is drawn for the way.
+fn moved(way: u32, by: u16, spec: CraftSpec) -> CraftSpec
+    requires x { IsWithin 60000 spec.x }
+    requires y { IsWithin 60000 spec.y }
+    ensures { result ≡ moved way by spec }
+{
+    let by = i32::from(by);
+    match way {
+        0 => CraftSpec {
+            x: spec.x + by,
+            ..spec
+        },
+        1 => CraftSpec {
+            y: spec.y + by,
+            ..spec
+        },
+        2 => CraftSpec {
+            x: spec.x - by,
+            ..spec
+        },
+        _ => CraftSpec {
+            y: spec.y - by,
+            ..spec
+        },
+    }
+}
+
+// Aircraft 0 as it was drawn, and another one moved aside by two draws.
+#[tactic(auto, unfolding(crate::specs::Passing::aside))]
+fn aside(draws: &mut Draws, draft: &Draft) -> CraftSpec
+    requires { IsDraft draft.now }
+    ensures value { result ∷ [] ≡ (aside draft.now draws.old).items }
+    ensures state { draws.new ≡ (aside draft.now draws.old).state }
+{
+    let spec = spec_of(draft);
+    if draft.craft == 0 {
+        return spec;
+    }
+    let by = draws.draw(24_305) as u16;
+    moved(draws.draw(4), by, spec)
+}
+
+// The aircraft, each moved aside.
+fn all_aside(
+    alloc: Global,
+    draws: &mut Draws,
+    drafts: &[Draft],
+) -> Result<Vec<CraftSpec>, AllocError>
+    requires { All IsDraft drafts.now }
+    ensures { IfOk result (λ crafts. crafts.items ≡ (each_of aside drafts.now draws.old).items) }
+{
+    let mut crafts = Vec::with_capacity(alloc, drafts.len())?;
+    for draft in drafts {
+        crafts.push(aside(draws, draft))?;
+    }
+    Ok(crafts)
+}
+
+// The aircraft, where they begin.
+#[tactic(auto, unfolding(crate::specs::Passing::placed))]
+pub(crate) fn placed(
+    alloc: Global,
+    draws: &mut Draws,
+    drafts: &[Draft],
+    profile: Profile,
+) -> Result<Vec<CraftSpec>, AllocError>
+    requires { All IsDraft drafts.now }
+    ensures { IfOk result (λ crafts. crafts.items ≡ placed profile drafts.now draws.old) }
+{
+    match profile {
+        Profile::One => crafts_of(alloc, drafts),
+        Profile::Two => all_aside(alloc, draws, drafts),
+    }
 }
 
 // The speed in ft/s that leads from a coordinate to zero in 100 s.

@@ -94,6 +94,10 @@ outside-end earlier stated.LegKind fields h = absurd (false≢true h)
 outside-end earlier stated.MissKind fields h = absurd (false≢true h)
 outside-end earlier stated.PlanKind fields h = absurd (false≢true h)
 outside-end earlier stated.FateKind fields h = absurd (false≢true h)
+outside-end earlier stated.ProfileKind fields h = absurd (false≢true h)
+outside-end earlier stated.NameKind fields h = absurd (false≢true h)
+outside-end earlier stated.ClockKind fields h = absurd (false≢true h)
+outside-end earlier stated.CallKind fields h = absurd (false≢true h)
 
 counted-by : (earlier : List Record) (first ended : Bool) (fields : List (List ℕ)) (named : Option stated.RecordKind) (kind : stated.RecordKind) → first ≡ false → ended ≡ false → named ≡ Some kind
     → (not (first || ended) && if_said named (λ kind. is_miscounted earlier kind fields)) ≡ false → is_miscounted earlier kind fields ≡ false

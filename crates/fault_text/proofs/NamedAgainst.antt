@@ -98,6 +98,10 @@ word-same kind.Miss = refl
 word-same kind.Plan = refl
 word-same kind.Fate = refl
 word-same kind.End = refl
+word-same kind.Profile = refl
+word-same kind.Name = refl
+word-same kind.Clock = refl
+word-same kind.Call = refl
 
 pub kind-word : (version : ℕ) (line : List ℕ) (found : Option RecordKind) (k : RecordKind) → found ≡ Some k → stated_kinds found ≡ kind_named version (field (fields_in line) 0) → word_text k ≡ field (fields_in line) 0
 kind-word version line found k is e =

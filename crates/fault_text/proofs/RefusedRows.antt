@@ -69,6 +69,10 @@ header-other kind.Miss = refl
 header-other kind.Plan = refl
 header-other kind.Fate = refl
 header-other kind.End = refl
+header-other kind.Profile = refl
+header-other kind.Name = refl
+header-other kind.Clock = refl
+header-other kind.Call = refl
 
 pub header-said : (row : List (List ℕ)) → field row 0 ≡ codes "encounter" → IsNoKind row
 header-said row e = λ of. ap (λ w. bytes_eq w (word_text of)) e ∙ header-other of
@@ -91,6 +95,10 @@ row-said before row (said.Miss pair from to) fine is = row-is before row (said.M
 row-said before row (said.Plan pair copies) fine is = row-is before row (said.Plan pair copies) fine is
 row-said before row (said.Fate pair number copies) fine is = row-is before row (said.Fate pair number copies) fine is
 row-said before row said.End fine is = row-is before row said.End fine is
+row-said before row (said.Profile profile) fine is = row-is before row (said.Profile profile) fine is
+row-said before row (said.Name text) fine is = row-is before row (said.Name text) fine is
+row-said before row (said.Clock second) fine is = row-is before row (said.Clock second) fine is
+row-said before row (said.Call address sign) fine is = row-is before row (said.Call address sign) fine is
 
 passed-said : (before : List Record) (rows : List (List (List ℕ))) (all : List Record) → ArePassed before rows all → AreSaid SaysRow (all_said before) rows (all_said all)
 passed-said before [] all passed = ap all_said passed

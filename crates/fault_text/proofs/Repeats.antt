@@ -1,12 +1,13 @@
 -- A record that repeats an earlier one is about the same as some earlier record of its kind.
-use Rattle.std.proofs.Common.{◌≡◌, ◌∙◌, ℕ, Bool, true, false, ℤ, List, [], ◌∷◌, ◌++◌, map, Option, Some, None, refl, sym, ap}
-use Rattle.std.specs.Prelude.{◌==◌, ◌&&◌, ◌||◌, nat_le, is_some, if◌then◌else◌}
+use Rattle.std.proofs.Common.{◌≡◌, ◌∙◌, ℕ, Bool, true, false, ℤ, List, [], ◌∷◌, ◌++◌, map, Option, Some, None, inl, inr, refl, sym, ap}
+use Rattle.std.specs.Prelude.{◌⊎◌, ◌==◌, ◌&&◌, ◌||◌, nat_le, is_some, if◌then◌else◌}
 use Rattle.std.specs.List.{list_any}
 use Rattle.std.proofs.Math.Bool.{and-true, or_comm, or-false, or-true}
 use Rattle.std.proofs.lemmas.Bool.{false≢true, eqb-true}
 use Rattle.std.proofs.lemmas.List.Folds.{list_any-append}
+use Rattle.acas_base.specs.Labels.{is_call_sign}
 use Rattle.acas_base.specs.declared.craft.CraftSpec.{CraftSpec}
-use Rattle.enc_file.specs.Conditions.{has_climb, if_said, is_fate_since, is_given, is_leg_since, is_miss_until, is_plan_for, is_repeat}
+use Rattle.enc_file.specs.Conditions.{has_climb, if_said, is_call_by, is_call_for, is_fate_since, is_given, is_leg_since, is_miss_until, is_plan_for, is_repeat}
 use Rattle.enc_file.specs.Earlier as gives
 use Rattle.enc_file.specs.Values.{address_in, count_in, field}
 use Rattle.enc_file.specs.declared.record.Addresses.{Addresses}
@@ -56,6 +57,45 @@ gains-any : (earlier : List Record) → is_some (gives.gains_of earlier) ≡ lis
 gains-any [] = refl
 gains-any (said.Gains gains ∷ earlier) = refl
 gains-any (other ∷ earlier) = gains-any earlier
+
+-- What the text says of itself.
+pub profile-any : (earlier : List Record) → is_some (gives.heading_of earlier).profile ≡ list_any (is_about (of-kind kind.Profile)) earlier
+profile-any [] = refl
+profile-any (said.Profile profile ∷ earlier) = refl
+profile-any (said.Name text ∷ earlier) = profile-any earlier
+profile-any (said.Clock second ∷ earlier) = profile-any earlier
+profile-any (other ∷ earlier) = profile-any earlier
+
+name-any : (earlier : List Record) → is_some (gives.heading_of earlier).name ≡ list_any (is_about (of-kind kind.Name)) earlier
+name-any [] = refl
+name-any (said.Profile profile ∷ earlier) = name-any earlier
+name-any (said.Name text ∷ earlier) = refl
+name-any (said.Clock second ∷ earlier) = name-any earlier
+name-any (other ∷ earlier) = name-any earlier
+
+clock-any : (earlier : List Record) → is_some (gives.heading_of earlier).clock ≡ list_any (is_about (of-kind kind.Clock)) earlier
+clock-any [] = refl
+clock-any (said.Profile profile ∷ earlier) = clock-any earlier
+clock-any (said.Name text ∷ earlier) = clock-any earlier
+clock-any (said.Clock second ∷ earlier) = refl
+clock-any (other ∷ earlier) = clock-any earlier
+
+-- Call signs.
+call-about : (a : ℕ) (now : Record) → is_call_for a now ≡ is_about (of-craft kind.Call a) now
+call-about a (said.Call b sign) = sym (and-true (b == a))
+call-about a other = refl
+
+either-true : (a b : Bool) → (a || b) ≡ true → (a ≡ true) ⊎ (b ≡ true)
+either-true true b h = inl refl
+either-true false b h = inr h
+
+call-first : (earlier : List Record) (one : Option ℕ) → if_said one (λ a. list_any (is_call_for a) earlier) ≡ true → list_any (is_about (record { kind = kind.Call; first = one; second = None })) earlier ≡ true
+call-first earlier None h = absurd (false≢true h)
+call-first earlier (Some a) h = sym (any-same (is_call_for a) (is_about (of-craft kind.Call a)) (call-about a) earlier) ∙ h
+
+sign-said : (b : Bool) (bytes : List ℕ) (earlier : List Record) → if_said (if b then Some bytes else None) (λ sign. list_any (is_call_by sign) earlier) ≡ true → list_any (is_call_by bytes) earlier ≡ true
+sign-said true bytes earlier h = h
+sign-said false bytes earlier h = absurd (false≢true h)
 
 -- Aircraft.
 with-ceiling-address : (b : Bool) (limit : ℤ) (craft : CraftSpec) (a : ℕ) → ((if b then record craft { ceiling = Some limit } else craft).address == a) ≡ (craft.address == a)
@@ -128,6 +168,10 @@ bare-more older earlier (Some (said.Miss pair from to)) row is bare = bare
 bare-more older earlier (Some (said.Plan pair copies)) row is bare = bare
 bare-more older earlier (Some (said.Fate pair number copies)) row is bare = bare
 bare-more older earlier (Some said.End) row is bare = bare
+bare-more older earlier (Some (said.Profile profile)) row is bare = bare
+bare-more older earlier (Some (said.Name text)) row is bare = bare
+bare-more older earlier (Some (said.Clock second)) row is bare = bare
+bare-more older earlier (Some (said.Call address sign)) row is bare = bare
 
 pub said-bare : (before : List (Option Record)) (rows : List (List (List ℕ))) (all : List (Option Record)) → AreSaid SaysRow before rows all → AreBare (records_in before) → AreBare (records_in all)
 said-bare before [] all says bare = rw (← says) bare
@@ -246,13 +290,27 @@ climb-at : (earlier : List Record) (one : Option ℕ) → AreBare earlier → if
 climb-at earlier None bare h = absurd (false≢true h)
 climb-at earlier (Some a) bare h = climb-any a earlier bare h
 
-pub repeat-any : (earlier : List Record) (k : RecordKind) (fields : List (List ℕ)) → AreBare earlier → is_repeat earlier (stated_kind k) fields ≡ true → list_any (is_about (alike k fields)) earlier ≡ true
-repeat-any earlier kind.Run fields bare h = sym (run-any earlier) ∙ h
-repeat-any earlier kind.Gains fields bare h = sym (gains-any earlier) ∙ h
-repeat-any earlier kind.Craft fields bare h = craft-at earlier (address_in (field fields 1)) h
-repeat-any earlier kind.Climb fields bare h = climb-at earlier (address_in (field fields 1)) bare h
-repeat-any earlier kind.Leg fields bare h = rises-any earlier leg-sought kind.Leg fields 2 (leg-rises earlier fields h)
-repeat-any earlier kind.Miss fields bare h = rises-any earlier miss-sought kind.Miss fields 3 (miss-rises earlier fields h)
-repeat-any earlier kind.Plan fields bare h = plan-at earlier (address_in (field fields 1)) (address_in (field fields 2)) h
-repeat-any earlier kind.Fate fields bare h = rises-any earlier fate-sought kind.Fate fields 3 (fate-rises earlier fields h)
+-- A call sign of another aircraft.
+abbrev pub IsSigned : List Record → RecordKind → List (List ℕ) → Type 0
+IsSigned earlier k fields = (k ≡ kind.Call) × (list_any (is_call_by (field fields 2)) earlier ≡ true)
+
+call-at : (earlier : List Record) (fields : List (List ℕ)) → is_repeat earlier (stated_kind kind.Call) fields ≡ true → (list_any (is_about (alike kind.Call fields)) earlier ≡ true) ⊎ IsSigned earlier kind.Call fields
+call-at earlier fields h = elim (either-true (if_said (address_in (field fields 1)) (λ a. list_any (is_call_for a) earlier)) _ h) [
+  | inl one ↦ inl (call-first earlier (address_in (field fields 1)) one)
+  | inr two ↦ inr (refl, sign-said (is_call_sign (field fields 2)) (field fields 2) earlier two)
+]
+
+pub repeat-any : (earlier : List Record) (k : RecordKind) (fields : List (List ℕ)) → AreBare earlier → is_repeat earlier (stated_kind k) fields ≡ true → (list_any (is_about (alike k fields)) earlier ≡ true) ⊎ IsSigned earlier k fields
+repeat-any earlier kind.Run fields bare h = inl (sym (run-any earlier) ∙ h)
+repeat-any earlier kind.Gains fields bare h = inl (sym (gains-any earlier) ∙ h)
+repeat-any earlier kind.Craft fields bare h = inl (craft-at earlier (address_in (field fields 1)) h)
+repeat-any earlier kind.Climb fields bare h = inl (climb-at earlier (address_in (field fields 1)) bare h)
+repeat-any earlier kind.Leg fields bare h = inl (rises-any earlier leg-sought kind.Leg fields 2 (leg-rises earlier fields h))
+repeat-any earlier kind.Miss fields bare h = inl (rises-any earlier miss-sought kind.Miss fields 3 (miss-rises earlier fields h))
+repeat-any earlier kind.Plan fields bare h = inl (plan-at earlier (address_in (field fields 1)) (address_in (field fields 2)) h)
+repeat-any earlier kind.Fate fields bare h = inl (rises-any earlier fate-sought kind.Fate fields 3 (fate-rises earlier fields h))
 repeat-any earlier kind.End fields bare h = absurd (false≢true h)
+repeat-any earlier kind.Profile fields bare h = inl (sym (profile-any earlier) ∙ h)
+repeat-any earlier kind.Name fields bare h = inl (sym (name-any earlier) ∙ h)
+repeat-any earlier kind.Clock fields bare h = inl (sym (clock-any earlier) ∙ h)
+repeat-any earlier kind.Call fields bare h = call-at earlier fields h

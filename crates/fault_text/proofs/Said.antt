@@ -1,14 +1,17 @@
 -- What the fields of a record are where it is read.
 use Rattle.std.proofs.Common.{◌≡◌, ◌∙◌, ℕ, Bool, true, false, ℤ, List, [], ◌∷◌, length, Option, Some, None, refl, sym, ap}
-use Rattle.std.specs.Prelude.{◌==◌, ◌&&◌, nat_lt, if◌then◌else◌, codes, Result, Ok, Err}
+use Rattle.std.specs.Prelude.{◌==◌, ◌&&◌, nat_le, nat_lt, if◌then◌else◌, codes, Result, Ok, Err}
 use Rattle.std.specs.Str.{bytes_eq}
 use Rattle.std.proofs.lemmas.Bool.{false≢true}
+use Rattle.std.proofs.lemmas.Option.{same_Some}
 use Rattle.std.proofs.lemmas.Slice.Eq.{bytes_eq-Decides}
 use Rattle.enc_file.specs.Conditions.{said_by}
 use Rattle.enc_file.specs.Earlier.{version_of}
-use Rattle.enc_file.specs.Saying.{climb_of, craft_of, end_of, fate_of, gains_of, leg_of, miss_of, needs, plan_of, record_of, run_of, version_in}
-use Rattle.enc_file.specs.Values.{address_in, count_in, field}
+use Rattle.enc_file.specs.Saying.{call_of, climb_of, clock_of, craft_of, end_of, fate_of, gains_of, leg_of, miss_of, name_of, needs, plan_of, profile_of, record_of, run_of, version_in}
+use Rattle.enc_file.specs.Values.{address_in, count_in, field, sign_in}
+use Rattle.acas_base.specs.Labels.{is_call_sign}
 use Rattle.acas_base.specs.declared.craft.Kind.{Kind}
+use Rattle.acas_base.specs.declared.setting.Profile.{Profile}
 use Rattle.enc_file.specs.declared.record.Copies.{Copies}
 use Rattle.enc_file.specs.declared.record.Record.{Record}
 use Rattle.enc_file.specs.declared.record.Record.TheVariants as said
@@ -16,7 +19,7 @@ use Rattle.enc_file.specs.declared.record.Run.{Run}
 use Rattle.enc_file.specs.declared.record.TrackGains.{TrackGains}
 use Rattle.enc_file.specs.declared.refusal.Code.{Code}
 use Rattle.enc_file.specs.declared.refusal.Code.TheVariants as code
-use Rattle.fault_text.specs.Before.{are_about, has_first, has_second, is_about, is_about_in, is_asked}
+use Rattle.fault_text.specs.Before.{are_about, are_called, has_first, has_second, is_about, is_about_in, is_asked, is_called_in}
 use Rattle.fault_text.specs.Rows.{IsNoKind, IsRow, Says, SaysRow, word_said}
 use Rattle.fault_text.specs.Names.{word_text}
 use Rattle.fault_text.specs.declared.earlier.Sought.{Sought}
@@ -81,6 +84,26 @@ fate-ok : (row : List (List ℕ)) (first second number : ℕ) (copies : Copies) 
 unfolding As
 fate-ok row first second number copies one two begins = (refl, ((one, two), begins))
 
+profile-ok : (row : List (List ℕ)) (profile : Profile) → As (codes "profile") row (Ok (said.Profile profile))
+unfolding As
+profile-ok row profile = (refl, tt)
+
+name-ok : (row : List (List ℕ)) (text : List ℕ) → As (codes "name") row (Ok (said.Name text))
+unfolding As
+name-ok row text = (refl, tt)
+
+clock-ok : (row : List (List ℕ)) (second : ℕ) → As (codes "clock") row (Ok (said.Clock second))
+unfolding As
+clock-ok row second = (refl, tt)
+
+text-same : (b : Bool) (text sign : List ℕ) → (if b then Some text else None) ≡ Some sign → text ≡ sign
+text-same true text sign e = same_Some text sign e
+text-same false text sign e = absurd (cc e)
+
+call-ok : (row : List (List ℕ)) (address : ℕ) (sign : List ℕ) → address_in (field row 1) ≡ Some address → sign_in (field row 2) ≡ Some sign → As (codes "call") row (Ok (said.Call address sign))
+unfolding As
+call-ok row address sign is e = (refl, (is, text-same (is_call_sign (field row 2)) (field row 2) sign e))
+
 end-ok : (row : List (List ℕ)) → As (codes "end") row (Ok said.End)
 unfolding As
 end-ok row = (refl, tt)
@@ -117,6 +140,22 @@ fate-as : (row : List (List ℕ)) → As (codes "fate") row (fate_of row)
 unfolding fate_of
 fate-as row = search (as-needs, fate-ok) depth 14
 
+profile-as : (row : List (List ℕ)) → As (codes "profile") row (profile_of row)
+unfolding profile_of
+profile-as row = search (as-if, as-needs, profile-ok) depth 14
+
+name-as : (row : List (List ℕ)) → As (codes "name") row (name_of row)
+unfolding name_of
+name-as row = search (as-if, as-needs, name-ok) depth 14
+
+clock-as : (row : List (List ℕ)) → As (codes "clock") row (clock_of row)
+unfolding clock_of
+clock-as row = search (as-if, as-needs, clock-ok) depth 14
+
+call-as : (row : List (List ℕ)) → As (codes "call") row (call_of row)
+unfolding call_of
+call-as row = search (as-if, as-needs, call-ok) depth 14
+
 end-as : (row : List (List ℕ)) → As (codes "end") row (end_of row)
 unfolding end_of
 end-as row = search (as-if, end-ok) depth 6
@@ -139,8 +178,10 @@ unfolding record_of
 record-as version row =
     named _ row (codes "fate") _ _ refl (fate-as row) (named _ row (codes "miss") _ _ refl (miss-as row) (named _ row (codes "leg") _ _ refl (leg-as row)
     (named _ row (codes "craft") _ _ refl (craft-as row) (named _ row (codes "run") _ _ refl (run-as row) (named _ row (codes "gains") _ _ refl (gains-as row)
-    (named _ row (codes "end") _ _ refl (end-as row) (named-later (version == 2) _ row (codes "climb") _ _ refl (climb-as row)
-    (named-later (version == 2) _ row (codes "plan") _ _ refl (plan-as row) (none-as row code.Kind)))))))))
+    (named _ row (codes "end") _ _ refl (end-as row) (named-later (nat_le 2 version) _ row (codes "climb") _ _ refl (climb-as row)
+    (named-later (nat_le 2 version) _ row (codes "plan") _ _ refl (plan-as row) (named-later (nat_le 3 version) _ row (codes "profile") _ _ refl (profile-as row)
+    (named-later (nat_le 3 version) _ row (codes "name") _ _ refl (name-as row) (named-later (nat_le 3 version) _ row (codes "clock") _ _ refl (clock-as row)
+    (named-later (nat_le 3 version) _ row (codes "call") _ _ refl (call-as row) (none-as row code.Kind)))))))))))))
 
 both : (a b : Bool) → (a && b) ≡ true → b ≡ true
 both true b h = h
@@ -159,7 +200,7 @@ header-as : (row : List (List ℕ)) → As (field row 0) row (needs (version_in 
 unfolding version_in
 header-as row =
     as-needs (field row 0) row (version_in row) code.Header (λ version. Ok (said.Header version)) (λ version is.
-    header-ok row version (header-word (length row == 2) (bytes_eq (field row 0) (codes "encounter")) row (count_in 1 2 (field row 1)) refl version is))
+    header-ok row version (header-word (length row == 2) (bytes_eq (field row 0) (codes "encounter")) row (count_in 1 3 (field row 1)) refl version is))
 
 said-as : (earlier : List Record) (row : List (List ℕ)) → As (field row 0) row (said_by earlier row)
 said-as [] row = header-as row
@@ -206,19 +247,55 @@ run-first : (k : RecordKind) → bytes_eq (codes "run") (word_text k) ≡ true �
 run-first kind.Run h = (refl, refl)
 run-first kind.Gains h = (refl, refl)
 run-first kind.End h = (refl, refl)
+run-first kind.Profile h = (refl, refl)
+run-first kind.Name h = (refl, refl)
+run-first kind.Clock h = (refl, refl)
 run-first other h = absurd (false≢true h)
 
 gains-first : (k : RecordKind) → bytes_eq (codes "gains") (word_text k) ≡ true → (has_first k ≡ false) × (has_second k ≡ false)
 gains-first kind.Run h = (refl, refl)
 gains-first kind.Gains h = (refl, refl)
 gains-first kind.End h = (refl, refl)
+gains-first kind.Profile h = (refl, refl)
+gains-first kind.Name h = (refl, refl)
+gains-first kind.Clock h = (refl, refl)
 gains-first other h = absurd (false≢true h)
 
 end-first : (k : RecordKind) → bytes_eq (codes "end") (word_text k) ≡ true → (has_first k ≡ false) × (has_second k ≡ false)
 end-first kind.Run h = (refl, refl)
 end-first kind.Gains h = (refl, refl)
 end-first kind.End h = (refl, refl)
+end-first kind.Profile h = (refl, refl)
+end-first kind.Name h = (refl, refl)
+end-first kind.Clock h = (refl, refl)
 end-first other h = absurd (false≢true h)
+
+profile-first : (k : RecordKind) → bytes_eq (codes "profile") (word_text k) ≡ true → (has_first k ≡ false) × (has_second k ≡ false)
+profile-first kind.Run h = (refl, refl)
+profile-first kind.Gains h = (refl, refl)
+profile-first kind.End h = (refl, refl)
+profile-first kind.Profile h = (refl, refl)
+profile-first kind.Name h = (refl, refl)
+profile-first kind.Clock h = (refl, refl)
+profile-first other h = absurd (false≢true h)
+
+name-first : (k : RecordKind) → bytes_eq (codes "name") (word_text k) ≡ true → (has_first k ≡ false) × (has_second k ≡ false)
+name-first kind.Run h = (refl, refl)
+name-first kind.Gains h = (refl, refl)
+name-first kind.End h = (refl, refl)
+name-first kind.Profile h = (refl, refl)
+name-first kind.Name h = (refl, refl)
+name-first kind.Clock h = (refl, refl)
+name-first other h = absurd (false≢true h)
+
+clock-first : (k : RecordKind) → bytes_eq (codes "clock") (word_text k) ≡ true → (has_first k ≡ false) × (has_second k ≡ false)
+clock-first kind.Run h = (refl, refl)
+clock-first kind.Gains h = (refl, refl)
+clock-first kind.End h = (refl, refl)
+clock-first kind.Profile h = (refl, refl)
+clock-first kind.Name h = (refl, refl)
+clock-first kind.Clock h = (refl, refl)
+clock-first other h = absurd (false≢true h)
 
 pub encounter-none : (k : RecordKind) (x : Bool) → (bytes_eq (codes "encounter") (word_text k) && x) ≡ false
 encounter-none kind.Run x = refl
@@ -235,6 +312,12 @@ climb-second kind.Miss h = absurd (false≢true h)
 climb-second kind.Plan h = absurd (false≢true h)
 climb-second kind.Fate h = absurd (false≢true h)
 climb-second other h = refl
+
+call-second : (k : RecordKind) → bytes_eq (codes "call") (word_text k) ≡ true → has_second k ≡ false
+call-second kind.Miss h = absurd (false≢true h)
+call-second kind.Plan h = absurd (false≢true h)
+call-second kind.Fate h = absurd (false≢true h)
+call-second other h = refl
 
 leg-second : (k : RecordKind) → bytes_eq (codes "leg") (word_text k) ≡ true → has_second k ≡ false
 leg-second kind.Miss h = absurd (false≢true h)
@@ -275,6 +358,10 @@ about-by sought row (said.Miss pair from to) fit says = two-about sought (codes 
 about-by sought row (said.Plan pair copies) fit says = two-about sought (codes "plan") pair.first pair.second _ _ says.0 says.1
 about-by sought row (said.Fate pair number copies) fit says = two-about sought (codes "fate") pair.first pair.second _ _ says.0.0 says.0.1
 about-by sought row said.End fit says = none-about sought (codes "end") _ _ fit (end-first sought.kind)
+about-by sought row (said.Profile profile) fit says = none-about sought (codes "profile") _ _ fit (profile-first sought.kind)
+about-by sought row (said.Name text) fit says = none-about sought (codes "name") _ _ fit (name-first sought.kind)
+about-by sought row (said.Clock second) fit says = none-about sought (codes "clock") _ _ fit (clock-first sought.kind)
+about-by sought row (said.Call address sign) fit says = one-about sought (codes "call") address _ _ fit (call-second sought.kind) says.0
 
 no-kind : (sought : Sought) (row : List (List ℕ)) (x : Bool) → IsNoKind row → (bytes_eq (field row 0) (word_text sought.kind) && x) ≡ false
 no-kind sought row x none = rw (none sought.kind) refl
@@ -295,3 +382,31 @@ about-same sought older row (Some (said.Miss pair from to)) fit is = row-same so
 about-same sought older row (Some (said.Plan pair copies)) fit is = row-same sought older row (said.Plan pair copies) fit is
 about-same sought older row (Some (said.Fate pair number copies)) fit is = row-same sought older row (said.Fate pair number copies) fit is
 about-same sought older row (Some said.End) fit is = row-same sought older row said.End fit is
+about-same sought older row (Some (said.Profile profile)) fit is = row-same sought older row (said.Profile profile) fit is
+about-same sought older row (Some (said.Name text)) fit is = row-same sought older row (said.Name text) fit is
+about-same sought older row (Some (said.Clock second)) fit is = row-same sought older row (said.Clock second) fit is
+about-same sought older row (Some (said.Call address sign)) fit is = row-same sought older row (said.Call address sign) fit is
+
+-- A row has a call sign exactly where it says such a record.
+called-word : (sign : List ℕ) (row : List (List ℕ)) (word : List ℕ) → field row 0 ≡ word → bytes_eq word (codes "call") ≡ false → are_called sign row ≡ false
+called-word sign row word e other = rw (e, other) refl
+
+called-same : (sign : List ℕ) (row : List (List ℕ)) (other : List ℕ) → field row 0 ≡ codes "call" → field row 2 ≡ other → are_called sign row ≡ bytes_eq other sign
+called-same sign row other e f = rw (e, f) refl
+
+pub called-as : (sign : List ℕ) (older : List (Option Record)) (row : List (List ℕ)) (now : Option Record) → SaysRow older row now → are_called sign row ≡ is_called_in sign now
+called-as sign older row None is = rw (is kind.Call) refl
+called-as sign older row (Some (said.Header version)) is = rw (is kind.Call) refl
+called-as sign older row (Some (said.Run run)) is = called-word sign row (codes "run") is.word refl
+called-as sign older row (Some (said.Gains gains)) is = called-word sign row (codes "gains") is.word refl
+called-as sign older row (Some (said.Craft craft)) is = called-word sign row (codes "craft") is.word refl
+called-as sign older row (Some (said.Climb address limit)) is = called-word sign row (codes "climb") is.word refl
+called-as sign older row (Some (said.Leg address course)) is = called-word sign row (codes "leg") is.word refl
+called-as sign older row (Some (said.Miss pair from to)) is = called-word sign row (codes "miss") is.word refl
+called-as sign older row (Some (said.Plan pair copies)) is = called-word sign row (codes "plan") is.word refl
+called-as sign older row (Some (said.Fate pair number copies)) is = called-word sign row (codes "fate") is.word refl
+called-as sign older row (Some said.End) is = called-word sign row (codes "end") is.word refl
+called-as sign older row (Some (said.Profile profile)) is = called-word sign row (codes "profile") is.word refl
+called-as sign older row (Some (said.Name text)) is = called-word sign row (codes "name") is.word refl
+called-as sign older row (Some (said.Clock second)) is = called-word sign row (codes "clock") is.word refl
+called-as sign older row (Some (said.Call address other)) is = called-same sign row other is.word is.says.1

@@ -175,6 +175,19 @@ number-turned kind.Fate fields counted wrong none =
     let c = none-next code.Number name.Number copy_names fields 3 (omega (arith, n)) b.later in
     none-wrong _ (or-two _ _ (count-none 1 600 (field fields 3) c.here) (no-copies fields 4 c.later)) wrong
 number-turned kind.End fields counted wrong none = absurd (false≢true wrong)
+number-turned kind.Profile fields counted wrong none =
+    let n = one-count (length fields) 2 counted in
+    none-wrong _ (none-next code.Number name.Profile [] fields 1 (omega (arith, n)) none).here wrong
+number-turned kind.Name fields counted wrong none =
+    let n = one-count (length fields) 2 counted in
+    none-wrong _ (none-next code.Number name.Label [] fields 1 (omega (arith, n)) none).here wrong
+number-turned kind.Clock fields counted wrong none =
+    let n = one-count (length fields) 2 counted in
+    none-wrong _ (none-next code.Number name.Clock [] fields 1 (omega (arith, n)) none).here wrong
+number-turned kind.Call fields counted wrong none =
+    let n = one-count (length fields) 3 counted in
+    let a = none-next code.Number name.Address (name.Sign ∷ []) fields 1 (omega (arith, n)) none in
+    none-wrong _ (none-next code.Number name.Sign [] fields 2 (omega (arith, n)) a.later).here wrong
 
 -- A field with a mask of too many bits is a mask.
 mask-by : (o : Option ℕ) → if_said o (λ mask. nat_lt 3 (count_ones mask)) ≡ true → o ≡ None → ⊥
@@ -184,6 +197,10 @@ mask-by (Some m) h e = absurd (cc e)
 masked-content : (content : Content) (found : List ℕ) → many_bits content found ≡ true → mask_in found ≡ None → ⊥
 masked-content content.Mask found h e = mask-by (mask_in found) h e
 masked-content content.Kind found h e = false≢true h
+masked-content content.Profile found h e = false≢true h
+masked-content content.Label found h e = false≢true h
+masked-content content.Clock found h e = false≢true h
+masked-content content.Sign found h e = false≢true h
 masked-content content.Address found h e = false≢true h
 masked-content (content.Whole low high) found h e = false≢true h
 
@@ -214,9 +231,11 @@ turned-number of line why.NoEnd none miss told = absurd told
 turned-number of line (why.Outside _ _ _ _) none miss told = elim told [ ]
 turned-number of line (why.Again _ _ _) none miss told = elim told [ ]
 turned-number of line (why.NotAbove _ _ _ _) none miss told = elim told [ ]
+turned-number of line (why.Called _ _) none miss told = elim told [ ]
 turned-number of line (why.Unknown _ _) none miss told = elim told [ ]
 turned-number of line (why.Equal _) none miss told = elim told [ ]
 turned-number of line (why.ManyCrafts _) none miss told = elim told [ ]
 turned-number of line why.NoRun none miss told = elim told [ ]
+turned-number of line why.NoProfile none miss told = elim told [ ]
 turned-number of line why.NoneActive none miss told = elim told [ ]
 turned-number of line (why.After end) none miss told = absurd told

@@ -1,10 +1,11 @@
 -- What the records before a refused one say.
-use Rattle.std.specs.Prelude.{◌≡◌, ℕ, ◌+◌, ◌-◌, ◌≤◌, ◌⊎◌, ◌==◌, ◌&&◌, Bool, true, false, List, ◌∷◌, ◌++◌, length, Option, Some, None, MatchOption, is_some, slice_get}
+use Rattle.std.specs.Prelude.{◌≡◌, ℕ, ◌+◌, ◌-◌, ◌≤◌, ◌⊎◌, ◌==◌, ◌&&◌, Bool, true, false, List, ◌∷◌, ◌++◌, length, codes, Option, Some, None, MatchOption, is_some, slice_get}
 use Rattle.std.specs.List.{list_any}
 use Rattle.std.specs.Str.{bytes_eq}
 use Rattle.acas_base.specs.Encounter.{is_active, most_crafts}
-use Rattle.enc_file.specs.Conditions.{if_said, is_given, is_stranger}
+use Rattle.enc_file.specs.Conditions.{if_said, is_call_by, is_given, is_stranger}
 use Rattle.enc_file.specs.Earlier.{crafts_of, run_of, version_of}
+use Rattle.enc_file.specs.Faults.{lacks_profile}
 use Rattle.enc_file.specs.Values.{address_in, count_in, field}
 use Rattle.enc_file.specs.declared.record.Record.{Record}
 use Rattle.enc_file.specs.declared.record.Record.TheVariants as said
@@ -22,6 +23,7 @@ use Rattle.fault_text.specs.declared.names.RecordKind.TheVariants as kind
 -- The address that a record says first, and the one that it says second.
 abbrev pub first_said : Record → Option ℕ
 first_said (said.Craft craft) = Some craft.address
+first_said (said.Call address sign) = Some address
 first_said (said.Climb address limit) = Some address
 first_said (said.Leg address course) = Some address
 first_said (said.Miss pair from to) = Some pair.first
@@ -60,6 +62,9 @@ abbrev pub has_first : RecordKind → Bool
 has_first kind.Run = false
 has_first kind.Gains = false
 has_first kind.End = false
+has_first kind.Profile = false
+has_first kind.Name = false
+has_first kind.Clock = false
 has_first other = true
 
 abbrev pub has_second : RecordKind → Bool
@@ -149,9 +154,32 @@ pub record TellsNotAbove (text : List ℕ) (earlier : List (Option Record)) (kin
   pub reached-is : reached_said now ≡ Some reached
   pub order : found ≤ reached
 
+-- The fields of a record with this call sign, and what such a record says.
+abbrev pub are_called : List ℕ → List (List ℕ) → Bool
+are_called sign fields = bytes_eq (field fields 0) (codes "call") && bytes_eq (field fields 2) sign
+
+abbrev pub holds_sign : List ℕ → List ℕ → Bool
+holds_sign sign line = are_called sign (fields_in line)
+
+abbrev pub is_called_in : List ℕ → Option Record → Bool
+is_called_in sign now = if_said now (is_call_by sign)
+
+-- No earlier record gives the aircraft a call sign. The call sign is one that an earlier record gave, the last of them
+-- in the line with this number.
+pub record TellsCalled (text : List ℕ) (earlier : List (Option Record)) (of : RecordKind) (fields : List (List ℕ)) (found : List ℕ) (number : ℕ) : Type 0 where
+  pub same : of ≡ kind.Call
+  pub stands : found ≡ field fields 2
+  pub uncalled : list_any (is_about_in (alike of fields)) earlier ≡ false
+  pub at : ℕ
+  pub now : Option Record
+  pub is : IsLast earlier (is_called_in found) at now
+  pub line : List ℕ
+  pub placed : IsPlaced (file_lines text) at number line
+
 abbrev pub TellsRepeat : List ℕ → List (Option Record) → RecordKind → List (List ℕ) → Why → Type 0
 TellsRepeat text earlier kind fields (why.Again of line number) = TellsAgain text earlier kind fields of (fields_in line.now) number
 TellsRepeat text earlier kind fields (why.NotAbove of found reached number) = TellsNotAbove text earlier kind fields of found reached number
+TellsRepeat text earlier kind fields (why.Called found number) = TellsCalled text earlier kind fields found.now number
 TellsRepeat text earlier kind fields other = ⊥
 
 -- The field at a place. It spells an address, which no earlier aircraft has.
@@ -180,9 +208,10 @@ TellsUnknown earlier kind fields (why.Unknown name found) =
 TellsUnknown earlier kind fields (why.Equal found) = TellsEqual earlier fields found.now
 TellsUnknown earlier kind fields other = ⊥
 
--- One aircraft too many. At the end: no run; or, where there is one, nobody active.
+-- One aircraft too many. At the end: no run; or, where there is one, no profile that is needed; or else nobody active.
 abbrev pub TellsCounted : List Record → RecordKind → Why → Type 0
 TellsCounted earlier of (why.ManyCrafts version) = (of ≡ kind.Craft) × (version ≡ version_of earlier) × (most_crafts version ≤ length (crafts_of earlier))
 TellsCounted earlier of why.NoRun = (of ≡ kind.End) × (run_of earlier ≡ None)
-TellsCounted earlier of why.NoneActive = (of ≡ kind.End) × (is_some (run_of earlier) ≡ true) × (list_any is_active (crafts_of earlier) ≡ false)
+TellsCounted earlier of why.NoProfile = (of ≡ kind.End) × (is_some (run_of earlier) ≡ true) × (lacks_profile earlier ≡ true)
+TellsCounted earlier of why.NoneActive = (of ≡ kind.End) × (is_some (run_of earlier) ≡ true) × (lacks_profile earlier ≡ false) × (list_any is_active (crafts_of earlier) ≡ false)
 TellsCounted earlier of other = ⊥

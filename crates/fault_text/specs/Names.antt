@@ -3,7 +3,8 @@ use Rattle.std.specs.Prelude.{ℕ, nat_lt, Bool, false, pos, neg_ℤ, List, [], 
 use Rattle.std.specs.List.{zip}
 use Rattle.enc_file.specs.Conditions as stated
 use Rattle.enc_file.specs.Conditions.{if_said}
-use Rattle.enc_file.specs.Values.{address_in, kind_in, mask_in, number_in}
+use Rattle.enc_file.specs.Clock.{clock_in}
+use Rattle.enc_file.specs.Values.{address_in, kind_in, label_in, mask_in, number_in, profile_in, sign_in}
 use Rattle.enc_file.specs.declared.refusal.Code.{Code}
 use Rattle.enc_file.specs.declared.refusal.Code.TheVariants as code
 use Rattle.fault_text.specs.declared.names.Content.{Content}
@@ -23,6 +24,10 @@ word_text kind.Miss = codes "miss"
 word_text kind.Plan = codes "plan"
 word_text kind.Fate = codes "fate"
 word_text kind.End = codes "end"
+word_text kind.Profile = codes "profile"
+word_text kind.Name = codes "name"
+word_text kind.Clock = codes "clock"
+word_text kind.Call = codes "call"
 
 -- A kind of record, as the conditions of the codes name it.
 abbrev pub stated_kind : RecordKind → stated.RecordKind
@@ -35,6 +40,10 @@ stated_kind kind.Miss = stated.MissKind
 stated_kind kind.Plan = stated.PlanKind
 stated_kind kind.Fate = stated.FateKind
 stated_kind kind.End = stated.EndKind
+stated_kind kind.Profile = stated.ProfileKind
+stated_kind kind.Name = stated.NameKind
+stated_kind kind.Clock = stated.ClockKind
+stated_kind kind.Call = stated.CallKind
 
 abbrev pub stated_kinds : Option RecordKind → Option stated.RecordKind
 stated_kinds found = option_map stated_kind found
@@ -62,6 +71,10 @@ name_text name.Receiver = codes "RECEIVER"
 name_text name.Number = codes "NUMBER"
 name_text name.Hold = codes "HOLD"
 name_text name.Mask = codes "MASK"
+name_text name.Profile = codes "NUMBER"
+name_text name.Label = codes "TEXT"
+name_text name.Clock = codes "HH:MM:SS"
+name_text name.Sign = codes "NAME"
 name_text name.Ms = codes "MS"
 name_text name.Z = codes "Z"
 
@@ -95,6 +108,10 @@ content_of name.Receiver = content.Address
 content_of name.Number = up_from 1 600
 content_of name.Hold = up_from 0 60
 content_of name.Mask = content.Mask
+content_of name.Profile = content.Profile
+content_of name.Label = content.Label
+content_of name.Clock = content.Clock
+content_of name.Sign = content.Sign
 content_of name.Ms = around 1000000 1000000
 content_of name.Z = around 60000 3600000
 
@@ -112,12 +129,20 @@ names_of kind.Miss = name.Own ∷ name.Target ∷ name.From ∷ name.To ∷ []
 names_of kind.Plan = name.Sender ∷ name.Receiver ∷ copy_names
 names_of kind.Fate = name.Sender ∷ name.Receiver ∷ name.Number ∷ copy_names
 names_of kind.End = []
+names_of kind.Profile = name.Profile ∷ []
+names_of kind.Name = name.Label ∷ []
+names_of kind.Clock = name.Clock ∷ []
+names_of kind.Call = name.Address ∷ name.Sign ∷ []
 
 -- A field fails its part of a code's condition. In a record it is asked together with its name.
 abbrev pub no_value : Content → List ℕ → Bool
 no_value (content.Whole low high) found = is_none (number_in low high found)
 no_value content.Kind found = is_none (kind_in found)
 no_value content.Mask found = is_none (mask_in found)
+no_value content.Profile found = is_none (profile_in found)
+no_value content.Label found = is_none (label_in found)
+no_value content.Clock found = is_none (clock_in found)
+no_value content.Sign found = is_none (sign_in found)
 no_value content.Address found = false
 
 abbrev pub no_address : Content → List ℕ → Bool

@@ -29,8 +29,12 @@ word_said (said.Miss pair from to) = codes "miss"
 word_said (said.Plan pair copies) = codes "plan"
 word_said (said.Fate pair number copies) = codes "fate"
 word_said said.End = codes "end"
+word_said (said.Profile profile) = codes "profile"
+word_said (said.Name text) = codes "name"
+word_said (said.Clock second) = codes "clock"
+word_said (said.Call address sign) = codes "call"
 
--- The addresses and the numbers that a record says, as its fields spell them.
+-- The addresses, the numbers and the call sign that a record says, as its fields spell them.
 abbrev pub SaysPair : List (List ℕ) → ℕ → ℕ → Type 0
 SaysPair row first second = (address_in (field row 1) ≡ Some first) × (address_in (field row 2) ≡ Some second)
 
@@ -41,6 +45,7 @@ Says row (said.Leg address course) = (address_in (field row 1) ≡ Some address)
 Says row (said.Miss pair from to) = SaysPair row pair.first pair.second × (count_in 1 600 (field row 3) ≡ Some from) × (count_in 1 600 (field row 4) ≡ Some to) × (nat_lt to from ≡ false)
 Says row (said.Plan pair copies) = SaysPair row pair.first pair.second
 Says row (said.Fate pair number copies) = SaysPair row pair.first pair.second × (count_in 1 600 (field row 3) ≡ Some number)
+Says row (said.Call address sign) = (address_in (field row 1) ≡ Some address) × (field row 2 ≡ sign)
 Says row other = Unit {0}
 
 -- Each record of these kinds about an aircraft or pair has to exceed the one before.

@@ -1,5 +1,5 @@
 -- The sentence of a fault.
-use Rattle.std.specs.Prelude.{ℕ, ℤ, ◌==◌, ◌&&◌, ◌||◌, if◌then◌else◌, Bool, List, [], ◌∷◌, ◌++◌, codes, Option, None, Some}
+use Rattle.std.specs.Prelude.{ℕ, ℤ, ◌==◌, ◌&&◌, ◌||◌, nat_lt, if◌then◌else◌, Bool, List, [], ◌∷◌, ◌++◌, codes, Option, None, Some}
 use Rattle.std.specs.Fmt.{decimal, signed_decimal}
 use Rattle.std.specs.Str.{bytes_eq}
 use Rattle.acas_text.specs.Hex.{hex}
@@ -43,6 +43,10 @@ abbrev pub wanted : FieldName → Content → List ℕ → List ℕ
 wanted n (content.Whole low high) found = codes "a whole number from " ++ range_text low high ++ unit_text n ++ number_hint found
 wanted n content.Kind found = codes "RA, TA or XPDR"
 wanted n content.Mask found = codes "two digits 0-9A-F"
+wanted n content.Profile found = codes "1 or 2"
+wanted n content.Label found = codes "1 to 60 bytes from 20 to 7E hex"
+wanted n content.Clock found = codes "a time of day from 00:00:00 to 23:59:59"
+wanted n content.Sign found = codes "a call sign: 1 to 8 of A-Z, 0-9 and -, and not six digits 0-9A-F"
 wanted n content.Address found = codes "an address"
 
 -- The form of a record.
@@ -56,20 +60,36 @@ form_text kind.Miss = codes "miss,OWN,TARGET,FROM,TO"
 form_text kind.Plan = codes "plan,SENDER,RECEIVER and none to three copies HOLD,MASK"
 form_text kind.Fate = codes "fate,SENDER,RECEIVER,NUMBER and none to three copies HOLD,MASK"
 form_text kind.End = codes "end"
+form_text kind.Profile = codes "profile,NUMBER"
+form_text kind.Name = codes "name,TEXT"
+form_text kind.Clock = codes "clock,HH:MM:SS"
+form_text kind.Call = codes "call,ADDRESS,NAME"
 
 -- A word that names no kind of the format.
 abbrev pub is_later_word : ℕ → List ℕ → Bool
 is_later_word version found = version == 1 && (bytes_eq found (codes "climb") || bytes_eq found (codes "plan"))
 
+-- The kinds that format 3 alone has.
+abbrev pub is_newest_word : ℕ → List ℕ → Bool
+is_newest_word version found =
+    nat_lt version 3 && (bytes_eq found (codes "profile") || (bytes_eq found (codes "name") || (bytes_eq found (codes "clock") || bytes_eq found (codes "call"))))
+
+abbrev pub newest_text : ℕ → List ℕ
+newest_text version =
+    if version == 1 then codes " is a kind of record of format 3 alone; the first record is \"encounter,1\""
+    else codes " is a kind of record of format 3 alone; the first record is \"encounter,2\""
+
 abbrev pub kinds_text : ℕ → List ℕ
 kinds_text version =
-    if version == 1 then codes " is no kind of record of format 1 (run, gains, craft, leg, miss, fate, end)"
-    else codes " is no kind of record of format 2 (run, gains, craft, climb, leg, miss, plan, fate, end)"
+    if version == 1 then codes " is no kind of record of format 1 (run, gains, craft, leg, miss, fate, end)" else
+    if version == 2 then codes " is no kind of record of format 2 (run, gains, craft, climb, leg, miss, plan, fate, end)"
+    else codes " is no kind of record of format 3 (profile, name, clock, run, gains, craft, call, climb, leg, miss, plan, fate, end)"
 
 abbrev pub no_kind_text : ℕ → List ℕ → List ℕ
 no_kind_text version found =
     if bytes_eq found (codes "encounter") then codes " can only be the first record" else
-    if is_later_word version found then codes " is a kind of record of format 2 alone; the first record is \"encounter,1\"" else kinds_text version
+    if is_later_word version found then codes " is a kind of record of formats 2 and 3; the first record is \"encounter,1\"" else
+    if is_newest_word version found then newest_text version else kinds_text version
 
 abbrev pub fields_text : ℕ → List ℕ
 fields_text count = if count == 1 then codes " field here, and has to be " else codes " fields here, and has to be "
@@ -116,11 +136,12 @@ not_above_text of found reached number = rising_text of found ++ codes ", and ha
 
 abbrev pub many_crafts_text : ℕ → List ℕ
 many_crafts_text version =
-    if version == 1 then codes "one aircraft too many: format 1 has at most 8, and format 2 has at most 16" else codes "one aircraft too many: format 2 has at most 16"
+    if version == 1 then codes "one aircraft too many: format 1 has at most 8, and format 2 has at most 16" else
+    if version == 2 then codes "one aircraft too many: format 2 has at most 16" else codes "one aircraft too many: format 3 has at most 16"
 
 abbrev pub why_text : Why → List ℕ
-why_text why.NoRecord = codes "there is no record; the first one has to be \"encounter,1\" or \"encounter,2\""
-why_text (why.NoHeader found) = codes "the first record has to be \"encounter,1\" or \"encounter,2\", and is " ++ shown found.now
+why_text why.NoRecord = codes "there is no record; the first one has to be \"encounter,1\", \"encounter,2\" or \"encounter,3\""
+why_text (why.NoHeader found) = codes "the first record has to be \"encounter,1\", \"encounter,2\" or \"encounter,3\", and is " ++ shown found.now
 why_text (why.NoKind version found) = shown found.now ++ no_kind_text version found.now
 why_text (why.FieldCount kind count) = field_count_text kind count
 why_text (why.NoValue n found) = found_text n found.now ++ codes ", and has to be " ++ wanted n (content_of n) found.now
@@ -129,10 +150,12 @@ why_text (why.NoAddress n found) = found_text n found.now ++ codes ", and has to
 why_text (why.ManyBits n found bits) = found_text n found.now ++ codes ": " ++ decimal bits ++ codes " of its bits are 1, and at most three may be"
 why_text (why.Again kind now number) = again_text (alike kind (fields_in now.now)) number
 why_text (why.NotAbove of found reached number) = not_above_text of found reached number
+why_text (why.Called found number) = found_text name.Sign found.now ++ codes ", which is the call sign of another aircraft, in line " ++ decimal number
 why_text (why.Unknown n found) = found_text n found.now ++ codes ", which has no craft record before this line"
 why_text (why.Equal found) = codes "the two addresses are equal, " ++ shown found.now
 why_text (why.ManyCrafts version) = many_crafts_text version
 why_text why.NoRun = codes "there is no run record"
+why_text why.NoProfile = codes "there is no profile record, which format 3 needs"
 why_text why.NoneActive = codes "there is no aircraft of kind RA or TA"
 why_text (why.Outside craft cycle axis value) = codes "aircraft" ++ named_text (codes " ") (address_in craft.now) ++ leaving_text cycle axis value
 why_text why.NoEnd = codes "the last record has to be \"end\", and there is none; was the text cut off?"

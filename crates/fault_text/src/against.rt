@@ -1,18 +1,20 @@
 // What is wrong with a record after those before it.
-ghost use Rattle.std.specs.Prelude.{◌≡◌, ◌+◌, ◌-◌, ◌≤◌, ◌<◌, ◌^◌, ℕ, IsSome, List, MatchOption, Option, Some, false, length, slice_get, true};
+ghost use Rattle.std.specs.Prelude.{◌≡◌, ◌+◌, ◌-◌, ◌≤◌, ◌<◌, ◌^◌, ℕ, IsSome, List, MatchOption, None, Option, Some, false, length, slice_get, true};
+ghost use Rattle.std.specs.List.{list_any};
 ghost use Rattle.enc_file.specs.Conditions.{is_stranger};
+ghost use Rattle.enc_file.specs.Earlier.{version_of};
 ghost use Rattle.enc_file.specs.Values.{address_in, count_in};
 ghost use Rattle.enc_file.specs.Values.{field as stated_field};
 ghost use Rattle.enc_file.specs.declared.record.Record.{Record};
 ghost use Rattle.enc_file.specs.declared.refusal.Code.TheVariants as code;
-ghost use Rattle.fault_text.specs.Before.{IsStrange, TellsCounted, TellsRepeat, TellsUnknown, has_first, has_second, reached_place, rising_place};
+ghost use Rattle.fault_text.specs.Before.{IsLastBefore, IsStrange, TellsCounted, TellsRepeat, TellsUnknown, alike, has_first, has_second, holds_sought, is_about, reached_place, rising_place};
 ghost use Rattle.fault_text.specs.Lines.{fields_in, file_lines, written};
 ghost use Rattle.fault_text.specs.Names.{names_of};
 ghost use Rattle.fault_text.specs.Rows.{AreBefore, SaysRow, records_in, rises};
 ghost use Rattle.fault_text.specs.Told.{IsAgainst, IsFormat, IsRefusedAgainst, TellsEarlier};
 ghost use Rattle.fault_text.specs.declared.names.RecordKind.TheVariants as kind;
 
-use crate::earlier::{Sought, has_second, last_before};
+use crate::earlier::{Signed, Sought, has_second, last_before};
 use crate::fault::Why;
 use crate::fields::field;
 use crate::names::{FieldName, RecordKind};
@@ -55,6 +57,25 @@ fn number_at(line: &[u8], place: usize) -> u16
     }
 }
 
+// Which earlier record has the call sign of this one, where none is about its aircraft. The record has the number `at`,
+// and this line.
+fn called_why<'a>(text: &[u8], at: u32, kind: RecordKind, line: &'a [u8]) -> Why<'a>
+    requires few { length text.now < 2 ^ 32 - 1 }
+    requires enough { at ≤ length (written (file_lines text.now)) + 1 }
+    requires against { (earlier : List (Option Record)) × IsAgainst text.now at code.Repeat kind line.now earlier }
+    requires none { IsLastBefore (holds_sought (alike kind (fields_in line.now))) (file_lines text.now) at None }
+    ensures { (earlier : List (Option Record)) → IsAgainst text.now at code.Repeat kind line.now earlier → TellsRepeat text.now earlier kind (fields_in line.now) result }
+{
+    let found = field(line, 2);
+    let Some(place) = last_before(text, at, &Signed { sign: found }) else {
+        unreachable!();
+    };
+    Why::Called {
+        found,
+        line: place.number,
+    }
+}
+
 /// Which earlier record a record of this kind repeats, or which number of one it doesn't exceed. The record has the
 /// number `at`, and this line.
 pub fn repeat_why<'a>(text: &[u8], at: u32, kind: RecordKind, line: &'a [u8]) -> Why<'a>
@@ -65,7 +86,7 @@ pub fn repeat_why<'a>(text: &[u8], at: u32, kind: RecordKind, line: &'a [u8]) ->
 {
     let sought = Sought::alike(kind, line);
     let Some(place) = last_before(text, at, &sought) else {
-        unreachable!();
+        return called_why(text, at, kind, line);
     };
     if rises(kind) {
         let found = number_at(line, rising_place(kind));
@@ -150,22 +171,39 @@ pub fn unknown_why<'a>(text: &[u8], at: u32, kind: RecordKind, line: &'a [u8]) -
     }
 }
 
-/// What is wanting at the end, the record with the number `at`: a run or, where there is one, an active aircraft.
-pub fn end_why(text: &[u8], at: u32) -> Why<'static>
+// Whether there is a record of a kind before the record with the number `at`.
+fn is_given(text: &[u8], at: u32, kind: RecordKind) -> bool
     requires few { length text.now < 2 ^ 32 - 1 }
     requires counted { 1 ≤ at }
     requires enough { at ≤ length (written (file_lines text.now)) + 1 }
-    ensures { (line : List ℕ) (earlier : List (Option Record)) → IsAgainst text.now at code.Count kind.End line earlier → TellsCounted (records_in earlier) kind.End result }
+    ensures { (earlier : List (Option Record)) → AreBefore SaysRow text.now at earlier → result ≡ list_any (is_about (record { kind = kind; first = None; second = None })) (records_in earlier) }
 {
     let sought = Sought {
-        kind: RecordKind::Run,
+        kind,
         first: None,
         second: None,
     };
-    match last_before(text, at, &sought) {
-        Some(_) => Why::NoneActive,
-        None => Why::NoRun,
+    last_before(text, at, &sought).is_some()
+}
+
+/// What is wanting at the end, the record with the number `at`: a run; or, where there is one, the profile that format
+/// 3 needs; or else an active aircraft. `version` is the format.
+pub fn end_why(text: &[u8], at: u32, version: u8) -> Why<'static>
+    requires few { length text.now < 2 ^ 32 - 1 }
+    requires counted { 1 ≤ at }
+    requires enough { at ≤ length (written (file_lines text.now)) + 1 }
+    ensures { (line : List ℕ) (earlier : List (Option Record)) → version_of (records_in earlier) ≡ version → IsAgainst text.now at code.Count kind.End line earlier → TellsCounted (records_in earlier) kind.End result }
+{
+    if !is_given(text, at, RecordKind::Run) {
+        return Why::NoRun;
     }
+    if version < 3 {
+        return Why::NoneActive;
+    }
+    if !is_given(text, at, RecordKind::Profile) {
+        return Why::NoProfile;
+    }
+    Why::NoneActive
 }
 
 // What is too many or wanting.
@@ -184,7 +222,7 @@ fn count_why(
 {
     match kind {
         RecordKind::Craft => Why::ManyCrafts { version },
-        _ => end_why(text, refusal.at),
+        _ => end_why(text, refusal.at, version),
     }
 }
 

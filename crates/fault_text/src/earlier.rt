@@ -1,7 +1,7 @@
 // The records before a refused one.
 ghost use Rattle.std.specs.Prelude.{◌≡◌, ◌+◌, ◌-◌, ◌≤◌, ◌<◌, ◌^◌, ℕ, Bool, List, length};
 ghost use Rattle.enc_file.specs.Values.{address_in, field};
-ghost use Rattle.fault_text.specs.Before.{IsLastBefore, address_if, alike, has_first, has_second, holds_sought, is_asked};
+ghost use Rattle.fault_text.specs.Before.{IsLastBefore, address_if, alike, has_first, has_second, holds_sign, holds_sought, is_asked};
 ghost use Rattle.fault_text.specs.Lines.{fields_in, file_lines, written};
 
 use crate::fields::field;
@@ -32,7 +32,15 @@ pub(crate) struct Sought {
 fn has_first(kind: RecordKind) -> bool
     ensures { result ≡ has_first kind }
 {
-    !matches!(kind, RecordKind::Run | RecordKind::Gains | RecordKind::End)
+    !matches!(
+        kind,
+        RecordKind::Run
+            | RecordKind::Gains
+            | RecordKind::End
+            | RecordKind::Profile
+            | RecordKind::Name
+            | RecordKind::Clock
+    )
 }
 
 pub(crate) fn has_second(kind: RecordKind) -> bool
@@ -82,6 +90,23 @@ impl LineTest for Sought {
             return false;
         }
         is_asked(self.first, field(line, 1)) && is_asked(self.second, field(line, 2))
+    }
+}
+
+/// The records with a call sign.
+#[derive(Clone, Copy)]
+pub(crate) struct Signed<'a> {
+    pub(crate) sign: &'a [u8],
+}
+
+impl LineTest for Signed<'_> {
+    ghost holds = { λ test line. holds_sign test.sign.now line };
+
+    fn is_passed(&self, line: &[u8]) -> bool {
+        if field(line, 0) != b"call".as_slice() {
+            return false;
+        }
+        field(line, 2) == self.sign
     }
 }
 

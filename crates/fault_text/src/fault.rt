@@ -37,7 +37,7 @@ pub enum Why<'a> {
     NoHeader {
         found: &'a [u8],
     },
-    /// The first field names no kind of record of the text's format, 1 or 2.
+    /// The first field names no kind of record of the text's format: 1, 2 or 3.
     NoKind {
         version: u8,
         found: &'a [u8],
@@ -83,6 +83,11 @@ pub enum Why<'a> {
         reached: u16,
         line: u32,
     },
+    /// The call sign is that of another aircraft. The record that says so stands in this line.
+    Called {
+        found: &'a [u8],
+        line: u32,
+    },
     /// No earlier aircraft has the address that stands in the field.
     Unknown {
         name: FieldName,
@@ -92,12 +97,14 @@ pub enum Why<'a> {
     Equal {
         found: &'a [u8],
     },
-    /// One aircraft too many for the text's format, 1 or 2.
+    /// One aircraft too many for the text's format: 1, 2 or 3.
     ManyCrafts {
         version: u8,
     },
     /// At the end: there is no run.
     NoRun,
+    /// At the end: format 3 needs a profile, and there is none.
+    NoProfile,
     /// At the end: no aircraft is of kind RA or TA.
     NoneActive,
     /// At the end: an aircraft isn't in the box in some cycle of the run. Of several it is the first one of the text,

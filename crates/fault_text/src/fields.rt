@@ -104,7 +104,7 @@ pub fn kind_of(version: u8, word: &[u8]) -> Option<RecordKind>
     if word == b"end".as_slice() {
         return Some(RecordKind::End);
     }
-    if version != 2 {
+    if version < 2 {
         return None;
     }
     if word == b"climb".as_slice() {
@@ -112,6 +112,21 @@ pub fn kind_of(version: u8, word: &[u8]) -> Option<RecordKind>
     }
     if word == b"plan".as_slice() {
         return Some(RecordKind::Plan);
+    }
+    if version < 3 {
+        return None;
+    }
+    if word == b"profile".as_slice() {
+        return Some(RecordKind::Profile);
+    }
+    if word == b"name".as_slice() {
+        return Some(RecordKind::Name);
+    }
+    if word == b"clock".as_slice() {
+        return Some(RecordKind::Clock);
+    }
+    if word == b"call".as_slice() {
+        return Some(RecordKind::Call);
     }
     None
 }
@@ -121,7 +136,7 @@ pub(crate) fn version_of(line: &[u8]) -> u8
     requires { IsSome (version_in (fields_in line.now)) }
     ensures { version_in (fields_in line.now) ≡ Some result }
 {
-    match count_in(field(line, 1), 1, 2) {
+    match count_in(field(line, 1), 1, 3) {
         Some(version) => version as u8,
         None => unreachable!(),
     }

@@ -14,6 +14,10 @@ pub enum RecordKind {
     Plan,
     Fate,
     End,
+    Profile,
+    Name,
+    Clock,
+    Call,
 }
 
 /// A field after the first one, which names the kind.
@@ -41,6 +45,14 @@ pub enum FieldName {
     Number,
     Hold,
     Mask,
+    /// The number of a profile.
+    Profile,
+    /// The text of a name.
+    Label,
+    /// A time of day.
+    Clock,
+    /// A call sign.
+    Sign,
     /// The time of a point of a recorded track.
     Ms,
     /// The altitude of such a point.
@@ -58,6 +70,14 @@ pub(crate) enum Content {
     Address,
     /// The mask of a copy.
     Mask,
+    /// The number of a profile.
+    Profile,
+    /// The text of a label.
+    Label,
+    /// A time of day.
+    Clock,
+    /// A call sign.
+    Sign,
 }
 
 impl FieldName {
@@ -101,6 +121,10 @@ impl FieldName {
             },
             FieldName::Kind => Content::Kind,
             FieldName::Mask => Content::Mask,
+            FieldName::Profile => Content::Profile,
+            FieldName::Label => Content::Label,
+            FieldName::Clock => Content::Clock,
+            FieldName::Sign => Content::Sign,
             FieldName::Address
             | FieldName::Own
             | FieldName::Target
@@ -137,6 +161,10 @@ impl FieldName {
             FieldName::Number => "NUMBER",
             FieldName::Hold => "HOLD",
             FieldName::Mask => "MASK",
+            FieldName::Profile => "NUMBER",
+            FieldName::Label => "TEXT",
+            FieldName::Clock => "HH:MM:SS",
+            FieldName::Sign => "NAME",
             FieldName::Ms => "MS",
             FieldName::Z => "Z",
         }
@@ -147,7 +175,7 @@ impl RecordKind {
     /// The word that names it.
     pub(crate) fn word(self) -> &'static str
         ensures text { result.now ≡ word_text self }
-        ensures short { length result.now ≤ 5 }
+        ensures short { length result.now ≤ 7 }
     {
         match self {
             RecordKind::Run => "run",
@@ -159,6 +187,10 @@ impl RecordKind {
             RecordKind::Plan => "plan",
             RecordKind::Fate => "fate",
             RecordKind::End => "end",
+            RecordKind::Profile => "profile",
+            RecordKind::Name => "name",
+            RecordKind::Clock => "clock",
+            RecordKind::Call => "call",
         }
     }
 
@@ -218,6 +250,10 @@ impl RecordKind {
                 FieldName::Mask,
             ],
             RecordKind::End => &[],
+            RecordKind::Profile => &[FieldName::Profile],
+            RecordKind::Name => &[FieldName::Label],
+            RecordKind::Clock => &[FieldName::Clock],
+            RecordKind::Call => &[FieldName::Address, FieldName::Sign],
         }
     }
 }

@@ -6,7 +6,9 @@ ghost use Rattle.fault_text.specs.Told.{IsLeftmost};
 
 use crate::fields::Fields;
 use crate::names::{Content, FieldName};
-use enc_file::{Code, address_in, kind_in, mask_in, number_in};
+use enc_file::{
+    Code, address_in, clock_in, kind_in, label_in, mask_in, number_in, profile_in, sign_in,
+};
 
 // The most bits that a mask flips.
 const BITS: u32 = 3;
@@ -19,6 +21,10 @@ fn has_no_value(name: FieldName, found: &[u8]) -> bool
         Content::Whole { low, high } => number_in(found, low, high).is_none(),
         Content::Kind => kind_in(found).is_none(),
         Content::Mask => mask_in(found).is_none(),
+        Content::Profile => profile_in(found).is_none(),
+        Content::Label => label_in(found).is_none(),
+        Content::Clock => clock_in(found).is_none(),
+        Content::Sign => sign_in(found).is_none(),
         Content::Address => false,
     }
 }
@@ -29,7 +35,7 @@ fn has_no_address(name: FieldName, found: &[u8]) -> bool
 {
     match name.content() {
         Content::Address => address_in(found).is_none(),
-        Content::Whole { .. } | Content::Kind | Content::Mask => false,
+        _ => false,
     }
 }
 
@@ -42,7 +48,7 @@ fn has_many_bits(name: FieldName, found: &[u8]) -> bool
             Some(mask) => BITS < mask.count_ones(),
             None => false,
         },
-        Content::Whole { .. } | Content::Kind | Content::Address => false,
+        _ => false,
     }
 }
 

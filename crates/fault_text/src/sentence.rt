@@ -1,7 +1,7 @@
 // The sentence of a fault.
 ghost use Rattle.std.specs.Prelude.{◌≡◌, ◌+◌, ◌≤◌, ◌++◌, length};
 ghost use Rattle.acas_text.specs.Hex.{hex};
-ghost use Rattle.fault_text.specs.Sentences.{again_text, count_text, fields_text, form_text, found_text, is_later_word, kinds_text, many_crafts_text, named_text, no_kind_text, not_above_text, range_text, reached_name, reached_text, rising_name, rising_text, sentence, unit_text, wanted, why_text};
+ghost use Rattle.fault_text.specs.Sentences.{again_text, count_text, fields_text, form_text, found_text, is_later_word, is_newest_word, kinds_text, many_crafts_text, named_text, newest_text, no_kind_text, not_above_text, range_text, reached_name, reached_text, rising_name, rising_text, sentence, unit_text, wanted, why_text};
 
 use crate::earlier::Sought;
 use crate::fault::{Fault, Why};
@@ -54,6 +54,12 @@ fn add_wanted(line: &mut Line, name: FieldName, content: Content, found: &[u8])
         }
         Content::Kind => line.text("RA, TA or XPDR"),
         Content::Mask => line.text("two digits 0-9A-F"),
+        Content::Profile => line.text("1 or 2"),
+        Content::Label => line.text("1 to 60 bytes from 20 to 7E hex"),
+        Content::Clock => line.text("a time of day from 00:00:00 to 23:59:59"),
+        Content::Sign => line.text(
+            "a call sign: 1 to 8 of A-Z, 0-9 and -, and not six digits 0-9A-F",
+        ),
         Content::Address => line.text("an address"),
     }
 }
@@ -72,10 +78,14 @@ fn form_text(kind: RecordKind) -> &'static str
         RecordKind::Plan => "plan,SENDER,RECEIVER and none to three copies HOLD,MASK",
         RecordKind::Fate => "fate,SENDER,RECEIVER,NUMBER and none to three copies HOLD,MASK",
         RecordKind::End => "end",
+        RecordKind::Profile => "profile,NUMBER",
+        RecordKind::Name => "name,TEXT",
+        RecordKind::Clock => "clock,HH:MM:SS",
+        RecordKind::Call => "call,ADDRESS,NAME",
     }
 }
 
-// Whether a word names a kind that format 2 alone has, and the format is 1.
+// Whether a word names a kind that formats 2 and 3 have, and the format is 1.
 fn is_later_word(version: u8, found: &[u8]) -> bool
     ensures { result ≡ is_later_word version found.now }
 {
@@ -85,26 +95,54 @@ fn is_later_word(version: u8, found: &[u8]) -> bool
     found == b"climb".as_slice() || found == b"plan".as_slice()
 }
 
+// Whether a word names a kind that format 3 alone has, and the format is another one.
+fn is_newest_word(version: u8, found: &[u8]) -> bool
+    ensures { result ≡ is_newest_word version found.now }
+{
+    if 3 <= version {
+        return false;
+    }
+    found == b"profile".as_slice()
+        || (found == b"name".as_slice()
+            || (found == b"clock".as_slice() || found == b"call".as_slice()))
+}
+
+fn newest_text(version: u8) -> &'static str
+    ensures text { result.now ≡ newest_text version }
+    ensures short { length result.now ≤ 80 }
+{
+    if version == 1 {
+        return " is a kind of record of format 3 alone; the first record is \"encounter,1\"";
+    }
+    " is a kind of record of format 3 alone; the first record is \"encounter,2\""
+}
+
 fn kinds_text(version: u8) -> &'static str
     ensures text { result.now ≡ kinds_text version }
-    ensures short { length result.now ≤ 100 }
+    ensures short { length result.now ≤ 120 }
 {
     if version == 1 {
         return " is no kind of record of format 1 (run, gains, craft, leg, miss, fate, end)";
     }
-    " is no kind of record of format 2 (run, gains, craft, climb, leg, miss, plan, fate, end)"
+    if version == 2 {
+        return " is no kind of record of format 2 (run, gains, craft, climb, leg, miss, plan, fate, end)";
+    }
+    " is no kind of record of format 3 (profile, name, clock, run, gains, craft, call, climb, leg, miss, plan, fate, end)"
 }
 
 // What is said of a word that names no kind of the format.
 fn no_kind_text(version: u8, found: &[u8]) -> &'static str
     ensures text { result.now ≡ no_kind_text version found.now }
-    ensures short { length result.now ≤ 100 }
+    ensures short { length result.now ≤ 120 }
 {
     if found == b"encounter".as_slice() {
         return " can only be the first record";
     }
     if is_later_word(version, found) {
-        return " is a kind of record of format 2 alone; the first record is \"encounter,1\"";
+        return " is a kind of record of formats 2 and 3; the first record is \"encounter,1\"";
+    }
+    if is_newest_word(version, found) {
+        return newest_text(version);
     }
     kinds_text(version)
 }
@@ -244,7 +282,10 @@ fn many_crafts_text(version: u8) -> &'static str
     if version == 1 {
         return "one aircraft too many: format 1 has at most 8, and format 2 has at most 16";
     }
-    "one aircraft too many: format 2 has at most 16"
+    if version == 2 {
+        return "one aircraft too many: format 2 has at most 16";
+    }
+    "one aircraft too many: format 3 has at most 16"
 }
 
 /// Adds what is wrong. It adds no end of the line.
@@ -256,11 +297,13 @@ pub fn add_why(line: &mut Line, why: &Why<'_>)
     match *why {
         Why::NoRecord => {
             line.text(
-                "there is no record; the first one has to be \"encounter,1\" or \"encounter,2\"",
+                "there is no record; the first one has to be \"encounter,1\", \"encounter,2\" or \"encounter,3\"",
             );
         }
         Why::NoHeader { found } => {
-            line.text("the first record has to be \"encounter,1\" or \"encounter,2\", and is ");
+            line.text(
+                "the first record has to be \"encounter,1\", \"encounter,2\" or \"encounter,3\", and is ",
+            );
             add_shown(line, found);
         }
         Why::NoKind { version, found } => {
@@ -303,6 +346,14 @@ pub fn add_why(line: &mut Line, why: &Why<'_>)
             reached,
             line: number,
         } => add_not_above(line, kind, found, reached, number),
+        Why::Called {
+            found,
+            line: number,
+        } => {
+            add_found(line, FieldName::Sign, found);
+            line.text(", which is the call sign of another aircraft, in line ");
+            line.u32(number);
+        }
         Why::Unknown { name, found } => {
             add_found(line, name, found);
             line.text(", which has no craft record before this line");
@@ -313,6 +364,7 @@ pub fn add_why(line: &mut Line, why: &Why<'_>)
         }
         Why::ManyCrafts { version } => line.text(many_crafts_text(version)),
         Why::NoRun => line.text("there is no run record"),
+        Why::NoProfile => line.text("there is no profile record, which format 3 needs"),
         Why::NoneActive => line.text("there is no aircraft of kind RA or TA"),
         Why::Outside {
             craft,

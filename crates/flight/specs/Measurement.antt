@@ -1,5 +1,5 @@
 -- What one aircraft measures of another one.
-use Rattle.std.specs.Prelude.{◌≡◌, ℕ, ◌+◌, ◌*◌, ◌/◌, ◌<◌, ◌≤◌, ◌==◌, ◌&&◌, nat_lt, nat_le, if◌then◌else◌, Bool, false, ℤ, pos, ◌+ℤ◌, ◌-ℤ◌, ◌*ℤ◌, unsigned_abs, List, slice_index_or, Option, Some, None}
+use Rattle.std.specs.Prelude.{◌≡◌, ℕ, zero, suc, ◌+◌, ◌*◌, ◌/◌, ◌<◌, ◌≤◌, ◌==◌, ◌&&◌, nat_lt, nat_le, if◌then◌else◌, Bool, false, ℤ, pos, ◌+ℤ◌, ◌-ℤ◌, ◌*ℤ◌, unsigned_abs, List, [], ◌∷◌, slice_index_or, Option, Some, None}
 use Rattle.std.specs.Int.{int_div_euclid}
 use Rattle.std.specs.List.{list_any}
 use Rattle.acas_base.specs.Encounter.{Parts}
@@ -79,3 +79,8 @@ measurement e own target cycle =
 -- The altitude that an aircraft measures of itself.
 unfoldable pub own_altitude : Parts → ℕ → ℕ → ℤ
 own_altitude e craft cycle = feet (position e craft cycle).z
+
+-- What a function of the cycle gives in the cycles 1 to n, the newest first.
+abbrev pub newest_first : {X : Type 0} → (ℕ → X) → ℕ → List X
+newest_first f zero = []
+newest_first f (suc n) = f (suc n) ∷ newest_first f n

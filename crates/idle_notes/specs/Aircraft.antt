@@ -1,19 +1,15 @@
 -- Aircraft that can't advise, or see nobody, or are below the ground.
-use Rattle.std.specs.Prelude.{ℕ, ◌==◌, ◌&&◌, ◌||◌, nat_lt, Bool, ℤ, ◌-ℤ◌, int_lt, List, length, find, Option, is_none}
+use Rattle.std.specs.Prelude.{ℕ, ◌==◌, ◌&&◌, ◌||◌, nat_lt, Bool, int_lt, List, length, find, Option, is_none}
 use Rattle.std.specs.List.{list_all, range_with_len}
 use Rattle.acas_base.specs.Encounter.{Parts, is_active_at}
 use Rattle.flight.specs.Approach.{range_between}
 use Rattle.flight.specs.Measurement.{longest, own_altitude}
 use Rattle.idle_notes.specs.Messages.{is_ra_at}
-use Rattle.sens_table.specs.Levels.{level_at}
+use Rattle.sens_table.specs.Run.{level_in}
 
--- The level at an altitude over ground of an elevation has no resolution advisories.
-unfoldable pub is_low_at : ℤ → ℤ → Bool
-is_low_at altitude elevation = is_none (level_at altitude (altitude -ℤ elevation)).ra
-
--- That is so for an aircraft in a cycle.
+-- In a cycle an aircraft has a level without resolution advisories.
 abbrev pub is_low_in : Parts → ℕ → ℕ → Bool
-is_low_in e craft cycle = is_low_at (own_altitude e craft cycle) e.elevation
+is_low_in e craft cycle = is_none (level_in e craft cycle).ra
 
 -- An aircraft of kind RA is so near the ground in each cycle of the run.
 abbrev pub is_low : Parts → ℕ → Bool

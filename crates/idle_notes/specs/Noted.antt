@@ -107,9 +107,13 @@ ground_note_of e craft = option_map (λ (cycle : ℕ). note.BelowGround craft.ad
 
 -- The note of a record that is no aircraft.
 abbrev pub record_note : Parts → Option (List Entry) → stated.RecordKind → List (List ℕ) → Option Note
+record_note e journal stated.ProfileKind fields = None
+record_note e journal stated.NameKind fields = None
+record_note e journal stated.ClockKind fields = None
 record_note e journal stated.RunKind fields = None
 record_note e journal stated.GainsKind fields = None
 record_note e journal stated.CraftKind fields = None
+record_note e journal stated.CallKind fields = None
 record_note e journal stated.ClimbKind fields = climb_note e fields
 record_note e journal stated.LegKind fields = leg_note e fields
 record_note e journal stated.MissKind fields = miss_note e fields
@@ -125,8 +129,12 @@ craft_notes e fields =
 -- The notes of a record of a kind.
 abbrev pub kind_notes : Parts → Option (List Entry) → stated.RecordKind → List (List ℕ) → List Note
 kind_notes e journal stated.CraftKind fields = craft_notes e fields
+kind_notes e journal stated.ProfileKind fields = option_to_list (record_note e journal stated.ProfileKind fields)
+kind_notes e journal stated.NameKind fields = option_to_list (record_note e journal stated.NameKind fields)
+kind_notes e journal stated.ClockKind fields = option_to_list (record_note e journal stated.ClockKind fields)
 kind_notes e journal stated.RunKind fields = option_to_list (record_note e journal stated.RunKind fields)
 kind_notes e journal stated.GainsKind fields = option_to_list (record_note e journal stated.GainsKind fields)
+kind_notes e journal stated.CallKind fields = option_to_list (record_note e journal stated.CallKind fields)
 kind_notes e journal stated.ClimbKind fields = option_to_list (record_note e journal stated.ClimbKind fields)
 kind_notes e journal stated.LegKind fields = option_to_list (record_note e journal stated.LegKind fields)
 kind_notes e journal stated.MissKind fields = option_to_list (record_note e journal stated.MissKind fields)
@@ -138,6 +146,6 @@ abbrev pub notes_by : Parts → Option (List Entry) → Option stated.RecordKind
 notes_by e journal None fields = []
 notes_by e journal (Some kind) fields = kind_notes e journal kind fields
 
--- The kind is the first field. Format 2 has all kinds.
+-- The kind is the first field. The kinds that only format 3 has have no notes.
 unfoldable pub notes_of : Parts → Option (List Entry) → List (List ℕ) → List Note
 notes_of e journal fields = notes_by e journal (kind_named 2 (field fields 0)) fields

@@ -1,16 +1,16 @@
 // What an aircraft can't do in its encounter.
 ghost use Rattle.std.specs.Prelude.{◌≡◌, ◌<◌, ◌≤◌, length, find, is_none, IfSome};
 ghost use Rattle.std.specs.List.{list_all, range_with_len};
-ghost use Rattle.acas_base.specs.Ranges.{IsCycle, IsWithin};
+ghost use Rattle.acas_base.specs.Ranges.{IsCycle};
 ghost use Rattle.flight.specs.Inside.{IsInside};
 ghost use Rattle.flight.specs.Measurement.{longest};
-ghost use Rattle.idle_notes.specs.Aircraft.{first_below, is_alone, is_below_ground, is_far_from, is_far_in, is_low, is_low_at, is_low_in};
+ghost use Rattle.idle_notes.specs.Aircraft.{first_below, is_alone, is_below_ground, is_far_from, is_far_in, is_low, is_low_in};
 ghost use Rattle.idle_notes.specs.Messages.{is_ra_at};
 
 use acas_base::{CraftSpec, Encounter, Level, is_active_at};
 use acas_num::Limits;
 use flight::{own_altitude, range_between};
-use sens_table::level_of;
+use sens_table::Above;
 
 /// The greatest range that is measured, in ft.
 pub(crate) fn longest_range() -> u32
@@ -38,35 +38,17 @@ fn has_none(level: &Level) -> bool
     level.ra.is_none()
 }
 
-// Whether there are none at an altitude over ground of an elevation, both in ft.
-fn is_low_at(altitude: i32, elevation: i32) -> bool
-    requires altitude { IsWithin 100000 altitude }
-    requires elevation { IsWithin 100000 elevation }
-    ensures { result ≡ is_low_at altitude elevation }
-{
-    let level = level_of(altitude, elevation);
-    has_none(&level)
-}
-
-// Whether an aircraft has a level without resolution advisories in a cycle.
-fn is_low_in(encounter: &Encounter, craft: u8, cycle: u16) -> bool
-    requires inside { IsInside encounter.now }
-    requires craft { craft < length encounter.now.crafts }
-    requires first { 1 ≤ cycle }
-    requires last { cycle ≤ encounter.now.cycles }
-    ensures { result ≡ is_low_in encounter.now craft cycle }
-{
-    encounter.valid_law();
-    is_low_at(own_altitude(encounter, craft, cycle), encounter.ground())
-}
-
 fn is_always_low(encounter: &Encounter, craft: u8) -> bool
     requires inside { IsInside encounter.now }
     requires craft { craft < length encounter.now.crafts }
     ensures { result ≡ list_all (is_low_in encounter.now craft) (range_with_len 1 encounter.now.cycles) }
 {
+    encounter.valid_law();
+    let mut above = Above::none();
     for before in 0..encounter.cycles() {
-        if !is_low_in(encounter, craft, before + 1) {
+        let altitude = own_altitude(encounter, craft, before + 1);
+        above = above.go_on(before, encounter, altitude);
+        if !has_none(&above.level()) {
             return false;
         }
     }

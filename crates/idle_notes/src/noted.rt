@@ -226,7 +226,14 @@ pub(crate) fn record_note(
         RecordKind::Miss => miss_note(source.encounter(), line),
         RecordKind::Plan => plan_note(source.encounter(), line),
         RecordKind::Fate => fate_note(source, firsts, line),
-        RecordKind::Run | RecordKind::Gains | RecordKind::Craft | RecordKind::End => None,
+        RecordKind::Run
+        | RecordKind::Gains
+        | RecordKind::Craft
+        | RecordKind::Profile
+        | RecordKind::Name
+        | RecordKind::Clock
+        | RecordKind::Call
+        | RecordKind::End => None,
     }
 }
 

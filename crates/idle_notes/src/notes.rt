@@ -142,6 +142,10 @@ fn tell_kind<S: LineSink>(
         RecordKind::Craft => tell_craft(notes.source.encounter(), line, told, number, sink),
         RecordKind::Run
         | RecordKind::Gains
+        | RecordKind::Profile
+        | RecordKind::Name
+        | RecordKind::Clock
+        | RecordKind::Call
         | RecordKind::Climb
         | RecordKind::Leg
         | RecordKind::Miss

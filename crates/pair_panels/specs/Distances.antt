@@ -3,13 +3,12 @@ use Rattle.std.specs.Prelude.{ℕ, ◌≤◌, zero, suc, ◌+◌, ◌*◌, ◌/�
 use Rattle.acas_base.specs.Encounter.{Parts}
 use Rattle.flight.specs.Approach.{range_between}
 use Rattle.flight.specs.Flight.{position}
-use Rattle.flight.specs.Measurement.{own_altitude}
 use Rattle.pair_panels.specs.declared.distance.Distance.{Distance}
 use Rattle.pair_panels.specs.declared.distance.Distance.TheVariants.{Slant, Vertical}
 use Rattle.pair_panels.specs.declared.ticks.Ticks.{Ticks}
 use Rattle.pair_panels.specs.declared.nearest.NearPair.{NearPair}
 use Rattle.plot_axes.specs.Steps.{step_for}
-use Rattle.sens_table.specs.Levels.{level_at}
+use Rattle.sens_table.specs.Run.{level_in}
 
 -- How far two altitudes are apart, in whole feet, rounded down.
 abbrev pub height_between : Parts → ℕ → ℕ → ℕ → ℕ
@@ -20,9 +19,9 @@ unfoldable pub distance_in : Parts → Distance → NearPair → ℕ → ℕ
 distance_in e Slant pair cycle = range_between e pair.one pair.other cycle
 distance_in e Vertical pair cycle = height_between e pair.one pair.other cycle
 
--- ALIM at the altitude of the first aircraft in the cycle in which they are nearest, in ft.
+-- ALIM of the first aircraft in the cycle in which they are nearest, in ft.
 unfoldable pub alim_of : Parts → NearPair → ℕ
-alim_of e pair = unsigned_abs (level_at (own_altitude e pair.one pair.cycle) (own_altitude e pair.one pair.cycle -ℤ e.elevation)).alim / 1024
+alim_of e pair = unsigned_abs (level_in e pair.one pair.cycle).alim / 1024
 
 -- What the distance is held against: ALIM, or 0 where there is nothing.
 unfoldable pub aim_of : Parts → Distance → NearPair → ℕ

@@ -9,9 +9,9 @@ ghost use Rattle.pair_panels.specs.Nearest.{IsPair};
 use crate::nearest::NearPair;
 use crate::ticks::Ticks;
 use acas_base::Encounter;
-use flight::{own_altitude, position, slant_range};
+use flight::{position, slant_range};
 use plot_axes::least_step;
-use sens_table::level_of;
+use sens_table::level_in;
 
 /// A distance of two aircraft.
 #[derive(Clone, Copy)]
@@ -89,10 +89,7 @@ fn alim_of(encounter: &Encounter, pair: NearPair) -> u32
     ensures near { result < 2 ^ 26 }
 {
     encounter.valid_law();
-    let level = level_of(
-        own_altitude(encounter, pair.one, pair.cycle),
-        encounter.ground(),
-    );
+    let level = level_in(encounter, pair.one, pair.cycle);
     (level.alim.unsigned_abs() / 1024) as u32
 }
 

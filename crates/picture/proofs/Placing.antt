@@ -5,6 +5,8 @@ use Rattle.std.specs.Prelude.{◌%◌, ◌/◌, ◌==◌, if◌then◌else◌, �
 use Rattle.std.specs.Fmt.{decimal}
 use Rattle.std.specs.Option.{option_map_or}
 use Rattle.std.specs.List.{AllByRecursion}
+use Rattle.acas_base.specs.declared.setting.Profile.{Profile}
+use Rattle.acas_base.specs.declared.setting.Profile.TheVariants.{One, Two}
 use Rattle.acas_base.specs.Encounter.{IsEncounter, Parts, is_active_kind}
 use Rattle.acas_base.specs.declared.craft.CraftSpec.{CraftSpec}
 use Rattle.acas_base.specs.declared.entry.Entry.{Entry}
@@ -57,7 +59,7 @@ use Rattle.pair_panels.specs.declared.nearest.NearPair.{NearPair}
 use Rattle.picture.proofs.Hearing.{are-in-list}
 use Rattle.picture.specs.Heard.{heard_marks}
 use Rattle.picture.specs.HeardLaws.{list_from}
-use Rattle.picture.specs.Panels.{approach_of, both_marks, panel_marks, panels_height, tested_marks}
+use Rattle.picture.specs.Panels.{approach_of, both_marks, panel_marks, panels_height, tested_marks, tests_height, told_pair}
 use Rattle.plan_panel.proofs.Placing.{are-within as plan-within}
 use Rattle.plan_panel.specs.Laws.{part_from}
 use Rattle.plan_panel.specs.Marks.{IsApproach, plan_marks}
@@ -952,20 +954,21 @@ good-panel : (it : LabelWords) (e : Parts) (height top : ℕ) (distance : Distan
 good-panel it e height top distance pair high few is =
     lifted (bounds_from top) (bounds_to height) (record { left = omega arith; top = omega arith; right = omega arith; bottom = omega arith }) (distance_marks top e it distance pair) (are-within top e it distance pair few is)
 
-good-tested : (it : LabelWords) (e : Parts) (height top : ℕ) (tested : Option TestedPair) → top + 3100 ≤ height → top ≤ 40000 → AllByRecursion (GoodTo height) (tested_marks top it e tested)
-good-tested it e height top None high few = tt
-good-tested it e height top (Some tested) high few =
+good-tested : (profile : Profile) (it : LabelWords) (e : Parts) (height top : ℕ) (tested : Option TestedPair) → top + tests_height profile ≤ height → top ≤ 40000 → AllByRecursion (GoodTo height) (tested_marks top it e (told_pair profile tested))
+good-tested Two it e height top tested high few = tt
+good-tested One it e height top None high few = tt
+good-tested One it e height top (Some tested) high few =
     lifted (seconds_part top) (bounds_to height) (record { left = omega arith; top = omega arith; right = omega arith; bottom = omega arith }) (seconds_marks top e it tested) (seconds-within top e it tested few)
 
-good-panels : (it : LabelWords) (e : Parts) (height top : ℕ) (pair : Option NearPair) → top + panels_height pair ≤ height → top ≤ 30000 → height ≤ 60000 → IsNearest e pair → AllByRecursion (GoodTo height) (panel_marks top it e pair)
+good-panels : (it : LabelWords) (e : Parts) (height top : ℕ) (pair : Option NearPair) → top + panels_height e.profile pair ≤ height → top ≤ 30000 → height ≤ 60000 → IsNearest e pair → AllByRecursion (GoodTo height) (panel_marks top it e pair)
 good-panels it e height top None low high few nearest = tt
 good-panels it e height top (Some pair) low high few nearest =
     let is = is-pair e pair nearest in
     let tested = own_of e pair.one pair.other in
-    all-append (GoodTo height) (both_marks top it e pair) (tested_marks (top + 3400 + 3400) it e tested)
+    all-append (GoodTo height) (both_marks top it e pair) (tested_marks (top + 3400 + 3400) it e (told_pair e.profile tested))
     (all-append (GoodTo height) (distance_marks top e it Slant pair) (distance_marks (top + 3400) e it Vertical pair)
     (good-panel it e height top Slant pair (omega arith) (omega arith) is) (good-panel it e height (top + 3400) Vertical pair (omega arith) (omega arith) is))
-    (good-tested it e height (top + 3400 + 3400) tested (omega arith) (omega arith))
+    (good-tested e.profile it e height (top + 3400 + 3400) tested (omega arith) (omega arith))
 
 -- ---- the plan and what the crews heard
 
@@ -984,13 +987,14 @@ good-heard it e J height top low high =
 
 -- ---- all of it
 
-panels-most : (pair : Option NearPair) → panels_height pair ≤ 9900
-panels-most None = omega arith
-panels-most (Some pair) = omega arith
+panels-most : (profile : Profile) (pair : Option NearPair) → panels_height profile pair ≤ 9900
+panels-most profile None = omega arith
+panels-most One (Some pair) = omega arith
+panels-most Two (Some pair) = omega arith
 
 below-most : (it : LabelWords) (e : Parts) → AreLabels it → below_of it e ≤ 26900
 below-most it e labels =
-    let panels = panels-most (nearest_pair e) in
+    let panels = panels-most e.profile (nearest_pair e) in
     let few = labels.few in
     let count = count-most it 1 e.cycles (length it.marks) in
     omega (arith, panels, few, count)
@@ -1006,7 +1010,7 @@ are-good it e J labels valid l few =
     let lanes = all-range (Good n) (craft_marks it e J) 0 (length e.crafts) (λ own first last. good-craft (air_of e) it e J l few own) in
     let bands = good-bands (air_of e) e J l n few in
     let panels = good-panels it e height (panels_top n) (nearest_pair e) (omega arith) (omega (arith, high)) tall (nearest-is e valid) in
-    let panels_low = panels-most (nearest_pair e) in
+    let panels_low = panels-most e.profile (nearest_pair e) in
     let plan = good-plan it e height (plan_top e) (nearest_pair e) (omega arith) (omega (arith, high, panels_low)) valid.run.length.0 (nearest-is e valid) in
     let heard = good-heard it e J height (plan_top e) (omega arith) (omega (arith, high, panels_low)) in
     let legend = good-legend height (legend_top e) tall (omega arith) in

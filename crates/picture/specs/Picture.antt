@@ -29,7 +29,7 @@ lanes_of e = active_among e.crafts
 -- Where the plan begins, with what the crews heard beside it; where the legend begins, and where the list of marks
 -- begins.
 abbrev pub plan_top : Parts → ℕ
-plan_top e = panels_top (lanes_of e) + panels_height (nearest_pair e)
+plan_top e = panels_top (lanes_of e) + panels_height e.profile (nearest_pair e)
 
 abbrev pub legend_top : Parts → ℕ
 legend_top e = plan_top e + plan_height
@@ -52,7 +52,7 @@ sections it e journal =
 
 -- How much more of the page panels, the plan and a list of marks take.
 abbrev pub below_of : LabelWords → Parts → ℕ
-below_of it e = panels_height (nearest_pair e) + plan_height + list_height it e.cycles
+below_of it e = panels_height e.profile (nearest_pair e) + plan_height + list_height it e.cycles
 
 abbrev pub page : LabelWords → Parts → Frame
 page it e = frame_of (lanes_of e) (below_of it e)

@@ -2,11 +2,11 @@
 ghost use Rattle.std.specs.Prelude.{◌≡◌, ◌≤◌, IfSome};
 ghost use Rattle.flight.specs.Inside.{IsInside};
 ghost use Rattle.pair_panels.specs.Nearest.{IsPair};
-ghost use Rattle.picture.specs.Panels.{approach_of, both_marks, panel_marks, panels_height, tested_marks, three_marks};
+ghost use Rattle.picture.specs.Panels.{approach_of, both_marks, panel_marks, panels_height, tested_marks, tests_height, three_marks, told_pair};
 ghost use Rattle.plan_panel.specs.Marks.{IsApproach};
 ghost use Rattle.seconds_panel.specs.Own.{AreTested};
 
-use acas_base::Encounter;
+use acas_base::{Encounter, Profile};
 use labels::Labels;
 use pair_panels::{Distance, NearPair, PANEL_HEIGHT, put_distance};
 use plan_panel::Approach;
@@ -14,13 +14,34 @@ use plot_axes::TimeAxis;
 use seconds_panel::{PANEL_HEIGHT as SECONDS_HEIGHT, TestedPair, own_of, put_seconds};
 use svg_text::Drawing;
 
+// How much of it the panel of the seconds takes, which tells the tests of profile 1 alone.
+fn tests_height(profile: Profile) -> u32
+    ensures value { result ≡ tests_height profile }
+    ensures most { result ≤ 3100 }
+{
+    match profile {
+        Profile::One => SECONDS_HEIGHT,
+        Profile::Two => 0,
+    }
+}
+
+// The pair that it is for, if any.
+fn told_pair(profile: Profile, tested: Option<TestedPair>) -> Option<TestedPair>
+    ensures { result ≡ told_pair profile tested }
+{
+    match profile {
+        Profile::One => tested,
+        Profile::Two => None,
+    }
+}
+
 /// How much of the page they take: none where there is no such pair.
-pub(crate) fn panels_height(pair: Option<NearPair>) -> u32
-    ensures value { result ≡ panels_height pair }
+pub(crate) fn panels_height(profile: Profile, pair: Option<NearPair>) -> u32
+    ensures value { result ≡ panels_height profile pair }
     ensures most { result ≤ 9900 }
 {
     match pair {
-        Some(_) => PANEL_HEIGHT + PANEL_HEIGHT + SECONDS_HEIGHT,
+        Some(_) => PANEL_HEIGHT + PANEL_HEIGHT + tests_height(profile),
         None => 0,
     }
 }
@@ -93,7 +114,8 @@ fn put_three<D: Drawing>(
 {
     put_both(top, labels, encounter, pair, time, drawing);
     let below = top + PANEL_HEIGHT + PANEL_HEIGHT;
-    let tested = own_of(encounter, pair.one, pair.other);
+    let either = own_of(encounter, pair.one, pair.other);
+    let tested = told_pair(encounter.profile(), either);
     put_tested(below, labels, encounter, tested, time, drawing);
 }
 

@@ -228,7 +228,7 @@ impl Text for Picture<'_> {
         let axis = axis_of(labels, encounter);
         let title = title_text(encounter);
         let pair = nearest_pair(encounter);
-        let panels = panels_height(pair);
+        let panels = panels_height(encounter.profile(), pair);
         let below = panels + PLAN_HEIGHT;
         let frame = frame_of(lanes, below + list_height(labels, axis.cycles));
         begin_drawing(sink, &frame, &title, &description());

@@ -30,8 +30,8 @@ use Rattle.craft_view.specs.Sight.{sight_of}
 use Rattle.craft_view.specs.declared.motion.Motion.{Motion}
 use Rattle.craft_view.specs.declared.own.OwnAircraft.{OwnAircraft}
 use Rattle.reasons.proofs.Explaining.{both, commit-explained}
-use Rattle.reasons.proofs.Sighted.{IsPlain, IsSighted, alim-whole, first-is, first_by_motion, first_by_row, plain-seen, profile-is, sighted, threat-projects}
-use Rattle.reasons.specs.Agreeing.{Agrees, AreAgreeing, GoesBySeconds, are_within_tau, resolves}
+use Rattle.reasons.proofs.Sighted.{IsPlain, IsSighted, alim-whole, by-profile, first-is, first_by_motion, first_by_row, plain-seen, profile-is, sighted, threat-projects, view_by_motion, view_by_row}
+use Rattle.reasons.specs.Agreeing.{Agrees, AgreesOnChoice, AreAgreeing, AreAgreeingOnChoice, GoesBySeconds, are_within_tau, resolves}
 use Rattle.reasons.specs.Explained.{Explains, GoesOn, IsExplained, untested, starts, starts_as_told, traffic, quiet, ends_below_level, ends_without_threat, obeys, reverses, strengthens, keeps, weakens, capped}
 use Rattle.reasons.specs.Fields.{tenths_of}
 use Rattle.reasons.specs.Reasons.{reason_of}
@@ -76,18 +76,18 @@ some-if : {X : Type 0} (b : Bool) (x : X) → is_some (if b then Some x else Non
 some-if true x = refl
 some-if false x = refl
 
-projected-by-row : (own : OwnAircraft) (m : Motion) (o : Option Row) → is_projected (first_by_row own m o) ≡ is_some (option_map (seconds_of m) o)
+projected-by-row : (own : OwnAircraft) (m : Motion) (o : Option Row) → is_projected (view_by_row own m o) ≡ is_some (option_map (seconds_of m) o)
 projected-by-row own m None = refl
-projected-by-row own m (Some row) = refl
+projected-by-row own m (Some row) = by-profile own.profile own m row
 
-projected-by : (own : OwnAircraft) (b : Bool) (o : Option Motion) (v : View) → v ≡ first_by_motion own b o → is_projected v ≡ resolves (option_map (tested_of own v) o)
+projected-by : (own : OwnAircraft) (b : Bool) (o : Option Motion) (v : View) → v ≡ view_by_motion own b o → is_projected v ≡ resolves (option_map (tested_of own v) o)
 unfolding tested_of
 projected-by own b None v is = ap is_projected is
 projected-by own b (Some m) v is = ap is_projected is ∙ projected-by-row own m own.resolution
 
-resolves-agree : (seen : Seen) → IsSighted seen → seen.own.aircraft.profile ≡ One → is_some (shown_of seen).projected ≡ resolves (shown_of seen).tested
+resolves-agree : (seen : Seen) → IsSighted seen → is_some (shown_of seen).projected ≡ resolves (shown_of seen).tested
 unfolding shown_of
-resolves-agree seen is one = some-if (is_projected seen.view) (projected_of seen.view) ∙ projected-by seen.own.aircraft is.resolves seen.motion seen.view (first-is seen is one)
+resolves-agree seen is = some-if (is_projected seen.view) (projected_of seen.view) ∙ projected-by seen.own.aircraft is.resolves seen.motion seen.view is.view_is
 
 -- ---- a rule and what it asks
 
@@ -239,6 +239,22 @@ chosen-is : (view : View) → sense_of (new_advisory view (chosen_sense view)) �
 unfolding projected_of
 chosen-is view = refl
 
+on-choice : (e : Parts) (K : List Entry) (own cycle : ℕ) (made : Cells) (other : ℕ) → IsExplained e K own cycle made other → AgreesOnChoice (reason_of e K own cycle made other)
+unfolding reason_of shown_of seen_of
+on-choice e K own cycle made other explained =
+    let seen = seen_of (sight_of e own cycle) other in
+    let is = sighted (sight_of e own cycle) other in
+    record {
+      resolves = resolves-agree seen is;
+      starts = λ rule.
+          let asks = asks-to-start seen.view _ _ _ _ _ explained rule in
+          record {
+            projected = projected_of seen.view;
+            is_projected = on-projected (is_projected seen.view) (projected_of seen.view) (threat-projects seen is asks.threat);
+            sense = ap sense_of asks.cell_is ∙ chosen-is seen.view;
+          };
+    }
+
 agrees : (e : Parts) (K : List Entry) (own cycle : ℕ) (made : Cells) (other : ℕ) → e.profile ≡ One → IsExplained e K own cycle made other → Agrees (reason_of e K own cycle made other)
 unfolding reason_of shown_of seen_of
 agrees e K own cycle made other first explained =
@@ -248,14 +264,7 @@ agrees e K own cycle made other first explained =
     let plain = plain-seen seen is one in
     record {
       tests = tests-agree seen is one;
-      resolves = resolves-agree seen is one;
-      starts = λ rule.
-          let asks = asks-to-start seen.view _ _ _ _ _ explained rule in
-          record {
-            projected = projected_of seen.view;
-            is_projected = on-projected (is_projected seen.view) (projected_of seen.view) (threat-projects seen is asks.threat);
-            sense = ap sense_of asks.cell_is ∙ chosen-is seen.view;
-          };
+      choice = on-choice e K own cycle made other explained;
       weakens = λ rule.
           let asks = asks-to-weaken seen.view _ _ _ _ _ explained rule in
           record {
@@ -279,6 +288,9 @@ agrees e K own cycle made other first explained =
             other = subst (λ (n : ℕ). pos (10 * n) ≤ℤ (continued_of seen.view asks.it).other_later) (sym feet) (reverses-other seen.view asks.it is.feet alim calls);
           };
     }
+
+pub choices-agree : (e : Parts) (J : List Entry) → IsEncounter e → IsLegal (air_of e) J → AreAgreeingOnChoice e J
+choices-agree e J valid legal = λ K own cycle made other begins within apart. on-choice e K own cycle made other (commit-explained e J valid legal K own cycle made other begins within apart)
 
 pub columns-agree : (e : Parts) (J : List Entry) → IsEncounter e → IsLegal (air_of e) J → e.profile ≡ One → AreAgreeing e J
 columns-agree e J valid legal first = λ K own cycle made other begins within apart. agrees e K own cycle made other first (commit-explained e J valid legal K own cycle made other begins within apart)

@@ -9,6 +9,7 @@ use Rattle.acas_base.specs.declared.advisory.Cell.{Cell}
 use Rattle.acas_base.specs.declared.advisory.Cells.{Cells}
 use Rattle.acas_base.specs.declared.advisory.Vrc.{Vrc}
 use Rattle.acas_base.specs.declared.entry.Entry.{Entry}
+use Rattle.acas_base.specs.declared.setting.Profile.{Profile}
 use Rattle.acas_lines.proofs.Ranges.{flat-more}
 use Rattle.air_journal.specs.Airs.{address_of, air_of}
 use Rattle.air_rules.specs.Journal.{cell_at, last_cell}
@@ -42,17 +43,17 @@ reason-is e journal own cycle other cells seen position a b shown continued told
 from-zero : {X : Type 0} (f : ℕ → List X) (n : ℕ) → flat_map f (range_with_len 0 (suc n)) ≡ flat_map f (range_with_len 0 n) ++ f n
 from-zero f n = let here : 0 + n ≡ n = omega arith in ap (λ k. flat_map f (range_with_len 0 k)) (sym (add-one n)) ∙ flat-more f 0 n ∙ ap (λ k. flat_map f (range_with_len 0 n) ++ f k) here
 
-more-lines : (f : ℕ → List Reason) (n : ℕ) → map reason_line (flat_map f (range_with_len 0 (n + 1))) ≡ map reason_line (flat_map f (range_with_len 0 n)) ++ map reason_line (f n)
-more-lines f n =
-    ap (map reason_line) (ap (λ (k : ℕ). flat_map f (range_with_len 0 k)) (add-one n) ∙ from-zero f n) ∙ map-append reason_line (flat_map f (range_with_len 0 n)) (f n)
+more-lines : (p : Profile) (f : ℕ → List Reason) (n : ℕ) → map (reason_line p) (flat_map f (range_with_len 0 (n + 1))) ≡ map (reason_line p) (flat_map f (range_with_len 0 n)) ++ map (reason_line p) (f n)
+more-lines p f n =
+    ap (map (reason_line p)) (ap (λ (k : ℕ). flat_map f (range_with_len 0 k)) (add-one n) ∙ from-zero f n) ∙ map-append (reason_line p) (flat_map f (range_with_len 0 n)) (f n)
 
 -- Nothing is put against own aircraft.
-pub none-more : (f : ℕ → List Reason) (n : ℕ) → f n ≡ [] → map reason_line (flat_map f (range_with_len 0 n)) ≡ map reason_line (flat_map f (range_with_len 0 (n + 1)))
-none-more f n is = sym (more-lines f n ∙ ap (λ reasons. map reason_line (flat_map f (range_with_len 0 n)) ++ map reason_line reasons) is ∙ append-nil _)
+pub none-more : (p : Profile) (f : ℕ → List Reason) (n : ℕ) → f n ≡ [] → map (reason_line p) (flat_map f (range_with_len 0 n)) ≡ map (reason_line p) (flat_map f (range_with_len 0 (n + 1)))
+none-more p f n is = sym (more-lines p f n ∙ ap (λ reasons. map (reason_line p) (flat_map f (range_with_len 0 n)) ++ map (reason_line p) reasons) is ∙ append-nil _)
 
 -- One line is put against another one.
-pub one-more : (f : ℕ → List Reason) (n : ℕ) (reason : Reason) → f n ≡ reason ∷ [] → map reason_line (flat_map f (range_with_len 0 n)) ++ reason_line reason ∷ [] ≡ map reason_line (flat_map f (range_with_len 0 (n + 1)))
-one-more f n reason is = sym (more-lines f n ∙ ap (λ reasons. map reason_line (flat_map f (range_with_len 0 n)) ++ map reason_line reasons) is)
+pub one-more : (p : Profile) (f : ℕ → List Reason) (n : ℕ) (reason : Reason) → f n ≡ reason ∷ [] → map (reason_line p) (flat_map f (range_with_len 0 n)) ++ reason_line p reason ∷ [] ≡ map (reason_line p) (flat_map f (range_with_len 0 (n + 1)))
+one-more p f n reason is = sym (more-lines p f n ∙ ap (λ reasons. map (reason_line p) (flat_map f (range_with_len 0 n)) ++ map (reason_line p) reasons) is)
 
 -- By whether it is own aircraft.
 pub own-rows : (e : Parts) (journal : List Entry) (own cycle : ℕ) (cells : Cells) (other : ℕ) → other ≡ own → pair_reasons e journal own cycle cells other ≡ []

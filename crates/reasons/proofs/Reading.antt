@@ -23,11 +23,11 @@ read-on None entry next journal old new s r h = absurd (let e = s ∙ sym r in c
 read-on (Some it) entry next journal old new s r h = let e : entry_of it ≡ entry_of entry = (let f = r ∙ sym s in cc) in h ∙ ap (λ (x : Entry). x ∷ old) e
 
 pub lines-on : (e f : Parts) (read new : List Entry) (entry : Entry) → f ≡ e → new ≡ entry ∷ read
-    → map reason_line (reasons_of e read) ++ map reason_line (entry_reasons f read entry) ≡ map reason_line (reasons_of e new)
+    → map (reason_line e.profile) (reasons_of e read) ++ map (reason_line f.profile) (entry_reasons f read entry) ≡ map (reason_line e.profile) (reasons_of e new)
 lines-on e f read new entry same is =
-    ap (λ (x : Parts). map reason_line (reasons_of e read) ++ map reason_line (entry_reasons x read entry)) same
-    ∙ sym (map-append reason_line (reasons_of e read) (entry_reasons e read entry))
-    ∙ ap (λ (L : List Entry). map reason_line (reasons_of e L)) (sym is)
+    ap (λ (x : Parts). map (reason_line e.profile) (reasons_of e read) ++ map (reason_line x.profile) (entry_reasons x read entry)) same
+    ∙ sym (map-append (reason_line e.profile) (reasons_of e read) (entry_reasons e read entry))
+    ∙ ap (λ (L : List Entry). map (reason_line e.profile) (reasons_of e L)) (sym is)
 
 pub ready-on : (e f : Parts) (read new : List Entry) (entry : Entry) (crafts : List (Option Kept)) → f ≡ e → new ≡ entry ∷ read
     → AreReady f (commits (entry ∷ read)) crafts → AreReady e (commits new) crafts

@@ -1,5 +1,5 @@
 -- How large the separations of a view are.
-use Rattle.std.proofs.Common.{◌≡◌, ◌-◌, ◌*◌, ◌≤◌, ◌^◌, ℕ, zero, suc, ℤ, pos, ◌+ℤ◌, ◌-ℤ◌, ◌*ℤ◌, ◌≤ℤ◌, ◌<ℤ◌, neg_ℤ, Bool, true, false, Option, Some, None, arith, rules, unsigned_abs}
+use Rattle.std.proofs.Common.{◌-◌, ◌*◌, ◌≤◌, ◌^◌, ℕ, zero, suc, ℤ, pos, ◌+ℤ◌, ◌-ℤ◌, ◌*ℤ◌, ◌≤ℤ◌, ◌<ℤ◌, neg_ℤ, Bool, true, false, Option, Some, None, arith, rules, unsigned_abs}
 use Rattle.std.specs.Prelude.{IfSome, if◌then◌else◌, int_le, int_lt, min, nat_le, slice_index_or}
 use Rattle.std.specs.Int.{int_div_euclid, int_max, int_min}
 use Rattle.std.specs.Option.{option_map_or}

@@ -81,7 +81,7 @@ abbrev pub view_by_row : OwnAircraft → Motion → Option Row → View
 view_by_row own m row = option_map_or (resolving_view own m) row (plain_view true (shows_traffic own m) false)
 
 -- A threat is seen only where the pair is tested and own aircraft resolves.
-by-profile : (profile : Profile) (own : OwnAircraft) (m : Motion) (row : Row) → is_projected (in_profile profile (first_view own m row) (second_view own m row)) ≡ true
+pub by-profile : (profile : Profile) (own : OwnAircraft) (m : Motion) (row : Row) → is_projected (in_profile profile (first_view own m row) (second_view own m row)) ≡ true
 by-profile profiles.One own m row = refl
 by-profile profiles.Two own m row = refl
 

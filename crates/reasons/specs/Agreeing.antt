@@ -50,13 +50,21 @@ pub record ReversesForAlim (reason : Reason) : Type 0 where
   pub same : continued.same_later <ℤ pos (10 * projected.alim)
   pub other : pos (10 * projected.alim) ≤ℤ continued.other_later
 
--- What the numbers of a reason say is what its marks and its rule say.
-pub record Agrees (reason : Reason) : Type 0 where
-  pub tests : IfSome reason.seen.tested GoesBySeconds
+-- In either profile: lines tell of the choice exactly where own aircraft resolves, and an advisory that starts has the
+-- sense that is told.
+pub record AgreesOnChoice (reason : Reason) : Type 0 where
   pub resolves : is_some reason.seen.projected ≡ resolves reason.seen.tested
   pub starts : reason.rule ≡ Starts → StartsAsChosen reason
+
+-- In profile 1: what the numbers of a reason say is what its marks and its rule say.
+pub record Agrees (reason : Reason) : Type 0 where
+  pub tests : IfSome reason.seen.tested GoesBySeconds
+  pub choice : AgreesOnChoice reason
   pub weakens : reason.rule ≡ Weakens → WeakensWithAlim reason
   pub reverses : reason.rule ≡ Reverses → ReversesForAlim reason
+
+abbrev pub AreAgreeingOnChoice : Parts → List Entry → Type 0
+AreAgreeingOnChoice e journal = OfEachReason (λ e earlier own cycle cells other. AgreesOnChoice (reason_of e earlier own cycle cells other)) e journal
 
 abbrev pub AreAgreeing : Parts → List Entry → Type 0
 AreAgreeing e journal = OfEachReason (λ e earlier own cycle cells other. Agrees (reason_of e earlier own cycle cells other)) e journal

@@ -1,6 +1,8 @@
 -- The columns of the text: the name of each, and what it tells of a line.
 use Rattle.std.specs.Prelude.{ℕ, List, [], ◌∷◌, ◌++◌, Option, codes, map}
 use Rattle.std.specs.Fmt.{decimal, signed_decimal}
+use Rattle.acas_base.specs.declared.setting.Profile.{Profile}
+use Rattle.acas_base.specs.declared.setting.Profile.TheVariants.{One, Two}
 use Rattle.acas_base.specs.declared.advisory.Rank.{Rank}
 use Rattle.acas_base.specs.declared.advisory.Rank.TheVariants.{First, Second, Free}
 use Rattle.acas_lines.specs.Lines.{line_of}
@@ -168,13 +170,17 @@ abbrev pub decided_columns : List (Column Reason)
 decided_columns =
     column (codes "before") (λ reason. cell_text reason.before)
     ∷ column (codes "cell") (λ reason. cell_text reason.cell)
-    ∷ column (codes "rule") (λ reason. rule_text reason.rule)
     ∷ []
+
+-- By which rule. The words are of the rules of profile 1.
+abbrev pub rule_columns : Profile → List (Column Reason)
+rule_columns One = column (codes "rule") (λ reason. rule_text reason.rule) ∷ []
+rule_columns Two = []
 
 -- ---- all columns, in order
 
-abbrev pub further_columns : List (Column Reason)
-further_columns =
+abbrev pub further_columns : Profile → List (Column Reason)
+further_columns profile =
     named_columns
     ++ (where_any (λ reason. reason.seen.reply) reply_columns
     ++ (own_columns
@@ -182,14 +188,19 @@ further_columns =
     ++ (where_any (λ reason. reason.seen.projected) projected_columns
     ++ (where_any (λ reason. reason.continued) continued_columns
     ++ (where_any (λ reason. reason.told) told_columns
-    ++ decided_columns))))))
+    ++ (decided_columns ++ rule_columns profile)))))))
 
-abbrev pub columns : List (Column Reason)
-columns = position_column ∷ further_columns
+abbrev pub columns : Profile → List (Column Reason)
+columns profile = position_column ∷ further_columns profile
+
+-- How the line with their names ends.
+abbrev pub names_end : Profile → List ℕ
+names_end One = codes ",rule\n"
+names_end Two = codes "\n"
 
 -- The line with their names, and the line of a reason.
-unfoldable pub names_line : List ℕ
-names_line = line_of (map (λ (c : Column Reason). c.name) columns)
+unfoldable pub names_line : Profile → List ℕ
+names_line profile = line_of (map (λ (c : Column Reason). c.name) (columns profile))
 
-unfoldable pub reason_line : Reason → List ℕ
-reason_line reason = line_of (texts columns reason)
+unfoldable pub reason_line : Profile → Reason → List ℕ
+reason_line profile reason = line_of (texts (columns profile) reason)

@@ -80,7 +80,7 @@ reasons_of e (entry ∷ earlier) = reasons_of e earlier ++ entry_reasons e earli
 
 -- How many lines follow that with the names of the columns; these names; and the line of each reason.
 abbrev pub reasons_lines : Parts → List Entry → List (List ℕ)
-reasons_lines e journal = count_line (codes "why") (length (reasons_of e journal)) ∷ names_line ∷ map reason_line (reasons_of e journal)
+reasons_lines e journal = count_line (codes "why") (length (reasons_of e journal)) ∷ names_line e.profile ∷ map (reason_line e.profile) (reasons_of e journal)
 
 abbrev pub reasons_text : Parts → List Entry → List ℕ
 reasons_text e journal = joined (reasons_lines e journal)

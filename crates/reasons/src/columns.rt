@@ -4,14 +4,14 @@ ghost use Rattle.acas_text.specs.declared.line.TheConstants.{LINE_BYTES};
 ghost use Rattle.acas_text.specs.Fields.{if_any, mark, with_point};
 ghost use Rattle.advisory_report.specs.Cells.{cell_text, strength_digit};
 ghost use Rattle.advisory_report.specs.declared.cells.TheConstants.{CELL_BYTES};
-ghost use Rattle.reasons.specs.Columns.{altitude_text, continued_columns, decided_columns, named_columns, names_line, own_columns, position_column, projected_columns, range_text, rank_text, reason_line, reply_columns, rule_text, seconds_text, tau_text, test_columns, tested_columns, texts, texts_if_any, told_columns, tracked_columns};
+ghost use Rattle.reasons.specs.Columns.{altitude_text, continued_columns, decided_columns, named_columns, names_end, names_line, own_columns, position_column, projected_columns, range_text, rank_text, reason_line, reply_columns, rule_columns, rule_text, seconds_text, tau_text, test_columns, tested_columns, texts, texts_if_any, told_columns, tracked_columns};
 ghost use Rattle.reasons.specs.Fields.{nothing, with_field, with_fields};
 
 use crate::reason::Reason;
 use crate::rules::Rule;
 use crate::shown::{Best, Continued, Projected, Tested};
 use crate::told::Told;
-use acas_base::{Cell, Rank};
+use acas_base::{Cell, Profile, Rank};
 use acas_lines::fixed_line;
 use acas_text::Line;
 use advisory_report::{CELL_BYTES, add_cell, complement_text, sense_text, strength_digit};
@@ -270,20 +270,31 @@ fn add_cell_field(line: &mut Line, cell: &Cell)
     add_cell(line, cell);
 }
 
-// Adds what was decided, and by which rule.
+// Adds what was decided.
 fn add_decided(line: &mut Line, reason: &Reason)
-    requires { length line.old + 44 ≤ LINE_BYTES }
+    requires { length line.old + 24 ≤ LINE_BYTES }
     ensures added { line.new ≡ with_fields line.old (texts decided_columns reason.now) }
-    ensures short { length line.new ≤ length line.old + 44 }
+    ensures short { length line.new ≤ length line.old + 24 }
 {
     add_cell_field(line, &reason.before);
     add_cell_field(line, &reason.cell);
-    line.text_field(rule_text(reason.rule));
+}
+
+// Adds by which rule, in profile 1.
+fn add_rule(line: &mut Line, profile: Profile, reason: &Reason)
+    requires { length line.old + 20 ≤ LINE_BYTES }
+    ensures added { line.new ≡ with_fields line.old (texts (rule_columns profile) reason.now) }
+    ensures short { length line.new ≤ length line.old + 20 }
+{
+    match profile {
+        Profile::One => line.text_field(rule_text(reason.rule)),
+        Profile::Two => {}
+    }
 }
 
 /// Makes the line of a reason.
-pub(crate) fn set_line(line: &mut Line, reason: &Reason)
-    ensures { line.new ≡ reason_line reason.now }
+pub(crate) fn set_line(line: &mut Line, profile: Profile, reason: &Reason)
+    ensures { line.new ≡ reason_line profile reason.now }
 {
     set_named(line, reason);
     add_reply(line, &reason.seen.reply);
@@ -293,15 +304,28 @@ pub(crate) fn set_line(line: &mut Line, reason: &Reason)
     add_continued(line, &reason.continued);
     add_told(line, &reason.told);
     add_decided(line, reason);
+    add_rule(line, profile, reason);
     line.text("\n");
+}
+
+// The end of the line with the names of the columns.
+fn names_end(profile: Profile) -> &'static str
+    ensures { result.now ≡ names_end profile }
+{
+    match profile {
+        Profile::One => ",rule\n",
+        Profile::Two => "\n",
+    }
 }
 
 /// The line with the names of the columns.
 #[tactic(auto, unfolding(crate::specs::Columns::names_line))]
-pub(crate) fn names_line() -> Line
-    ensures { result ≡ names_line }
+pub(crate) fn names_line(profile: Profile) -> Line
+    ensures { result ≡ names_line profile }
 {
-    fixed_line(
-        "position,cycle,own,other,rank,measured_range_ft,reported_alt_ft,own_alt_ft,agl_ft,level,climbs,range_ft,range_rate_fps,alt_diff_ft,alt_diff_rate_fpm,own_rate_fpm,ta_range_s,ta_alt_s,ra_range_s,ra_alt_s,ta_tau_s,ra_tau_s,traffic,threat,halves,alim_ft,side,up_strength,up_ft,down_strength,down_ft,chosen,fresh,need,need_ft,same_later_ft,other_later_ft,has_alim,complement,sent_at,taken_at,commits_since,before,cell,rule\n",
-    )
+    let mut line = fixed_line(
+        "position,cycle,own,other,rank,measured_range_ft,reported_alt_ft,own_alt_ft,agl_ft,level,climbs,range_ft,range_rate_fps,alt_diff_ft,alt_diff_rate_fpm,own_rate_fpm,ta_range_s,ta_alt_s,ra_range_s,ra_alt_s,ta_tau_s,ra_tau_s,traffic,threat,halves,alim_ft,side,up_strength,up_ft,down_strength,down_ft,chosen,fresh,need,need_ft,same_later_ft,other_later_ft,has_alim,complement,sent_at,taken_at,commits_since,before,cell",
+    );
+    line.text(names_end(profile));
+    line
 }

@@ -84,7 +84,7 @@ fn put_commit<S: LineSink>(
     requires present { craft.now.cycle ≡ commit.now.cycle }
     requires begun { 1 ≤ commit.now.cycle }
     requires picture { picture.now ≡ picture_of reader.now.encounter commit.now.own commit.now.cycle }
-    ensures lines { S.took sink.old sink.new (map reason_line (commit_reasons reader.now.encounter reader.now.read commit.now.own commit.now.cycle commit.now.cells.now)) }
+    ensures lines { S.took sink.old sink.new (map (reason_line reader.now.encounter.profile) (commit_reasons reader.now.encounter reader.now.read commit.now.own commit.now.cycle commit.now.cells.now)) }
 {
     // No encounter has more than 16 aircraft.
     commit.encounter.valid_law();
@@ -95,7 +95,8 @@ fn put_commit<S: LineSink>(
             continue;
         }
         let seen = seen_of(places, craft, picture, &own, other);
-        set_line(&mut line, &reason_of(reader, commit, other, &seen));
+        let reason = reason_of(reader, commit, other, &seen);
+        set_line(&mut line, commit.encounter.profile(), &reason);
         sink.line(&line);
     }
 }
@@ -116,7 +117,7 @@ fn put_looked<S: LineSink>(
     requires begun { 1 ≤ commit.now.cycle }
     requires looked { IsReady reader.now.encounter commit.now.own commit.now.cycle (slice_index_or surveillance.now.crafts commit.now.own None) }
     requires picture { surveillance.now.picture ≡ picture_of reader.now.encounter commit.now.own commit.now.cycle }
-    ensures lines { S.took sink.old sink.new (map reason_line (commit_reasons reader.now.encounter reader.now.read commit.now.own commit.now.cycle commit.now.cells.now)) }
+    ensures lines { S.took sink.old sink.new (map (reason_line reader.now.encounter.profile) (commit_reasons reader.now.encounter reader.now.read commit.now.own commit.now.cycle commit.now.cells.now)) }
 {
     match &surveillance.crafts[usize::from(commit.own)] {
         Some(craft) => put_commit(reader, commit, places, craft, &surveillance.picture, sink),
@@ -137,7 +138,7 @@ fn put_by<S: LineSink>(
     requires next { commit.now.cycle ≡ commits reader.now.read commit.now.own + 1 }
     requires run { commit.now.cycle ≤ reader.now.encounter.cycles }
     ensures ready { AreReady reader.now.encounter (commits (Entry.Commit commit.now.own commit.now.cycle commit.now.cells.now ∷ reader.now.read)) surveillance.new.crafts }
-    ensures lines { S.took sink.old sink.new (map reason_line (commit_reasons reader.now.encounter reader.now.read commit.now.own commit.now.cycle commit.now.cells.now)) }
+    ensures lines { S.took sink.old sink.new (map (reason_line reader.now.encounter.profile) (commit_reasons reader.now.encounter reader.now.read commit.now.own commit.now.cycle commit.now.cells.now)) }
 {
     // No run is longer than 600 cycles, and no encounter has more than 16 aircraft.
     commit.encounter.valid_law();
@@ -158,7 +159,7 @@ fn put_entry<S: LineSink>(
     requires legal { IsLegal (air_of reader.now.encounter) (entry_of entry.now ∷ reader.now.read) }
     requires ready { AreReady reader.now.encounter (commits reader.now.read) surveillance.old.crafts }
     ensures ready { AreReady reader.now.encounter (commits (entry_of entry.now ∷ reader.now.read)) surveillance.new.crafts }
-    ensures lines { S.took sink.old sink.new (map reason_line (entry_reasons reader.now.encounter reader.now.read (entry_of entry.now))) }
+    ensures lines { S.took sink.old sink.new (map (reason_line reader.now.encounter.profile) (entry_reasons reader.now.encounter reader.now.read (entry_of entry.now))) }
 {
     // No encounter has more than 16 aircraft.
     encounter.valid_law();
@@ -175,7 +176,7 @@ fn put_entry<S: LineSink>(
 
 /// Puts the lines of all commits, in order.
 pub(crate) fn put_commits<S: LineSink>(state: &AirState, sink: &mut S)
-    ensures { S.took sink.old sink.new (map reason_line (reasons_of state.now.encounter state.now.journal)) }
+    ensures { S.took sink.old sink.new (map (reason_line state.now.encounter.profile) (reasons_of state.now.encounter state.now.journal)) }
 {
     state.legal_law();
     let mut reader = Reader::new(state);

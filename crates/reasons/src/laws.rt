@@ -11,7 +11,7 @@ ghost use Rattle.acas_base.specs.declared.view.View.{View};
 ghost use Rattle.air_journal.specs.Airs.{air_of};
 ghost use Rattle.air_rules.specs.Rules.{IsLegal};
 ghost use Rattle.reasons.specs.Aboard.{GoesByBoth, GoesByHearing, GoesBySight, NamesItsMessage};
-ghost use Rattle.reasons.specs.Agreeing.{AreAgreeing};
+ghost use Rattle.reasons.specs.Agreeing.{AreAgreeing, AreAgreeingOnChoice};
 ghost use Rattle.reasons.specs.Explained.{AreExplained, Explains, ExplainsOnce};
 ghost use Rattle.reasons.specs.Rules.{rule_of};
 
@@ -37,10 +37,12 @@ pub fn reason_law()
 /// resolution advisory are. An advisory that `starts` has the sense `chosen`. One that `weakens` has ALIM. Where one
 /// `reverses`, its own sense doesn't give ALIM with the later response, and the other one does.
 ///
-/// In profile 2 this doesn't hold: the tests need more than the columns have, and an advisory weakens or is reversed
-/// for other reasons too.
+/// In profile 2 too, there is a choice exactly where the pair is tested and own aircraft resolves, and an advisory that
+/// `starts` has the sense `chosen`. The rest doesn't hold there: the tests need more than the columns have, and an
+/// advisory weakens or is reversed for other reasons too.
 pub fn columns_law()
-    ensures { (e : Parts) (journal : List Entry) → IsEncounter e → IsLegal (air_of e) journal → e.profile ≡ Profile.One → AreAgreeing e journal }
+    ensures choice { (e : Parts) (journal : List Entry) → IsEncounter e → IsLegal (air_of e) journal → AreAgreeingOnChoice e journal }
+    ensures columns { (e : Parts) (journal : List Entry) → IsEncounter e → IsLegal (air_of e) journal → e.profile ≡ Profile.One → AreAgreeing e journal }
 {}
 
 /// A law: what a line tells that was measured, tracked, tested and projected follows from the sight of own aircraft up

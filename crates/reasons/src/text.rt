@@ -20,7 +20,7 @@ impl Text for Reasons<'_> {
 
     fn put<S: LineSink>(&self, sink: &mut S) {
         sink.line(&count_line("why", reason_count(self.0)));
-        sink.line(&names_line());
+        sink.line(&names_line(self.0.enc().profile()));
         put_commits(self.0, sink);
     }
 }

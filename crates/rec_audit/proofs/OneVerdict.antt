@@ -107,7 +107,7 @@ first_lines e N J = head_line ∷ (canonical_lines e ++ journal_line N ∷ entry
 
 first-whole : (e : Parts) (N : ℕ) (J : List Entry) → IsEncounter e → N ≤ MOST_TOLD → IsLegal (air_of e) J → AllByRecursion IsLine (first_lines e N J)
 first-whole e N J is few legal =
-    ((recording-whole e J is legal).0, each-append IsLine (canonical_lines e) (journal_line N ∷ entry_lines (length e.crafts) J) (canonical-whole e) (journal-whole N few, entries-whole e J is legal))
+    ((recording-whole e J is legal).0, each-append IsLine (canonical_lines e) (journal_line N ∷ entry_lines (length e.crafts) J) (canonical-whole e is) (journal-whole N few, entries-whole e J is legal))
 
 begun : (bytes : List ℕ) (state : State) → (b : IsBeginningOf bytes state) → Opens state.encounter b.count (lines_of bytes) (entry_lines (length state.encounter.crafts) state.journal)
 begun bytes state b = record {

@@ -25,6 +25,7 @@ use Rattle.air_journal.specs.Airs.{air_of}
 use Rattle.air_journal.specs.Cells.{commit_cells}
 use Rattle.air_journal.specs.Ranges.{IsEntry}
 use Rattle.air_rules.specs.Rules.{IsLegal}
+use Rattle.enc_file.proofs.CanonicalWhole.{labelled}
 use Rattle.enc_file.proofs.LinesRead.{IsPlainField, IsReadable}
 use Rattle.enc_file.proofs.PlainRecords.{canonical-readable}
 use Rattle.enc_file.specs.Canonical.{canonical_lines, canonical_records}
@@ -87,8 +88,8 @@ record-whole [] h = absurd h
 record-whole ([] ∷ fields) h = absurd h
 record-whole ((c ∷ cs) ∷ fields) h = line-whole ((c ∷ cs) ∷ fields) (plain-part (c ∷ cs) h.0, plain-parts fields h.1)
 
-pub canonical-whole : (e : Parts) → AreWhole (canonical_lines e)
-canonical-whole e = each-map IsLine line_of IsReadable record-whole (canonical_records e) (canonical-readable e)
+pub canonical-whole : (e : Parts) → IsEncounter e → AreWhole (canonical_lines e)
+canonical-whole e is = each-map IsLine line_of IsReadable record-whole (canonical_records e) (canonical-readable e (labelled e is))
 
 -- ---- the report
 
@@ -180,4 +181,4 @@ recording-whole e journal is legal =
     let head : IsLine head_line = record { body = codes "recording,1"; inside = word-part (codes "recording,1") refl; whole = refl } in
     let count = count-whole (codes "journal") (length journal) (word-part (codes "journal") refl) (few-entries e journal is legal) in
     let entries = each-append IsLine (entry_lines (length e.crafts) journal) (closing_lines e journal) (entries-whole e journal is legal) (closing-whole e journal is) in
-    (head, each-append IsLine (canonical_lines e) (journal_line (length journal) ∷ (entry_lines (length e.crafts) journal ++ closing_lines e journal)) (canonical-whole e) (count, entries))
+    (head, each-append IsLine (canonical_lines e) (journal_line (length journal) ∷ (entry_lines (length e.crafts) journal ++ closing_lines e journal)) (canonical-whole e is) (count, entries))

@@ -10,7 +10,7 @@ ghost use Rattle.craft_view.specs.Looking.{AreReady};
 ghost use Rattle.resume.specs.Filling.{Fills, IsFilled};
 ghost use Rattle.resume.specs.Steps.{IsAtRest};
 
-use crate::looks::surveillance_of;
+use crate::looks::put_crafts;
 use crate::rounds::round;
 use crate::steps::{slowest, step};
 use acas_base::Encounter;
@@ -64,7 +64,8 @@ pub fn fill(state: &mut AirState, enc: &Encounter)
     ensures complete { IsComplete (air_of enc.now) state.new.journal }
     ensures begins { Begins state.old.journal state.new.journal }
 {
-    let mut surveillance = surveillance_of(state, enc);
+    let mut surveillance = Surveillance::none();
+    put_crafts(state, enc, &mut surveillance);
     catch_up(state, enc, &mut surveillance);
     finish(state, enc, &mut surveillance);
     state.legal_law();

@@ -1,12 +1,12 @@
 // The looks that the aircraft of a journal have made.
-ghost use Rattle.std.specs.Prelude.{◌≡◌};
+ghost use Rattle.std.specs.Prelude.{◌≡◌, None, replicate};
+ghost use Rattle.acas_base.specs.declared.TheConstants.{CRAFTS};
 ghost use Rattle.air_rules.specs.Journal.{commits};
 ghost use Rattle.craft_view.specs.Looking.{AreReady, IsReady};
 
 use acas_base::Encounter;
 use air_journal::AirState;
 use craft_view::{Craft, Surveillance, is_active};
-use std::array::from_fn;
 
 // The aircraft at an index, where it is active, after as many looks as it has commits.
 #[tactic(auto, unfolding(craft_view::specs::Looking::IsReady))]
@@ -26,15 +26,14 @@ fn craft_at(state: &AirState, enc: &Encounter, own: u8) -> Option<Craft>
     Some(craft)
 }
 
-/// The surveillance after a journal: each active aircraft has looked as often as it has committed.
-pub(crate) fn surveillance_of(state: &AirState, enc: &Encounter) -> Surveillance
-    requires { state.now.encounter ≡ enc.now }
-    ensures { AreReady enc.now (commits state.now.journal) result.crafts }
+/// Puts the aircraft of a journal where none is yet: each active one has looked as often as it has committed.
+pub(crate) fn put_crafts(state: &AirState, enc: &Encounter, surveillance: &mut Surveillance)
+    requires same { state.now.encounter ≡ enc.now }
+    requires none { surveillance.old.crafts ≡ replicate CRAFTS None }
+    ensures { AreReady enc.now (commits state.now.journal) surveillance.new.crafts }
 {
     state.legal_law();
-    let mut crafts = from_fn(|_own| { None });
     for own in 0..enc.crafts().len() as u8 {
-        crafts[usize::from(own)] = craft_at(state, enc, own);
+        surveillance.crafts[usize::from(own)] = craft_at(state, enc, own);
     }
-    Surveillance::of(crafts)
 }

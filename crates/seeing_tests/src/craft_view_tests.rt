@@ -50,7 +50,12 @@ fn craft_after(encounter: &Encounter, own: u8, looks: u16) -> Result<Craft, Fail
 }
 
 // What an aircraft sees of another one in a cycle.
-fn view_in(encounter: &Encounter, own: u8, target: usize, cycle: u16) -> Result<View, Fail> {
+pub(crate) fn view_in(
+    encounter: &Encounter,
+    own: u8,
+    target: usize,
+    cycle: u16,
+) -> Result<View, Fail> {
     if target >= CRAFTS || cycle == 0 || cycle > encounter.cycles() {
         return Err("no such view".into());
     }

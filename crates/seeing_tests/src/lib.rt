@@ -22,6 +22,10 @@ mod miss_test_tests;
 #[cfg(test)]
 mod plot_axes_tests;
 #[cfg(test)]
+mod profile_two_tests;
+#[cfg(test)]
+mod profiled;
+#[cfg(test)]
 mod project_tests;
 #[cfg(test)]
 mod range_track_tests;

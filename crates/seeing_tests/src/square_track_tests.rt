@@ -79,6 +79,38 @@ fn misses_squares(rt: HostRuntime) {
     assert_eq!(rt; state_after(&[Some(1_000), None]), SquareState::Empty);
 }
 
+// How many measurements without a surprise the track counts, where it runs.
+fn calm_after(ranges: &[Option<u32>]) -> Option<u8> {
+    match state_after(ranges) {
+        SquareState::Run { calm, .. } => Some(calm),
+        SquareState::Empty | SquareState::One { .. } | SquareState::Two { .. } => None,
+    }
+}
+
+// A range that stays for three cycles, the one of the next cycle, and how many are counted then: none after a surprise,
+// of more than 32 times the range. 81 * 81 - 63 * 63 is 32 * 81, and 145 * 145 - 128 * 128 is 32 * 145 + 1; 63 * 63 -
+// 49 * 49 is 32 * 49, and 127 * 127 - 112 * 112 is 32 * 112 + 1.
+const SURPRISES: [(u32, u32, u8); 4] = [(63, 81, 1), (128, 145, 0), (63, 49, 1), (127, 112, 0)];
+
+#[test]
+fn is_surprised_above_32_times_the_range(rt: HostRuntime) {
+    for (stays, next, calm) in SURPRISES {
+        let ranges = [Some(stays), Some(stays), Some(stays), Some(next)];
+        assert_eq!(rt; calm_after(&ranges), Some(calm), "{stays} {next}");
+    }
+}
+
+// It runs from the third measurement on, and counts to fifteen.
+#[test]
+fn counts_to_fifteen(rt: HostRuntime) {
+    let still = [Some(1_000); 19];
+    assert_eq!(rt; calm_after(&still[..2]), None);
+    assert_eq!(rt; calm_after(&still[..3]), Some(0));
+    assert_eq!(rt; calm_after(&still[..17]), Some(14));
+    assert_eq!(rt; calm_after(&still[..18]), Some(15));
+    assert_eq!(rt; calm_after(&still), Some(15));
+}
+
 // Three feet by level and four in altitude are a slant range of five.
 #[test]
 fn measures_squares(rt: HostRuntime) {

@@ -67,9 +67,10 @@ fn is_close(height: i32, rate: i32, halves: u16, nearer: u16) -> bool {
     )
 }
 
-// Twice ZTHR is 1,433,600. The pair of the first three rows comes down to twice a height of 2,048,472 in 10 half-seconds,
-// to 1,433,880 in 28, and to 1,399,736 in 29. The next four are at ZTHR and one unit above it, at the later and at the
-// sooner time. The last three pass through own altitude, from above and from below, or get away from it.
+// Twice ZTHR is 1,433,600. The pair of the first three rows comes down to twice a height of 2,048,472 in 10
+// half-seconds, to 1,433,880 in 28, and to 1,399,736 in 29. The next four are at ZTHR and one unit above it, at the
+// later and at the sooner time. The last three pass through own altitude, from above and from below, or get away from
+// it.
 #[test]
 fn tells_a_small_vertical_miss(rt: HostRuntime) {
     let rows = [

@@ -7,20 +7,6 @@ ghost use Rattle.sens_table.specs.Levels.{level_at, IsLevel};
 use crate::above::Above;
 use acas_base::{Level, Row};
 
-/// The sensitivity level at an own altitude over ground of an elevation, both in ft (FAA, Introduction to TCAS II v7.1,
-/// table of sensitivity levels).
-///
-/// The two lowest levels go by the height above the ground, and the others by the altitude. A lower bound belongs to
-/// the higher band, and there is no hysteresis.
-pub fn level_of(altitude: i32, elevation: i32) -> Level
-    requires altitude { IsWithin 100000 altitude }
-    requires elevation { IsWithin 100000 elevation }
-    ensures value { result ≡ level_at altitude (altitude -ℤ elevation) }
-    ensures level { IsLevel result }
-{
-    Above::first(altitude, elevation).level()
-}
-
 // Thresholds of `tau` s, and of `dmod` and `zthr` ft.
 pub(crate) fn row(tau: u16, dmod: u16, zthr: u16) -> Row
     ensures { result ≡ Levels.row tau dmod zthr }

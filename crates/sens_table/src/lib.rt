@@ -3,6 +3,7 @@
 
 mod above;
 mod levels;
+mod run;
 
 pub use above::{Above, level_law};
-pub use levels::level_of;
+pub use run::level_in;

@@ -1,5 +1,5 @@
 // Expected values: computed by a program in another language. These encounters are long; shorter ones stand as cases.
-use acas_base::{Address, CopyPlan, CraftSpec, Encounter, Fate, Kind, Leg, Miss};
+use acas_base::{Address, CopyPlan, CraftSpec, Encounter, Fate, Kind, Leg, Miss, Profile};
 use enc_gen::make;
 use flight::inside;
 use std::alloc::Global;
@@ -13,6 +13,7 @@ struct Row {
     number: u32,
     crafts: u8,
     cycles: u16,
+    profile: Profile,
     version: u8,
     address: u32,
     kind: Kind,
@@ -30,6 +31,7 @@ const ROWS: &[Row] = &[
         number: 7,
         crafts: 8,
         cycles: 600,
+        profile: Profile::One,
         version: 1,
         address: 0x40_0807,
         kind: Kind::Ra,
@@ -64,6 +66,7 @@ const ROWS: &[Row] = &[
         number: 7,
         crafts: 16,
         cycles: 600,
+        profile: Profile::One,
         version: 2,
         address: 0x40_100F,
         kind: Kind::Ta,
@@ -126,7 +129,7 @@ fn is_made(alloc: Global, row: &Row) -> Result<bool, Fail> {
     let last = last_craft(row)?;
     let crafts = row.crafts.min(16).max(1);
     let cycles = row.cycles.min(600).max(1);
-    let made = make(alloc, row.number, crafts, cycles)?;
+    let made = make(alloc, row.number, crafts, cycles, row.profile)?;
     Ok(is_row(&made, row, &last))
 }
 

@@ -9,11 +9,11 @@ use track_text::{ReadError, explained, read};
 const ROWS: &[(&[u8], &[u8])] = &[
     (
         b"",
-        b"line 1: there is no record; the first one has to be \"tracks,1\"\n",
+        b"line 1: there is no record; the first one has to be \"tracks,1\" or \"tracks,2\"\n",
     ),
     (
-        b"\n\r\ntracks,2\n",
-        b"line 3: the first record has to be \"tracks,1\", and is \"tracks,2\"\n",
+        b"\n\r\ntracks,3\n",
+        b"line 3: the first record has to be \"tracks,1\" or \"tracks,2\", and is \"tracks,3\"\n",
     ),
 ];
 

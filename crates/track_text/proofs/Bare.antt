@@ -1,9 +1,8 @@
 -- The tables before the first record.
-use Rattle.std.proofs.Common.{◌≡◌, ℕ, zero, suc, ◌<◌, List, [], ◌∷◌, length, get_or, map, replicate, None, refl, sym, ap, ◌∙◌, arith, subst, Vec, Global}
+use Rattle.std.proofs.Common.{◌≡◌, ℕ, zero, suc, ◌<◌, List, [], length, get_or, map, replicate, None, refl, sym, ap, ◌∙◌, arith, subst, Vec, Global}
 use Rattle.std.proofs.lemmas.List.{get_or-map, length-map}
 use Rattle.acas_base.specs.declared.TheConstants.{CRAFTS}
 use Rattle.enc_file.specs.Tables.{Holds}
-use Rattle.enc_file.specs.declared.record.Record.TheVariants as said
 use Rattle.enc_file.specs.declared.tables.Tables.{Tables}
 use Rattle.track_file.specs.Track.{IsTrack}
 use Rattle.track_file.specs.declared.track.Point.{Point}
@@ -32,11 +31,11 @@ many-bare tracks bare = sym (length-map tracks points-of) ∙ ap (λ (l : List (
 no-track : IsTrack []
 no-track = record { ranges = λ k d h. absurd (omega (arith, h)); rising = λ k d h. absurd (omega (arith, h)) }
 
-pub nothing-kept : (tables : Tables) (tracks : Vec (Vec Point Global) Global) → Holds (said.Header 2 ∷ []) tables → AreBare tracks.items → KeepsTracks [] (record { count = 0; tables = tables; tracks = tracks; made = None })
+pub nothing-kept : (tables : Tables) (tracks : Vec (Vec Point Global) Global) → Holds [] tables → AreBare tracks.items → KeepsTracks [] (record { count = 0; version = 0; tables = tables; tracks = tracks; made = None })
 nothing-kept tables tracks h bare = record {
   count = refl;
   unended = refl;
-  format = refl;
+  version = refl;
   tables = h;
   many = many-bare tracks.items bare;
   points = λ craft d low. no-point tracks.items craft d bare (omega (arith, low, many-bare tracks.items bare));

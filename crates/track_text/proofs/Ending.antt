@@ -18,18 +18,17 @@ use Rattle.track_file.specs.declared.along.TrackFault.TheVariants.{Cover, Rate}
 use Rattle.track_file.specs.declared.track.Point.{Point}
 use Rattle.track_text.specs.Conditions.{address_at}
 use Rattle.track_text.specs.Earlier.{cycles_of, shared_of, track_of, tracks_of}
-use Rattle.track_text.specs.Tables.{AreBegun, HasMade, IsFine, IsFirstFault, KeepsTracks, fault_of, headed}
+use Rattle.track_text.specs.Tables.{AreBegun, HasMade, IsFine, IsFirstFault, KeepsTracks, fault_of}
 use Rattle.track_text.specs.declared.record.TrackRecord.{TrackRecord}
 use Rattle.track_text.specs.declared.record.TrackRecord.TheVariants.{Shared}
 use Rattle.track_text.specs.declared.refusal.Fault.TheVariants.{Text, Track}
 use Rattle.track_text.specs.declared.tables.TrackTables.{TrackTables}
-use Rattle.track_text.proofs.Kept.{headed-same}
 
 abbrev points-of : Vec Point Global → List Point
 points-of v = v.items
 
-pub few-crafts : (earlier : List TrackRecord) (t : TrackTables) → KeepsTracks earlier t → length (crafts_of (headed (shared_of earlier))) ≤ length t.tracks.items
-few-crafts earlier t kept = omega (arith, crafts-few (headed (shared_of earlier)) kept.tables.read, kept.many)
+pub few-crafts : (earlier : List TrackRecord) (t : TrackTables) → KeepsTracks earlier t → length (crafts_of (shared_of earlier)) ≤ length t.tracks.items
+few-crafts earlier t kept = omega (arith, crafts-few (shared_of earlier) kept.tables.read, kept.many)
 
 some-track : (tracks : List (Vec Point Global)) → length tracks ≡ CRAFTS → Vec Point Global
 some-track [] many = absurd (omega (arith, many))
@@ -51,21 +50,21 @@ tracks-are earlier t n kept is few =
 abbrev SoFar : List Record → Parts → Type 0
 SoFar s e = (miscounts s said.End ≡ false) × (e ≡ encounter_by s)
 
-pub end-counted : (earlier : List TrackRecord) → AreBegun earlier → miscounts (headed (shared_of earlier)) said.End ≡ true → IsFirstFault earlier (Shared said.End) (Text code.Count)
-end-counted earlier begun is = ap (λ b. if b then Some code.Count else None) (ap (λ s. miscounts s said.End) (sym (headed-same (shared_of earlier) begun.some)) ∙ is)
+pub end-counted : (earlier : List TrackRecord) → AreBegun earlier → miscounts (shared_of earlier) said.End ≡ true → IsFirstFault earlier (Shared said.End) (Text code.Count)
+end-counted earlier begun is = ap (λ b. if b then Some code.Count else None) is
 
-end-sound : (earlier : List TrackRecord) → AreBegun earlier → miscounts (headed (shared_of earlier)) said.End ≡ false → fault_of earlier (Shared said.End) ≡ None
-end-sound earlier begun is = ap (λ b. if b then Some code.Count else None) (ap (λ s. miscounts s said.End) (sym (headed-same (shared_of earlier) begun.some)) ∙ is)
+end-sound : (earlier : List TrackRecord) → AreBegun earlier → miscounts (shared_of earlier) said.End ≡ false → fault_of earlier (Shared said.End) ≡ None
+end-sound earlier begun is = ap (λ b. if b then Some code.Count else None) is
 
-same-encounter : (earlier : List TrackRecord) (e : Parts) → AreBegun earlier → SoFar (headed (shared_of earlier)) e → e ≡ encounter_by (shared_of earlier)
-same-encounter earlier e begun so = so.1 ∙ ap encounter_by (headed-same (shared_of earlier) begun.some)
+same-encounter : (earlier : List TrackRecord) (e : Parts) → AreBegun earlier → SoFar (shared_of earlier) e → e ≡ encounter_by (shared_of earlier)
+same-encounter earlier e begun so = so.1
 
 -- The aircraft at fault is one of those that have tracks.
 pub fault-within : (cycles : ℕ) (tracks : List (List Point)) (fault : TrackFault) → IsFaultOf cycles tracks fault → craft_at fault < length tracks
 fault-within cycles tracks (Cover craft) wrong = wrong.0
 fault-within cycles tracks (Rate craft cycle) wrong = omega (arith, wrong.1.0, length-map tracks (rounded_row cycles))
 
-pub end-fault : (earlier : List TrackRecord) (e : Parts) (tracks : List (List Point)) (fault : TrackFault) (address : ℕ) → AreBegun earlier → SoFar (headed (shared_of earlier)) e → tracks ≡ tracks_of earlier → IsFaultOf e.cycles tracks fault
+pub end-fault : (earlier : List TrackRecord) (e : Parts) (tracks : List (List Point)) (fault : TrackFault) (address : ℕ) → AreBegun earlier → SoFar (shared_of earlier) e → tracks ≡ tracks_of earlier → IsFaultOf e.cycles tracks fault
     → address_at e.crafts (craft_at fault) ≡ Some address → IsFirstFault earlier (Shared said.End) (Track fault address)
 end-fault earlier e tracks fault address begun so are wrong named =
     let cycles : e.cycles ≡ cycles_of earlier = ap (λ (p : Parts). p.cycles) (same-encounter earlier e begun so) in (
@@ -75,7 +74,7 @@ end-fault earlier e tracks fault address begun so are wrong named =
       ap (λ (p : Parts). address_at p.crafts (craft_at fault)) (sym (same-encounter earlier e begun so)) ∙ named,
     )
 
-pub end-made : (earlier : List TrackRecord) (t : TrackTables) (e made : Parts) (tracks : List (List Point)) (n : ℕ) → KeepsTracks earlier t → AreBegun earlier → SoFar (headed (shared_of earlier)) e → tracks ≡ tracks_of earlier
+pub end-made : (earlier : List TrackRecord) (t : TrackTables) (e made : Parts) (tracks : List (List Point)) (n : ℕ) → KeepsTracks earlier t → AreBegun earlier → SoFar (shared_of earlier) e → tracks ≡ tracks_of earlier
     → CanBeFlown e.cycles tracks → FliesAlong made e tracks → (new : TrackTables) → new.count ≡ t.count + 1 → IsFine earlier (Shared said.End) × HasMade (Shared said.End ∷ earlier) new made
 end-made earlier t e made tracks n kept begun so are can flies new count =
     let is = same-encounter earlier e begun so in

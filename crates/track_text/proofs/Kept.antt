@@ -1,5 +1,5 @@
 -- What the tables keep, record by record.
-use Rattle.std.proofs.Common.{◌≡◌, ℕ, ◌+◌, ◌≤◌, Bool, true, false, List, [], ◌∷◌, length, Option, Some, None, Result, Ok, Err, refl, sym, ap, subst, ◌∙◌, arith, ne_eqb}
+use Rattle.std.proofs.Common.{◌≡◌, ℕ, ◌+◌, ◌≤◌, Bool, true, false, List, [], ◌∷◌, length, Option, Some, None, Result, Ok, Err, refl, sym, ap, ◌∙◌, arith, ne_eqb}
 use Rattle.std.specs.Prelude.{MatchOption, MatchResult, codes, if◌then◌else◌, is_some}
 use Rattle.std.proofs.lemmas.Bool.{both_ways, false≢true}
 use Rattle.std.proofs.lemmas.Option.{none-some}
@@ -29,8 +29,8 @@ use Rattle.std.specs.Str.{bytes_eq}
 use Rattle.track_text.specs.Conditions.{HasNoFault, IsLowestFault, has_text_fault, said_by}
 use Rattle.track_text.specs.Earlier.{cycles_of, is_end, shared_of, tracks_of}
 use Rattle.track_text.specs.Reading.{Refuses, refusal_after}
-use Rattle.track_text.specs.Saying.{as_shared, craft_of, is_header, point_of, record_of}
-use Rattle.track_text.specs.Tables.{Adds, AreBegun, HasMade, HoldsTracks, IsFine, IsFirstFault, KeepsTracks, Takes, ends, fault_of, headed, shared_fault}
+use Rattle.track_text.specs.Saying.{as_shared, craft_of, point_of, record_of, version_in}
+use Rattle.track_text.specs.Tables.{Adds, AreBegun, HasMade, HoldsTracks, IsFine, IsFirstFault, KeepsTracks, Takes, ends, fault_of, shared_fault}
 use Rattle.track_text.specs.declared.record.TrackRecord.{TrackRecord}
 use Rattle.track_text.specs.declared.record.TrackRecord.TheVariants.{Shared, At}
 use Rattle.track_text.specs.declared.refusal.Fault.{Fault}
@@ -72,10 +72,6 @@ refuses earlier t P why e count p is = rw is (why, p, ap (λ n. refusal_after n 
 
 -- The records of an encounter.
 
-pub headed-same : (s : List Record) → 1 ≤ length s → headed s ≡ s
-headed-same [] some = absurd (omega (arith, some))
-headed-same (last ∷ s) some = refl
-
 first-none : (s : List Record) → 1 ≤ length s → is_first s ≡ false
 first-none [] some = absurd (omega (arith, some))
 first-none (last ∷ s) some = refl
@@ -88,7 +84,7 @@ read-sound (now ∷ last ∷ s) read = (read-sound (last ∷ s) read.0, read.1.s
 
 pub going-of : (earlier : List TrackRecord) (t : TrackTables) → KeepsTracks earlier t → AreBegun earlier → IsGoing earlier
 going-of earlier t kept begun = record {
-  sound = subst AreSound (headed-same (shared_of earlier) begun.some) (read-sound (headed (shared_of earlier)) kept.tables.read);
+  sound = read-sound (shared_of earlier) kept.tables.read;
   unended = kept.unended;
   some = first-none (shared_of earlier) begun.some;
 }
@@ -147,27 +143,27 @@ unfolding Never
 never-ends (Err why) now h is = absurd (cc is)
 never-ends (Ok other) now h is = let same : other ≡ now = cc is in ap ends (sym same) ∙ h
 
-shared-ends : (fields : List (List ℕ)) (r : Result Record Code) (now : TrackRecord) → says.record_of 2 fields ≡ r → as_shared r ≡ Ok now → ends now ≡ true → fields ≡ end_record
-shared-ends fields (Err why) now read is end = absurd (cc is)
-shared-ends fields (Ok record') now read is end =
+shared-ends : (version : ℕ) (fields : List (List ℕ)) (r : Result Record Code) (now : TrackRecord) → says.record_of version fields ≡ r → as_shared r ≡ Ok now → ends now ≡ true → fields ≡ end_record
+shared-ends version fields (Err why) now read is end = absurd (cc is)
+shared-ends version fields (Ok record') now read is end =
     let same : Shared record' ≡ now = cc is in
-    end-fields fields record' read (ap ends same ∙ end)
+    end-fields version fields record' read (ap ends same ∙ end)
 
-pub ends-fields : (fields : List (List ℕ)) (now : TrackRecord) → record_of fields ≡ Ok now → ends now ≡ true → fields ≡ end_record
-ends-fields fields now read end = at (bytes_eq (field fields 0) (codes "at")) (bytes_eq (field fields 0) (codes "craft")) (bytes_eq (field fields 0) (codes "leg")) read where
-  at : (a b c : Bool) → (if a then point_of fields else if b then craft_of fields else if c then Err code.Kind else as_shared (says.record_of 2 fields)) ≡ Ok now → fields ≡ end_record
+pub ends-fields : (version : ℕ) (fields : List (List ℕ)) (now : TrackRecord) → record_of version fields ≡ Ok now → ends now ≡ true → fields ≡ end_record
+ends-fields version fields now read end = at (bytes_eq (field fields 0) (codes "at")) (bytes_eq (field fields 0) (codes "craft")) (bytes_eq (field fields 0) (codes "leg")) read where
+  at : (a b c : Bool) → (if a then point_of fields else if b then craft_of fields else if c then Err code.Kind else as_shared (says.record_of version fields)) ≡ Ok now → fields ≡ end_record
   at true b c is = absurd (both_ways (ends now) (never-ends (point_of fields) now (point-never fields) is) end)
   at false true c is = absurd (both_ways (ends now) (never-ends (craft_of fields) now (craft-never fields) is) end)
   at false false true is = absurd (cc is)
-  at false false false is = shared-ends fields (says.record_of 2 fields) now refl is end
+  at false false false is = shared-ends version fields (says.record_of version fields) now refl is end
 
-end-read : record_of end_record ≡ Ok (Shared said.End)
+end-read : (version : ℕ) → record_of version end_record ≡ Ok (Shared said.End)
 unfolding says.record_of end_of
-end-read = refl
+end-read version = refl
 
-fields-end : (fields : List (List ℕ)) (now : TrackRecord) → record_of fields ≡ Ok now → fields ≡ end_record → ends now ≡ true
-fields-end fields now read is =
-    let same : Shared said.End ≡ now = (let e = sym end-read ∙ ap record_of (sym is) ∙ read in cc e) in
+fields-end : (version : ℕ) (fields : List (List ℕ)) (now : TrackRecord) → record_of version fields ≡ Ok now → fields ≡ end_record → ends now ≡ true
+fields-end version fields now read is =
+    let same : Shared said.End ≡ now = (let e = sym (end-read version) ∙ ap (record_of version) (sym is) ∙ read in cc e) in
     ap ends (sym same)
 
 -- Tracks that can be flown have no fault.
@@ -177,72 +173,68 @@ not-flown cycles tracks (Rate craft cycle) flown wrong = wrong.1.1.excess (flown
 
 -- What was added was taken.
 
-said-later : (earlier : List TrackRecord) (fields : List (List ℕ)) → is_first (shared_of earlier) ≡ false → said_by earlier fields ≡ record_of fields
+said-later : (earlier : List TrackRecord) (fields : List (List ℕ)) → is_first (shared_of earlier) ≡ false → said_by earlier fields ≡ record_of (version_of (shared_of earlier)) fields
 said-later [] fields some = absurd (false≢true (sym some))
 said-later (last ∷ earlier) fields some = refl
 
-told-of : (earlier : List TrackRecord) (fields : List (List ℕ)) (now : TrackRecord) → IsGoing earlier → record_of fields ≡ Ok now → fault_of earlier now ≡ lowest_of (has_text_fault earlier (Some fields))
+told-of : (earlier : List TrackRecord) (fields : List (List ℕ)) (now : TrackRecord) → IsGoing earlier → record_of (version_of (shared_of earlier)) fields ≡ Ok now → fault_of earlier now ≡ lowest_of (has_text_fault earlier (Some fields))
 told-of earlier fields now going read = ap (fault_after earlier) (sym read) ∙ record-told-as earlier fields going
 
 some-same : (a b : List (List ℕ)) → Some a ≡ Some b → a ≡ b
 some-same a b is = cc is
 
-first-lowest : (earlier : List TrackRecord) (fields : List (List ℕ)) (now : TrackRecord) (why : Fault) → IsGoing earlier → record_of fields ≡ Ok now → IsFirstFault earlier now why → IsLowestFault earlier (Some fields) why
+first-lowest : (earlier : List TrackRecord) (fields : List (List ℕ)) (now : TrackRecord) (why : Fault) → IsGoing earlier → record_of (version_of (shared_of earlier)) fields ≡ Ok now → IsFirstFault earlier now why → IsLowestFault earlier (Some fields) why
 first-lowest earlier fields now (Text why) going read first = lowest-text earlier (Some fields) why (sym (told-of earlier fields now going read) ∙ first)
 first-lowest earlier fields now (Track fault address) going read first =
-    lowest-track earlier (Some fields) fault address (sym (told-of earlier fields now going read) ∙ first.0) (ap Some (ends-fields fields now read first.1)) first.2 first.3
+    lowest-track earlier (Some fields) fault address (sym (told-of earlier fields now going read) ∙ first.0) (ap Some (ends-fields (version_of (shared_of earlier)) fields now read first.1)) first.2 first.3
 
-pub taken : {T : Type 0} (earlier : List TrackRecord) (fields : List (List ℕ)) (now : TrackRecord) (t : TrackTables) (r : Result T ReadError) → IsGoing earlier → record_of fields ≡ Ok now → Adds earlier now t r → Takes earlier fields t r
+pub taken : {T : Type 0} (earlier : List TrackRecord) (fields : List (List ℕ)) (now : TrackRecord) (t : TrackTables) (r : Result T ReadError) → IsGoing earlier → record_of (version_of (shared_of earlier)) fields ≡ Ok now → Adds earlier now t r → Takes earlier fields t r
 taken earlier fields now t (Ok x) going read h = (
   faultless earlier (Some fields) (sym (told-of earlier fields now going read) ∙ h.0.sound)
-      (λ fault end wrong. not-flown (cycles_of earlier) (tracks_of earlier) fault (h.0.flown (fields-end fields now read (some-same fields end_record end))) wrong),
+      (λ fault end wrong. not-flown (cycles_of earlier) (tracks_of earlier) fault (h.0.flown (fields-end (version_of (shared_of earlier)) fields now read (some-same fields end_record end))) wrong),
   (now, said-later earlier fields going.some ∙ read, h.1),
 )
 taken earlier fields now t (Err (Refused refusal)) going read h = (h.0, first-lowest earlier fields now h.0 going read h.1, h.2)
 taken earlier fields now t (Err OutOfMemory) going read h = tt
 
 -- A record that says nothing by itself.
-pub unread-lowest : (earlier : List TrackRecord) (fields : List (List ℕ)) (why : Code) → IsGoing earlier → record_of fields ≡ Err why → IsLowestFault earlier (Some fields) (Text why)
+pub unread-lowest : (earlier : List TrackRecord) (fields : List (List ℕ)) (why : Code) → IsGoing earlier → record_of (version_of (shared_of earlier)) fields ≡ Err why → IsLowestFault earlier (Some fields) (Text why)
 unread-lowest earlier fields why going read = lowest-text earlier (Some fields) why (sym (record-told-as earlier fields going) ∙ ap (fault_after earlier) read)
 
 -- The header.
 
-headed-lowest : (fields : List (List ℕ)) (b : Bool) → is_header fields ≡ b → lowest_of (has_text_fault [] (Some fields)) ≡ (if b then None else Some code.Header)
+headed-lowest : (fields : List (List ℕ)) (o : Option ℕ) → version_in fields ≡ o → lowest_of (has_text_fault [] (Some fields)) ≡ (if is_some o then None else Some code.Header)
 unfolding has_text_fault
-headed-lowest fields true is = rw is refl
-headed-lowest fields false is = rw is refl
+headed-lowest fields None is = rw is refl
+headed-lowest fields (Some version) is = rw is refl
 
-pub unheaded : (fields : List (List ℕ)) → is_header fields ≡ false → IsLowestFault [] (Some fields) (Text code.Header)
-unheaded fields is = lowest-text [] (Some fields) code.Header (headed-lowest fields false is)
-
--- The header of a text isn't its end.
-header-no-end : (fields : List (List ℕ)) → is_header fields ≡ true → fields ≡ end_record → ⊥
-header-no-end fields is end = false≢true (ap is_header (sym end) ∙ is)
+pub unheaded : (fields : List (List ℕ)) → version_in fields ≡ None → IsLowestFault [] (Some fields) (Text code.Header)
+unheaded fields is = lowest-text [] (Some fields) code.Header (headed-lowest fields None is)
 
 no-track : (fault : TrackFault) → IsFaultOf 0 [] fault → ⊥
 no-track (Cover craft) wrong = omega (arith, wrong.0)
 no-track (Rate craft cycle) wrong = omega (arith, wrong.1.0)
 
-header-held : (t : TrackTables) (o : Option Parts) → t.made ≡ o → MatchOption o (KeepsTracks [] t) (HasMade [] t)
-    → MatchOption o (KeepsTracks (Shared (said.Header 2) ∷ []) (record t { count = 1 })) (HasMade (Shared (said.Header 2) ∷ []) (record t { count = 1 }))
-header-held t None made h = record {
+header-held : (t : TrackTables) (version : ℕ) (tables : Tables) (o : Option Parts) → t.made ≡ o → Holds (said.Header version ∷ []) tables → MatchOption o (KeepsTracks [] t) (HasMade [] t)
+    → MatchOption o (KeepsTracks (Shared (said.Header version) ∷ []) (record t { count = 1; version = version; tables = tables })) (HasMade (Shared (said.Header version) ∷ []) (record t { count = 1; version = version; tables = tables }))
+header-held t version tables None made holds h = record {
   count = refl;
   unended = refl;
-  format = refl;
-  tables = h.tables;
+  version = refl;
+  tables = holds;
   many = h.many;
   points = h.points;
   rising = h.rising;
   unmade = made;
   begun = λ some. omega arith;
 }
-header-held t (Some e) made h = absurd (false≢true h.made.ended)
+header-held t version tables (Some e) made holds h = absurd (false≢true h.made.ended)
 
-pub header-taken : (t : TrackTables) (fields : List (List ℕ)) → is_header fields ≡ true → HoldsTracks [] t
-    → HasNoFault [] (Some fields) × ((now : TrackRecord) × (said_by [] fields ≡ Ok now) × HoldsTracks (now ∷ []) (record t { count = 1 }))
-header-taken t fields is h = (
-  faultless [] (Some fields) (headed-lowest fields true is) (λ fault end wrong. no-track fault wrong),
-  (Shared (said.Header 2), rw is refl, header-held t t.made refl h),
+pub header-taken : (t : TrackTables) (fields : List (List ℕ)) (version : ℕ) (tables : Tables) → version_in fields ≡ Some version → Holds (said.Header version ∷ []) tables → HoldsTracks [] t
+    → HasNoFault [] (Some fields) × ((now : TrackRecord) × (said_by [] fields ≡ Ok now) × HoldsTracks (now ∷ []) (record t { count = 1; version = version; tables = tables }))
+header-taken t fields version tables is holds h = (
+  faultless [] (Some fields) (headed-lowest fields (Some version) is) (λ fault end wrong. no-track fault wrong),
+  (Shared (said.Header version), rw is refl, header-held t version tables t.made refl holds h),
 )
 
 -- A record that an encounter has, too, but the end.
@@ -258,18 +250,26 @@ unended-next s (said.Leg address course) is = refl
 unended-next s (said.Miss pair from to) is = refl
 unended-next s (said.Plan pair copies) is = refl
 unended-next s (said.Fate pair number copies) is = refl
+unended-next s (said.Profile profile) is = refl
+unended-next s (said.Name text) is = refl
+unended-next s (said.Clock second) is = refl
+unended-next s (said.Call address sign) is = refl
 
-version-next : (s : List Record) (now : Record) → IsOfFormat 2 now → version_of (now ∷ s) ≡ version_of s
-version-next s (said.Header version) format = absurd format
-version-next s said.End format = refl
-version-next s (said.Run run) format = refl
-version-next s (said.Gains gains) format = refl
-version-next s (said.Craft craft) format = refl
-version-next s (said.Climb address limit) format = refl
-version-next s (said.Leg address course) format = refl
-version-next s (said.Miss pair from to) format = refl
-version-next s (said.Plan pair copies) format = refl
-version-next s (said.Fate pair number copies) format = refl
+version-next : (known : ℕ) (s : List Record) (now : Record) → IsOfFormat known now → version_of (now ∷ s) ≡ version_of s
+version-next known s (said.Header version) format = absurd format
+version-next known s said.End format = refl
+version-next known s (said.Run run) format = refl
+version-next known s (said.Gains gains) format = refl
+version-next known s (said.Craft craft) format = refl
+version-next known s (said.Climb address limit) format = refl
+version-next known s (said.Leg address course) format = refl
+version-next known s (said.Miss pair from to) format = refl
+version-next known s (said.Plan pair copies) format = refl
+version-next known s (said.Fate pair number copies) format = refl
+version-next known s (said.Profile profile) format = refl
+version-next known s (said.Name text) format = refl
+version-next known s (said.Clock second) format = refl
+version-next known s (said.Call address sign) format = refl
 
 sound-next : (s : List Record) (now : Record) (tables : Tables) → 1 ≤ length s → Holds (now ∷ s) tables → enc.fault_of s now ≡ None
 sound-next [] now tables some h = absurd (omega (arith, some))
@@ -279,31 +279,28 @@ by-end : (s : List Record) (now : Record) (b : Bool) (o : Option Code) → is_en
 by-end s now true o is not-end sound = absurd (false≢true (sym not-end))
 by-end s now false o is not-end sound = sound
 
-pub shared-added : (earlier : List TrackRecord) (t : TrackTables) (now : Record) (tables : Tables) → KeepsTracks earlier t → AreBegun earlier → is_end now ≡ false → IsOfFormat 2 now
-    → Holds (now ∷ headed (shared_of earlier)) tables → IsFine earlier (Shared now) × HoldsTracks (Shared now ∷ earlier) (record t { count = t.count + 1; tables = tables })
-shared-added earlier t now tables kept begun more format h =
-    let same = headed-same (shared_of earlier) begun.some in
-    let held : Holds (now ∷ shared_of earlier) tables = subst (λ (s : List Record). Holds (now ∷ s) tables) same h in (
-      record {
-        sound = by-end (shared_of earlier) now (is_end now) None refl more (sound-next (shared_of earlier) now tables begun.some held);
-        flown = λ end. absurd (both_ways (is_end now) more end);
-      },
-      held-going (Shared now ∷ earlier) (record t { count = t.count + 1; tables = tables }) (record {
-        count = ap (λ n. n + 1) kept.count ∙ omega arith;
-        unended = unended-next (shared_of earlier) now more ∙ kept.unended;
-        format = version-next (shared_of earlier) now format ∙ ap version_of (sym same) ∙ kept.format;
-        tables = held;
-        many = kept.many;
-        points = kept.points;
-        rising = kept.rising;
-        unmade = kept.unmade;
-        begun = λ some. omega arith;
-      }),
-    )
+pub shared-added : (earlier : List TrackRecord) (t : TrackTables) (now : Record) (tables : Tables) → KeepsTracks earlier t → AreBegun earlier → is_end now ≡ false → IsOfFormat t.version now
+    → Holds (now ∷ shared_of earlier) tables → IsFine earlier (Shared now) × HoldsTracks (Shared now ∷ earlier) (record t { count = t.count + 1; tables = tables })
+shared-added earlier t now tables kept begun more format held = (
+  record {
+    sound = by-end (shared_of earlier) now (is_end now) None refl more (sound-next (shared_of earlier) now tables begun.some held);
+    flown = λ end. absurd (both_ways (is_end now) more end);
+  },
+  held-going (Shared now ∷ earlier) (record t { count = t.count + 1; tables = tables }) (record {
+    count = ap (λ n. n + 1) kept.count ∙ omega arith;
+    unended = unended-next (shared_of earlier) now more ∙ kept.unended;
+    version = kept.version ∙ sym (version-next t.version (shared_of earlier) now format);
+    tables = held;
+    many = kept.many;
+    points = kept.points;
+    rising = kept.rising;
+    unmade = kept.unmade;
+    begun = λ some. omega arith;
+  }),
+)
 
-pub shared-wrong : (earlier : List TrackRecord) (now : Record) (why : Code) → AreBegun earlier → is_end now ≡ false → enc.fault_of (headed (shared_of earlier)) now ≡ Some why → IsFirstFault earlier (Shared now) (Text why)
-shared-wrong earlier now why begun more wrong =
-    by-end (shared_of earlier) now (is_end now) (Some why) refl more (ap (λ s. enc.fault_of s now) (sym (headed-same (shared_of earlier) begun.some)) ∙ wrong)
+pub shared-wrong : (earlier : List TrackRecord) (now : Record) (why : Code) → is_end now ≡ false → enc.fault_of (shared_of earlier) now ≡ Some why → IsFirstFault earlier (Shared now) (Text why)
+shared-wrong earlier now why more wrong = by-end (shared_of earlier) now (is_end now) (Some why) refl more wrong
 
 -- There are no more records of an encounter than records.
 pub few-shared : (earlier : List TrackRecord) → length (shared_of earlier) ≤ length earlier
@@ -311,14 +308,8 @@ few-shared [] = omega arith
 few-shared (Shared now ∷ earlier) = omega (arith, few-shared earlier)
 few-shared (At address point ∷ earlier) = omega (arith, few-shared earlier)
 
-pub few-headed : (earlier : List TrackRecord) (n : ℕ) → length earlier ≤ n → 1 ≤ n → length (headed (shared_of earlier)) ≤ n
-few-headed earlier n few some = at (shared_of earlier) (few-shared earlier) where
-  at : (s : List Record) → length s ≤ length earlier → length (headed s) ≤ n
-  at [] h = omega (arith, some)
-  at (last ∷ s) h = omega (arith, h, few)
-
-pub going-headed : (earlier : List TrackRecord) (t : TrackTables) → KeepsTracks earlier t → AreBegun earlier → AreGoing (headed (shared_of earlier))
-going-headed earlier t kept begun = subst AreGoing (sym (headed-same (shared_of earlier) begun.some)) (record { some = begun.some; unended = kept.unended })
+pub shared-going : (earlier : List TrackRecord) (t : TrackTables) → KeepsTracks earlier t → AreBegun earlier → AreGoing (shared_of earlier)
+shared-going earlier t kept begun = record { some = begun.some; unended = kept.unended }
 
 -- Where no record follows, the encounter that was made is told, or what is missing.
 pub missing : (earlier : List TrackRecord) (t : TrackTables) → KeepsTracks earlier t → IsLowestFault earlier None (Text (missing_after t.count))
@@ -341,3 +332,7 @@ not-end (said.Leg address course) other = refl
 not-end (said.Miss pair from to) other = refl
 not-end (said.Plan pair copies) other = refl
 not-end (said.Fate pair number copies) other = refl
+not-end (said.Profile profile) other = refl
+not-end (said.Name text) other = refl
+not-end (said.Clock second) other = refl
+not-end (said.Call address sign) other = refl

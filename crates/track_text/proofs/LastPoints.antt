@@ -67,6 +67,10 @@ index-stays s (said.Leg address course) a i is = is
 index-stays s (said.Miss pair from to) a i is = is
 index-stays s (said.Plan pair copies) a i is = is
 index-stays s (said.Fate pair number copies) a i is = is
+index-stays s (said.Profile profile) a i is = is
+index-stays s (said.Name text) a i is = is
+index-stays s (said.Clock second) a i is = is
+index-stays s (said.Call address sign) a i is = is
 index-stays s said.End a i is = is
 
 -- Each point belongs to an aircraft, and comes after the earlier points of it.

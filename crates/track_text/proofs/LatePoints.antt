@@ -5,7 +5,7 @@ use Rattle.std.specs.List.{list_any}
 use Rattle.std.proofs.lemmas.Bool.{false≢true}
 use Rattle.std.proofs.lemmas.Option.{same_Some}
 use Rattle.enc_file.specs.Conditions.{if_said, is_first, is_given}
-use Rattle.enc_file.specs.Earlier.{has_ended}
+use Rattle.enc_file.specs.Earlier.{has_ended, version_of}
 use Rattle.enc_file.specs.Records.{records_of}
 use Rattle.enc_file.specs.Values.{address_in, field}
 use Rattle.enc_file.specs.declared.refusal.Code.TheVariants as code
@@ -33,7 +33,7 @@ record IsFinePoint (before : List TrackRecord) (row : List (List ℕ)) : Type 0 
   repeat : is_repeat before PointKind row ≡ false
   unknown : is_unknown before PointKind row ≡ false
 
-fine-point : (before : List TrackRecord) (row : List (List ℕ)) → HasNoFault before (Some row) → is_first (shared_of before) ≡ false → has_ended (shared_of before) ≡ false → kind_named (field row 0) ≡ Some PointKind → IsFinePoint before row
+fine-point : (before : List TrackRecord) (row : List (List ℕ)) → HasNoFault before (Some row) → is_first (shared_of before) ≡ false → has_ended (shared_of before) ≡ false → kind_named (version_of (shared_of before)) (field row 0) ≡ Some PointKind → IsFinePoint before row
 unfolding has_text_fault
 fine-point before row fine some going named = record {
   repeat = no-true (is_repeat before PointKind row) (rw (some, going, named) at (fine (Text code.Repeat)));

@@ -8,8 +8,9 @@ pub mod Bare
 pub mod Pointed
 pub mod Once
 pub mod OneRefusal
-pub mod LineKinds
 pub mod TrackRows
+pub mod Versions
+pub mod LineKinds
 pub mod LastPoints
 pub mod RefusedTracks
 pub mod LatePoints

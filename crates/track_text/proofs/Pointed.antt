@@ -18,22 +18,22 @@ use Rattle.enc_file.proofs.Named.{index-within}
 use Rattle.track_file.specs.Track.{IsPoint, IsTrack, is_from}
 use Rattle.track_file.specs.declared.track.Point.{Point}
 use Rattle.track_text.specs.Earlier.{is_index, shared_of, track_of}
-use Rattle.track_text.specs.Tables.{AreBegun, HoldsTracks, IsFine, KeepsTracks, fault_of, headed}
+use Rattle.track_text.specs.Tables.{AreBegun, HoldsTracks, IsFine, KeepsTracks, fault_of}
 use Rattle.track_text.specs.declared.record.TrackRecord.{TrackRecord}
 use Rattle.track_text.specs.declared.record.TrackRecord.TheVariants.{At}
 use Rattle.track_text.specs.declared.tables.TrackTables.{TrackTables}
-use Rattle.track_text.proofs.Kept.{headed-same, held-going}
+use Rattle.track_text.proofs.Kept.{held-going}
 use Rattle.track_text.proofs.Since.{track-push}
 
 -- The aircraft that was found.
 
-pub craft-within : (earlier : List TrackRecord) (t : TrackTables) (crafts : List CraftSpec) (address craft : ℕ) → KeepsTracks earlier t → crafts ≡ crafts_of (headed (shared_of earlier)) → index_of crafts address ≡ Some craft → craft < CRAFTS
+pub craft-within : (earlier : List TrackRecord) (t : TrackTables) (crafts : List CraftSpec) (address craft : ℕ) → KeepsTracks earlier t → crafts ≡ crafts_of (shared_of earlier) → index_of crafts address ≡ Some craft → craft < CRAFTS
 craft-within earlier t crafts address craft kept is found =
-    omega (arith, index-within crafts address craft found, ap (λ (l : List CraftSpec). length l) is, crafts-few (headed (shared_of earlier)) kept.tables.read)
+    omega (arith, index-within crafts address craft found, ap (λ (l : List CraftSpec). length l) is, crafts-few (shared_of earlier) kept.tables.read)
 
-pub found-in : (earlier : List TrackRecord) (crafts : List CraftSpec) (address : ℕ) (o : Option ℕ) → AreBegun earlier → crafts ≡ crafts_of (headed (shared_of earlier)) → index_of crafts address ≡ o → index_of (crafts_of (shared_of earlier)) address ≡ o
+pub found-in : (earlier : List TrackRecord) (crafts : List CraftSpec) (address : ℕ) (o : Option ℕ) → AreBegun earlier → crafts ≡ crafts_of (shared_of earlier) → index_of crafts address ≡ o → index_of (crafts_of (shared_of earlier)) address ≡ o
 found-in earlier crafts address o begun is found =
-    ap (λ (l : List CraftSpec). index_of l address) (sym (is ∙ ap crafts_of (headed-same (shared_of earlier) begun.some))) ∙ found
+    ap (λ (l : List CraftSpec). index_of l address) (sym (is)) ∙ found
 
 -- What is wrong with a point, by the aircraft that was found.
 
@@ -75,7 +75,7 @@ point-added earlier t address craft p old new kept begun fits found within was n
   held-going (At address p ∷ earlier) (record t { count = t.count + 1; tracks = with_item t.tracks craft new }) (record {
     count = ap (λ n. n + 1) kept.count ∙ omega arith;
     unended = kept.unended;
-    format = kept.format;
+    version = kept.version;
     tables = kept.tables;
     many = length-set t.tracks.items craft new ∙ kept.many;
     points = λ k d low. points-more earlier t address craft k p old new d (craft == k) kept found within low was now refl;

@@ -1,11 +1,12 @@
 -- What a refusal says of the record of tracks that is refused.
 use Rattle.std.proofs.Common.{◌≡◌, ◌∙◌, ℕ, zero, suc, ◌+◌, ◌-◌, ◌≤◌, ◌<◌, Bool, true, false, ◌||◌, not, List, [], ◌∷◌, length, take, Option, Some, None, refl, sym, ap, subst, arith}
-use Rattle.std.specs.Prelude.{◌&&◌, codes, is_none, is_some, slice_get, Ok, Err, if◌then◌else◌}
+use Rattle.std.specs.Prelude.{◌&&◌, codes, is_none, is_some, slice_get, Ok}
 use Rattle.std.proofs.lemmas.Bool.{both_ways, false≢true}
 use Rattle.std.proofs.lemmas.Option.{none-some, same_Some}
 use Rattle.enc_file.specs.Codes.{code_number}
 use Rattle.enc_file.specs.Conditions.{if_going, if_said, is_first}
-use Rattle.enc_file.specs.Earlier.{has_ended}
+use Rattle.enc_file.specs.Earlier.{has_ended, version_of}
+use Rattle.enc_file.specs.Saying.{needs}
 use Rattle.enc_file.specs.Records.{records_of}
 use Rattle.enc_file.specs.Spelling.{end_record}
 use Rattle.enc_file.specs.Values.{field}
@@ -21,10 +22,10 @@ use Rattle.fault_text.proofs.Refusals.{one-field, stands-record}
 use Rattle.track_text.specs.Codes.{fault_number}
 use Rattle.track_text.specs.Conditions.{ArePassed, HasFault, IsRefused, TrackKind, has_text_fault, is_count_wrong, kind_named, said_by}
 use Rattle.track_text.specs.Earlier.{is_end, shared_of}
-use Rattle.track_text.specs.Saying.{is_header}
+use Rattle.track_text.specs.Saying.{version_in}
 use Rattle.track_text.specs.Tables.{ends}
-use Rattle.track_text.specs.Told.{IsAgainst, IsWrong, Tells, TellsAgainst, TellsEarlier, TellsFault, TellsFields, TellsOf, TellsText, against_by, is_of_earlier, is_of_fields, wrong_by}
-use Rattle.track_text.specs.Kinds.{IsLineKind, stated_line}
+use Rattle.track_text.specs.Told.{IsAgainst, IsFormat, IsWrong, Tells, TellsAgainst, TellsEarlier, TellsFault, TellsFields, TellsOf, TellsText, against_by, is_of_earlier, is_of_fields, wrong_by}
+use Rattle.track_text.specs.Kinds.{IsKindNamed, IsLineKind, stated_line}
 use Rattle.track_text.specs.declared.kinds.LineKind.{LineKind}
 use Rattle.track_text.specs.declared.record.TrackRecord.{TrackRecord}
 use Rattle.track_text.specs.declared.record.TrackRecord.TheVariants.{Shared, At}
@@ -33,7 +34,6 @@ use Rattle.track_text.specs.declared.refusal.Fault.TheVariants.{Text}
 use Rattle.track_text.specs.declared.refusal.Refusal.{Refusal}
 use Rattle.track_text.specs.declared.why.TrackWhy.{TrackWhy}
 use Rattle.track_text.proofs.Kept.{ends-fields}
-use Rattle.track_text.proofs.LineKinds.{named-line}
 use Rattle.track_text.proofs.TrackRows.{no-true, unended}
 
 -- The fault of a refusal.
@@ -78,7 +78,7 @@ kind-by (Some kind) test h = record { kind = kind; named = refl; passes = h }
 -- The line holds the record.
 pub record IsLine (text : List ℕ) (refusal : Refusal) (r : IsRefused (records_of text) refusal) (line : List ℕ) (test : TrackKind → List (List ℕ) → Bool) : Type 0 where
   pub kind : TrackKind
-  pub named : kind_named (field (fields_in line) 0) ≡ Some kind
+  pub named : kind_named (version_of (shared_of r.earlier)) (field (fields_in line) 0) ≡ Some kind
   pub passes : test kind (fields_in line) ≡ true
   pub next : next_of (records_of text) refusal r ≡ Some (fields_in line)
   pub some : is_first (shared_of r.earlier) ≡ false
@@ -86,15 +86,15 @@ pub record IsLine (text : List ℕ) (refusal : Refusal) (r : IsRefused (records_
   pub enough : refusal.at ≤ length (written (file_lines text)) + 1
 
 pub line-kind : (text : List ℕ) (refusal : Refusal) (r : IsRefused (records_of text) refusal) (line : List ℕ) (test : TrackKind → List (List ℕ) → Bool) → IsRecord (file_lines text) refusal.at line
-    → if_going (shared_of r.earlier) (next_of (records_of text) refusal r) (λ fields. if_said (kind_named (field fields 0)) (λ kind. test kind fields)) ≡ true → IsLine text refusal r line test
+    → if_going (shared_of r.earlier) (next_of (records_of text) refusal r) (λ fields. if_said (kind_named (version_of (shared_of r.earlier)) (field fields 0)) (λ kind. test kind fields)) ≡ true → IsLine text refusal r line test
 line-kind text refusal r line test place h =
-    let g = going (shared_of r.earlier) (next_of (records_of text) refusal r) (λ fields. if_said (kind_named (field fields 0)) (λ kind. test kind fields)) h in
+    let g = going (shared_of r.earlier) (next_of (records_of text) refusal r) (λ fields. if_said (kind_named (version_of (shared_of r.earlier)) (field fields 0)) (λ kind. test kind fields)) h in
     let at : refusal.at - 1 ≡ length r.earlier = omega (arith, r.at) in
     let stands = stands-record text refusal.at place.0 line g.fields place.1 (ap (slice_get (records_of text)) at ∙ g.is) in
-    let k = kind-by (kind_named (field g.fields 0)) (λ kind. test kind g.fields) g.passes in
+    let k = kind-by (kind_named (version_of (shared_of r.earlier)) (field g.fields 0)) (λ kind. test kind g.fields) g.passes in
     record {
       kind = k.kind;
-      named = ap (λ (fs : List (List ℕ)). kind_named (field fs 0)) stands.1 ∙ k.named;
+      named = ap (λ (fs : List (List ℕ)). kind_named (version_of (shared_of r.earlier)) (field fs 0)) stands.1 ∙ k.named;
       passes = ap (test k.kind) stands.1 ∙ k.passes;
       next = g.is ∙ ap Some (sym stands.1);
       some = g.some;
@@ -104,7 +104,7 @@ line-kind text refusal r line test place h =
 
 -- The codes of a record of a known kind.
 fields-fault : (earlier : List TrackRecord) (next : Option (List (List ℕ))) (c : Code) → is_of_fields c ≡ true → has_text_fault earlier next c ≡ true
-    → if_going (shared_of earlier) next (λ fields. if_said (kind_named (field fields 0)) (λ kind. wrong_by c kind fields)) ≡ true
+    → if_going (shared_of earlier) next (λ fields. if_said (kind_named (version_of (shared_of earlier)) (field fields 0)) (λ kind. wrong_by c kind fields)) ≡ true
 unfolding has_text_fault
 fields-fault earlier next code.Fields k h = h
 fields-fault earlier next code.Number k h = h
@@ -120,7 +120,7 @@ fields-fault earlier next code.NoEnd k h = absurd (false≢true k)
 fields-fault earlier next code.After k h = absurd (false≢true k)
 
 earlier-fault : (earlier : List TrackRecord) (next : Option (List (List ℕ))) (c : Code) → is_of_earlier c ≡ true → has_text_fault earlier next c ≡ true
-    → if_going (shared_of earlier) next (λ fields. if_said (kind_named (field fields 0)) (λ kind. against_by c earlier kind fields)) ≡ true
+    → if_going (shared_of earlier) next (λ fields. if_said (kind_named (version_of (shared_of earlier)) (field fields 0)) (λ kind. against_by c earlier kind fields)) ≡ true
 unfolding has_text_fault
 earlier-fault earlier next code.Repeat k h = h
 earlier-fault earlier next code.Unknown k h = h
@@ -150,26 +150,33 @@ later-code code.NoEnd k h = absurd (false≢true k)
 later-code code.After k h = absurd (false≢true k)
 
 count-fine : (earlier : List TrackRecord) (next : Option (List (List ℕ))) (fields : List (List ℕ)) (k : TrackKind) → next ≡ Some fields → is_first (shared_of earlier) ≡ false → has_ended (shared_of earlier) ≡ false
-    → kind_named (field fields 0) ≡ Some k → (has_text_fault earlier next code.Fields ≡ true → ⊥) → is_count_wrong k fields ≡ false
+    → kind_named (version_of (shared_of earlier)) (field fields 0) ≡ Some k → (has_text_fault earlier next code.Fields ≡ true → ⊥) → is_count_wrong k fields ≡ false
 unfolding has_text_fault
 count-fine earlier next fields k is some unended named fine = no-true (is_count_wrong k fields) (rw (is, some, unended, named) at fine)
 
-pub line-kind-none : (text : List ℕ) (refusal : Refusal) (r : IsRefused (records_of text) refusal) (line : List ℕ) (test : TrackKind → List (List ℕ) → Bool) → IsLine text refusal r line test → kind_named (field (fields_in line) 0) ≡ None → ⊥
-line-kind-none text refusal r line test l none = none-some l.kind (sym none ∙ l.named)
+pub line-kind-none : (text : List ℕ) (refusal : Refusal) (r : IsRefused (records_of text) refusal) (line : List ℕ) (test : TrackKind → List (List ℕ) → Bool) (version : ℕ) → IsFormat text version → IsLine text refusal r line test
+    → kind_named version (field (fields_in line) 0) ≡ None → ⊥
+line-kind-none text refusal r line test version format l none = none-some l.kind (sym none ∙ ap (λ v. kind_named v (field (fields_in line) 0)) (sym (format refusal r l.some)) ∙ l.named)
+
+-- It is the kind that was found.
+line-kind-same : (text : List ℕ) (refusal : Refusal) (r : IsRefused (records_of text) refusal) (line : List ℕ) (test : TrackKind → List (List ℕ) → Bool) (version : ℕ) (of : LineKind) → IsFormat text version → IsLine text refusal r line test
+    → IsKindNamed version (field (fields_in line) 0) of → kind_named (version_of (shared_of r.earlier)) (field (fields_in line) 0) ≡ Some (stated_line of)
+line-kind-same text refusal r line test version of format l found = ap (λ v. kind_named v (field (fields_in line) 0)) (format refusal r l.some) ∙ found.named
 
 -- A record of a kind that was found has the fault by itself.
 pub fields-line : (text : List ℕ) (refusal : Refusal) (r : IsRefused (records_of text) refusal) (line : List ℕ) (c : Code) → refusal.fault ≡ Text c → is_of_fields c ≡ true → IsRecord (file_lines text) refusal.at line
     → IsLine text refusal r line (wrong_by c)
 fields-line text refusal r line c is k place = line-kind text refusal r line (wrong_by c) place (fields-fault r.earlier (next_of (records_of text) refusal r) c k (faulty-as (records_of text) refusal r c is))
 
-pub line-wrong : (text : List ℕ) (refusal : Refusal) (r : IsRefused (records_of text) refusal) (line : List ℕ) (c : Code) (of : LineKind) → refusal.fault ≡ Text c → is_of_fields c ≡ true → IsRecord (file_lines text) refusal.at line
-    → IsLineKind line of → IsWrong c (stated_line of) (fields_in line)
-line-wrong text refusal r line c of is k place found =
+pub line-wrong : (text : List ℕ) (refusal : Refusal) (r : IsRefused (records_of text) refusal) (line : List ℕ) (c : Code) (version : ℕ) (of : LineKind) → refusal.fault ≡ Text c → is_of_fields c ≡ true → IsRecord (file_lines text) refusal.at line
+    → IsFormat text version → IsKindNamed version (field (fields_in line) 0) of → IsWrong c (stated_line of) (fields_in line)
+line-wrong text refusal r line c version of is k place format found =
     let l = fields-line text refusal r line c is k place in
-    let same : l.kind ≡ stated_line of = same_Some l.kind (stated_line of) (sym l.named ∙ named-line line of found) in
+    let named = line-kind-same text refusal r line (wrong_by c) version of format l found in
+    let same : l.kind ≡ stated_line of = same_Some l.kind (stated_line of) (sym l.named ∙ named) in
     record {
       wrong = ap (λ k. wrong_by c k (fields_in line)) (sym same) ∙ l.passes;
-      counted = λ later. count-fine r.earlier (next_of (records_of text) refusal r) (fields_in line) (stated_line of) l.next l.some l.unended (named-line line of found)
+      counted = λ later. count-fine r.earlier (next_of (records_of text) refusal r) (fields_in line) (stated_line of) l.next l.some l.unended named
           (lowest-as (records_of text) refusal r c code.Fields is (later-code c k later));
     }
 
@@ -178,12 +185,12 @@ pub earlier-line : (text : List ℕ) (refusal : Refusal) (r : IsRefused (records
     → IsLine text refusal r line (against_by c r.earlier)
 earlier-line text refusal r line c is k place = line-kind text refusal r line (against_by c r.earlier) place (earlier-fault r.earlier (next_of (records_of text) refusal r) c k (faulty-as (records_of text) refusal r c is))
 
-pub line-against : (text : List ℕ) (refusal : Refusal) (r : IsRefused (records_of text) refusal) (line : List ℕ) (c : Code) (of : LineKind) → refusal.fault ≡ Text c → is_of_earlier c ≡ true → IsRecord (file_lines text) refusal.at line
-    → IsLineKind line of → IsAgainst text refusal c (stated_line of) line
-line-against text refusal r line c of is k place found =
+pub line-against : (text : List ℕ) (refusal : Refusal) (r : IsRefused (records_of text) refusal) (line : List ℕ) (c : Code) (version : ℕ) (of : LineKind) → refusal.fault ≡ Text c → is_of_earlier c ≡ true → IsRecord (file_lines text) refusal.at line
+    → IsFormat text version → IsKindNamed version (field (fields_in line) 0) of → IsAgainst text refusal c (stated_line of) line
+line-against text refusal r line c version of is k place format found =
     let l = earlier-line text refusal r line c is k place in
-    let same : l.kind ≡ stated_line of = same_Some l.kind (stated_line of) (sym l.named ∙ named-line line of found) in
-    record { refused = r; fault = ap (λ k. against_by c r.earlier k (fields_in line)) (sym same) ∙ l.passes; enough = l.enough }
+    let same : l.kind ≡ stated_line of = same_Some l.kind (stated_line of) (sym l.named ∙ line-kind-same text refusal r line (against_by c r.earlier) version of format l found) in
+    record { refused = r; fault = ap (λ k. against_by c r.earlier k (fields_in line)) (sym same) ∙ l.passes; some = l.some; enough = l.enough }
 
 -- What is told, by the fault of the refusal.
 pub tells-by : (text : List ℕ) (refusal : Refusal) (r : IsRefused (records_of text) refusal) (line : List ℕ) (w : TrackWhy) (f : Fault) → refusal.fault ≡ f → TellsFault f text r.earlier refusal.at line w → Tells text refusal line w
@@ -225,7 +232,7 @@ pub tells-earlier : (text : List ℕ) (refusal : Refusal) (line : List ℕ) (w :
 tells-earlier text refusal line w c of is k found t = tells-by text refusal t.refused line w (Text c) is (earlier-told c text t.refused.earlier refusal.at line w k (of, found, t.tells))
 
 -- A first field that names no kind.
-kind-fault : (earlier : List TrackRecord) (next : Option (List (List ℕ))) → has_text_fault earlier next code.Kind ≡ true → if_going (shared_of earlier) next (λ fields. is_none (kind_named (field fields 0))) ≡ true
+kind-fault : (earlier : List TrackRecord) (next : Option (List (List ℕ))) → has_text_fault earlier next code.Kind ≡ true → if_going (shared_of earlier) next (λ fields. is_none (kind_named (version_of (shared_of earlier)) (field fields 0))) ≡ true
 unfolding has_text_fault
 kind-fault earlier next h = h
 
@@ -233,12 +240,21 @@ none-named : (o : Option TrackKind) → is_none o ≡ true → o ≡ None
 none-named None h = refl
 none-named (Some k) h = absurd (false≢true h)
 
-pub unnamed-line : (text : List ℕ) (refusal : Refusal) (r : IsRefused (records_of text) refusal) (line : List ℕ) → refusal.fault ≡ Text code.Kind → IsRecord (file_lines text) refusal.at line → kind_named (field (fields_in line) 0) ≡ None
+-- The format that the text has is that of the records so far.
+pub record IsUnnamed (text : List ℕ) (refusal : Refusal) (r : IsRefused (records_of text) refusal) (line : List ℕ) : Type 0 where
+  pub named : kind_named (version_of (shared_of r.earlier)) (field (fields_in line) 0) ≡ None
+  pub some : is_first (shared_of r.earlier) ≡ false
+
+pub unnamed-line : (text : List ℕ) (refusal : Refusal) (r : IsRefused (records_of text) refusal) (line : List ℕ) → refusal.fault ≡ Text code.Kind → IsRecord (file_lines text) refusal.at line → IsUnnamed text refusal r line
 unnamed-line text refusal r line is place =
-    let g = going (shared_of r.earlier) (next_of (records_of text) refusal r) (λ fields. is_none (kind_named (field fields 0))) (kind-fault r.earlier (next_of (records_of text) refusal r) (faulty-as (records_of text) refusal r code.Kind is)) in
+    let test : List (List ℕ) → Bool = λ fields. is_none (kind_named (version_of (shared_of r.earlier)) (field fields 0)) in
+    let g = going (shared_of r.earlier) (next_of (records_of text) refusal r) test (kind-fault r.earlier (next_of (records_of text) refusal r) (faulty-as (records_of text) refusal r code.Kind is)) in
     let at : refusal.at - 1 ≡ length r.earlier = omega (arith, r.at) in
     let stands = stands-record text refusal.at place.0 line g.fields place.1 (ap (slice_get (records_of text)) at ∙ g.is) in
-    ap (λ (fs : List (List ℕ)). kind_named (field fs 0)) stands.1 ∙ none-named (kind_named (field g.fields 0)) g.passes
+    record {
+      named = ap (λ (fs : List (List ℕ)). kind_named (version_of (shared_of r.earlier)) (field fs 0)) stands.1 ∙ none-named (kind_named (version_of (shared_of r.earlier)) (field g.fields 0)) g.passes;
+      some = g.some;
+    }
 
 -- No aircraft is outside the box.
 box-never : (earlier : List TrackRecord) (next : Option (List (List ℕ))) → has_text_fault earlier next code.Box ≡ true → ⊥
@@ -267,18 +283,22 @@ ended-record s (said.Leg address course) h none = absurd (both_ways _ none h)
 ended-record s (said.Miss pair from to) h none = absurd (both_ways _ none h)
 ended-record s (said.Plan pair copies) h none = absurd (both_ways _ none h)
 ended-record s (said.Fate pair number copies) h none = absurd (both_ways _ none h)
+ended-record s (said.Profile profile) h none = absurd (both_ways _ none h)
+ended-record s (said.Name text) h none = absurd (both_ways _ none h)
+ended-record s (said.Clock second) h none = absurd (both_ways _ none h)
+ended-record s (said.Call address sign) h none = absurd (both_ways _ none h)
 
 ended-now : (before : List TrackRecord) (now : TrackRecord) → has_ended (shared_of (now ∷ before)) ≡ true → has_ended (shared_of before) ≡ false → ends now ≡ true
 ended-now before (At address point) h none = absurd (both_ways _ none h)
 ended-now before (Shared now) h none = ended-record (shared_of before) now h none
 
-header-end : (b : Bool) (now : TrackRecord) → (if b then Ok (Shared (said.Header 2)) else Err code.Header) ≡ Ok now → ends now ≡ true → ⊥
-header-end false now is end = absurd (cc is)
-header-end true now is end = let same : Shared (said.Header 2) ≡ now = cc is in false≢true (ap ends same ∙ end)
+header-end : (o : Option ℕ) (now : TrackRecord) → needs o code.Header (λ version. Ok (Shared (said.Header version))) ≡ Ok now → ends now ≡ true → ⊥
+header-end None now is end = absurd (cc is)
+header-end (Some version) now is end = let same : Shared (said.Header version) ≡ now = cc is in false≢true (ap ends same ∙ end)
 
 said-end : (before : List TrackRecord) (row : List (List ℕ)) (now : TrackRecord) → said_by before row ≡ Ok now → ends now ≡ true → row ≡ end_record
-said-end [] row now is end = absurd (header-end (is_header row) now is end)
-said-end (last ∷ before) row now is end = ends-fields row now is end
+said-end [] row now is end = absurd (header-end (version_in row) now is end)
+said-end (last ∷ before) row now is end = ends-fields (version_of (shared_of (last ∷ before))) row now is end
 
 -- Nothing is passed after the end.
 ended-all : (before : List TrackRecord) (rows : List (List (List ℕ))) (all : List TrackRecord) → has_ended (shared_of before) ≡ true → ArePassed before rows all → before ≡ all

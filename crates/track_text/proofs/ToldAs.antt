@@ -8,7 +8,7 @@ use Rattle.std.proofs.lemmas.Slice.Eq.{bytes_eq-Decides}
 use Rattle.acas_base.specs.Encounter.{most_crafts}
 use Rattle.acas_base.specs.declared.craft.Kind.{Kind}
 use Rattle.enc_file.specs.Conditions as enc
-use Rattle.enc_file.specs.Conditions.{RecordKind, RunKind, GainsKind, CraftKind, ClimbKind, LegKind, MissKind, PlanKind, FateKind, EndKind, if_said, is_first, is_given, kind_word}
+use Rattle.enc_file.specs.Conditions.{RecordKind, RunKind, GainsKind, CraftKind, ClimbKind, LegKind, MissKind, PlanKind, FateKind, EndKind, ProfileKind, NameKind, ClockKind, CallKind, if_said, is_first, is_given, kind_word}
 use Rattle.enc_file.specs.Earlier.{crafts_of, has_ended, version_of}
 use Rattle.enc_file.specs.Faults.{miscounts}
 use Rattle.enc_file.specs.Reading.{checked, unless_faulty}
@@ -60,7 +60,7 @@ point-at earlier true (Some a) (Some b) (Some c) None address = refl
 point-at earlier true (Some a) (Some b) (Some c) (Some d) None = refl
 point-at earlier true (Some a) (Some b) (Some c) (Some d) (Some n) = ap (λ b. or_else (has_point_since earlier n a) code.Repeat (or_else b code.Unknown None)) (index-stated (shared_of earlier) n)
 
-point-told : (earlier : List TrackRecord) (fields : List (List ℕ)) → IsGoing earlier → kind_named (field fields 0) ≡ Some PointKind → IsToldAs earlier fields (point_of fields)
+point-told : (earlier : List TrackRecord) (fields : List (List ℕ)) → IsGoing earlier → kind_named (version_of (shared_of earlier)) (field fields 0) ≡ Some PointKind → IsToldAs earlier fields (point_of fields)
 unfolding point_of has_text_fault
 point-told earlier fields going named =
     rw (going.some, going.unended, named)
@@ -78,7 +78,7 @@ craft-at earlier true None address = refl
 craft-at earlier true (Some k) None = refl
 craft-at earlier true (Some k) (Some n) = craft-fault (shared_of earlier) n k (pos 0) (pos 0) (pos 0)
 
-craft-told : (earlier : List TrackRecord) (fields : List (List ℕ)) → IsGoing earlier → kind_named (field fields 0) ≡ Some (SharedKind CraftKind) → IsToldAs earlier fields (craft_of fields)
+craft-told : (earlier : List TrackRecord) (fields : List (List ℕ)) → IsGoing earlier → kind_named (version_of (shared_of earlier)) (field fields 0) ≡ Some (SharedKind CraftKind) → IsToldAs earlier fields (craft_of fields)
 unfolding craft_of has_text_fault
 craft-told earlier fields going named = rw (going.some, going.unended, named) (craft-at earlier (length fields == 3) (kind_in (field fields 2)) (address_in (field fields 1)))
 
@@ -88,12 +88,12 @@ end-at : (earlier : List TrackRecord) (fits : Bool) → fault_after earlier (as_
 end-at earlier false = refl
 end-at earlier true = refl
 
-end-told : (earlier : List TrackRecord) (fields : List (List ℕ)) → IsGoing earlier → kind_named (field fields 0) ≡ Some (SharedKind EndKind) → IsToldAs earlier fields (as_shared (end_of fields))
+end-told : (earlier : List TrackRecord) (fields : List (List ℕ)) → IsGoing earlier → kind_named (version_of (shared_of earlier)) (field fields 0) ≡ Some (SharedKind EndKind) → IsToldAs earlier fields (as_shared (end_of fields))
 unfolding end_of has_text_fault
 end-told earlier fields going named = rw (going.some, going.unended, named) (end-at earlier (length fields == 1))
 
 -- No kind.
-unnamed-told : (earlier : List TrackRecord) (fields : List (List ℕ)) → IsGoing earlier → kind_named (field fields 0) ≡ None → IsToldAs earlier fields (Err code.Kind)
+unnamed-told : (earlier : List TrackRecord) (fields : List (List ℕ)) → IsGoing earlier → kind_named (version_of (shared_of earlier)) (field fields 0) ≡ None → IsToldAs earlier fields (Err code.Kind)
 unfolding has_text_fault
 unnamed-told earlier fields going named = rw (going.some, going.unended, named) refl
 
@@ -113,6 +113,10 @@ count-same LegKind fields plain = refl
 count-same MissKind fields plain = refl
 count-same PlanKind fields plain = refl
 count-same FateKind fields plain = refl
+count-same ProfileKind fields plain = refl
+count-same NameKind fields plain = refl
+count-same ClockKind fields plain = refl
+count-same CallKind fields plain = refl
 count-same EndKind fields plain = refl
 
 number-same : (kind : RecordKind) (fields : List (List ℕ)) → is_plain kind ≡ true → is_number_wrong (SharedKind kind) fields ≡ enc.is_number_wrong kind fields
@@ -124,6 +128,10 @@ number-same LegKind fields plain = refl
 number-same MissKind fields plain = refl
 number-same PlanKind fields plain = refl
 number-same FateKind fields plain = refl
+number-same ProfileKind fields plain = refl
+number-same NameKind fields plain = refl
+number-same ClockKind fields plain = refl
+number-same CallKind fields plain = refl
 number-same EndKind fields plain = refl
 
 inside-same : (earlier : List Record) (kind : RecordKind) (fields : List (List ℕ)) → is_plain kind ≡ true → false ≡ enc.is_outside earlier kind fields
@@ -136,8 +144,12 @@ inside-same earlier LegKind fields plain = refl
 inside-same earlier MissKind fields plain = refl
 inside-same earlier PlanKind fields plain = refl
 inside-same earlier FateKind fields plain = refl
+inside-same earlier ProfileKind fields plain = refl
+inside-same earlier NameKind fields plain = refl
+inside-same earlier ClockKind fields plain = refl
+inside-same earlier CallKind fields plain = refl
 
-plain-faults : (earlier : List TrackRecord) (fields : List (List ℕ)) (kind : RecordKind) → IsGoing earlier → is_plain kind ≡ true → kind_named (field fields 0) ≡ Some (SharedKind kind)
+plain-faults : (earlier : List TrackRecord) (fields : List (List ℕ)) (kind : RecordKind) → IsGoing earlier → is_plain kind ≡ true → kind_named (version_of (shared_of earlier)) (field fields 0) ≡ Some (SharedKind kind)
     → (why : Code) → has_text_fault earlier (Some fields) why ≡ fault_by (shared_of earlier) kind fields why
 unfolding has_text_fault
 plain-faults earlier fields kind going plain named code.Header = rw (going.some) refl
@@ -176,23 +188,27 @@ is-end (said.Leg address course) is = absurd (false≢true is)
 is-end (said.Miss pair from to) is = absurd (false≢true is)
 is-end (said.Plan pair copies) is = absurd (false≢true is)
 is-end (said.Fate pair number copies) is = absurd (false≢true is)
+is-end (said.Profile profile) is = absurd (false≢true is)
+is-end (said.Name text) is = absurd (false≢true is)
+is-end (said.Clock second) is = absurd (false≢true is)
+is-end (said.Call address sign) is = absurd (false≢true is)
 
 -- Only the record `end` says the end.
-pub end-fields : (fields : List (List ℕ)) (now : Record) → says.record_of 2 fields ≡ Ok now → is_end now ≡ true → fields ≡ end_record
-end-fields fields now read end = ends-known fields (says.record_of 2 fields) now (record-ends 2 fields) read [] refl (ap (λ (x : Record). has_ended (x ∷ [])) (is-end now end))
+pub end-fields : (version : ℕ) (fields : List (List ℕ)) (now : Record) → says.record_of version fields ≡ Ok now → is_end now ≡ true → fields ≡ end_record
+end-fields version fields now read end = ends-known fields (says.record_of version fields) now (record-ends version fields) read [] refl (ap (λ (x : Record). has_ended (x ∷ [])) (is-end now end))
 
-kind-at-end : (kind : RecordKind) (fields : List (List ℕ)) → enc.kind_named 2 (field fields 0) ≡ Some kind → fields ≡ end_record → EndKind ≡ kind
-kind-at-end kind fields named end = same_Some EndKind kind (ap (λ (f : List (List ℕ)). enc.kind_named 2 (field f 0)) (sym end) ∙ named)
+kind-at-end : (version : ℕ) (kind : RecordKind) (fields : List (List ℕ)) → enc.kind_named version (field fields 0) ≡ Some kind → fields ≡ end_record → EndKind ≡ kind
+kind-at-end version kind fields named end = same_Some EndKind kind (ap (λ (f : List (List ℕ)). enc.kind_named version (field f 0)) (sym end) ∙ named)
 
-unended : (fields : List (List ℕ)) (kind : RecordKind) (b : Bool) (now : Record) → enc.kind_named 2 (field fields 0) ≡ Some kind → is_plain kind ≡ true → says.record_of 2 fields ≡ Ok now → is_end now ≡ b → b ≡ false
-unended fields kind false now named plain read is = refl
-unended fields kind true now named plain read is =
-    absurd (false≢true (ap is_plain (kind-at-end kind fields named (end-fields fields now read is)) ∙ plain))
+unended : (version : ℕ) (fields : List (List ℕ)) (kind : RecordKind) (b : Bool) (now : Record) → enc.kind_named version (field fields 0) ≡ Some kind → is_plain kind ≡ true → says.record_of version fields ≡ Ok now → is_end now ≡ b → b ≡ false
+unended version fields kind false now named plain read is = refl
+unended version fields kind true now named plain read is =
+    absurd (false≢true (ap is_plain (kind-at-end version kind fields named (end-fields version fields now read is)) ∙ plain))
 
-plain-told : (earlier : List TrackRecord) (fields : List (List ℕ)) (kind : RecordKind) → IsGoing earlier → is_plain kind ≡ true → kind_named (field fields 0) ≡ Some (SharedKind kind)
-    → enc.kind_named 2 (field fields 0) ≡ Some kind → says.record_of 2 fields ≡ read-by kind fields → IsToldAs earlier fields (as_shared (read-by kind fields))
-plain-told earlier fields kind going plain named named-2 read =
-    same-faults earlier (read-by kind fields) (λ now is. unended fields kind (is_end now) now named-2 plain (read ∙ is) refl)
+plain-told : (earlier : List TrackRecord) (fields : List (List ℕ)) (kind : RecordKind) → IsGoing earlier → is_plain kind ≡ true → kind_named (version_of (shared_of earlier)) (field fields 0) ≡ Some (SharedKind kind)
+    → enc.kind_named (version_of (shared_of earlier)) (field fields 0) ≡ Some kind → says.record_of (version_of (shared_of earlier)) fields ≡ read-by kind fields → IsToldAs earlier fields (as_shared (read-by kind fields))
+plain-told earlier fields kind going plain named known read =
+    same-faults earlier (read-by kind fields) (λ now is. unended (version_of (shared_of earlier)) fields kind (is_end now) now known plain (read ∙ is) refl)
     ∙ kind-told (shared_of earlier) kind fields going.sound
     ∙ sym (lowest-same (has_text_fault earlier (Some fields)) (fault_by (shared_of earlier) kind fields) (plain-faults earlier fields kind going plain named))
 
@@ -201,23 +217,27 @@ found-step : (test : RecordKind → Bool) (k kind : RecordKind) (rest : Option R
 found-step test k kind rest true e later is = ap test (sym (same_Some k kind is)) ∙ e
 found-step test k kind rest false e later is = later is
 
-found-passes : (test : RecordKind → Bool) (kinds : List RecordKind) (kind : RecordKind) → find test kinds ≡ Some kind → test kind ≡ true
+pub found-passes : (test : RecordKind → Bool) (kinds : List RecordKind) (kind : RecordKind) → find test kinds ≡ Some kind → test kind ≡ true
 found-passes test [] kind is = absurd (none-some kind is)
 found-passes test (k ∷ kinds) kind is = found-step test k kind (find test kinds) (test k) refl (found-passes test kinds kind) is
 
 -- A record of a kind that an encounter has, but for an aircraft and a leg.
-shared-told : (earlier : List TrackRecord) (fields : List (List ℕ)) (kind : RecordKind) → IsGoing earlier → kind_named (field fields 0) ≡ Some (SharedKind kind) → enc.kind_named 2 (field fields 0) ≡ Some kind
-    → says.record_of 2 fields ≡ read-by kind fields → bytes_eq (field fields 0) (codes "craft") ≡ false → bytes_eq (field fields 0) (codes "leg") ≡ false → bytes_eq (field fields 0) (kind_word kind) ≡ true
+shared-told : (earlier : List TrackRecord) (fields : List (List ℕ)) (kind : RecordKind) → IsGoing earlier → kind_named (version_of (shared_of earlier)) (field fields 0) ≡ Some (SharedKind kind) → enc.kind_named (version_of (shared_of earlier)) (field fields 0) ≡ Some kind
+    → says.record_of (version_of (shared_of earlier)) fields ≡ read-by kind fields → bytes_eq (field fields 0) (codes "craft") ≡ false → bytes_eq (field fields 0) (codes "leg") ≡ false → bytes_eq (field fields 0) (kind_word kind) ≡ true
     → IsToldAs earlier fields (as_shared (read-by kind fields))
-shared-told earlier fields CraftKind going named named-2 read craft leg passes = absurd (both_ways _ craft passes)
-shared-told earlier fields LegKind going named named-2 read craft leg passes = absurd (both_ways _ leg passes)
-shared-told earlier fields EndKind going named named-2 read craft leg passes = end-told earlier fields going named
-shared-told earlier fields RunKind going named named-2 read craft leg passes = plain-told earlier fields RunKind going refl named named-2 read
-shared-told earlier fields GainsKind going named named-2 read craft leg passes = plain-told earlier fields GainsKind going refl named named-2 read
-shared-told earlier fields ClimbKind going named named-2 read craft leg passes = plain-told earlier fields ClimbKind going refl named named-2 read
-shared-told earlier fields MissKind going named named-2 read craft leg passes = plain-told earlier fields MissKind going refl named named-2 read
-shared-told earlier fields PlanKind going named named-2 read craft leg passes = plain-told earlier fields PlanKind going refl named named-2 read
-shared-told earlier fields FateKind going named named-2 read craft leg passes = plain-told earlier fields FateKind going refl named named-2 read
+shared-told earlier fields CraftKind going named known read craft leg passes = absurd (both_ways _ craft passes)
+shared-told earlier fields LegKind going named known read craft leg passes = absurd (both_ways _ leg passes)
+shared-told earlier fields EndKind going named known read craft leg passes = end-told earlier fields going named
+shared-told earlier fields RunKind going named known read craft leg passes = plain-told earlier fields RunKind going refl named known read
+shared-told earlier fields GainsKind going named known read craft leg passes = plain-told earlier fields GainsKind going refl named known read
+shared-told earlier fields ClimbKind going named known read craft leg passes = plain-told earlier fields ClimbKind going refl named known read
+shared-told earlier fields MissKind going named known read craft leg passes = plain-told earlier fields MissKind going refl named known read
+shared-told earlier fields PlanKind going named known read craft leg passes = plain-told earlier fields PlanKind going refl named known read
+shared-told earlier fields FateKind going named known read craft leg passes = plain-told earlier fields FateKind going refl named known read
+shared-told earlier fields ProfileKind going named known read craft leg passes = plain-told earlier fields ProfileKind going refl named known read
+shared-told earlier fields NameKind going named known read craft leg passes = plain-told earlier fields NameKind going refl named known read
+shared-told earlier fields ClockKind going named known read craft leg passes = plain-told earlier fields ClockKind going refl named known read
+shared-told earlier fields CallKind going named known read craft leg passes = plain-told earlier fields CallKind going refl named known read
 
 name-is : (name word : List ℕ) → bytes_eq name word ≡ true → name ≡ word
 name-is name word is = (bytes_eq-Decides name word).0 is
@@ -227,25 +247,25 @@ named-by true b o e f = absurd (false≢true (sym e))
 named-by false true o e f = absurd (false≢true (sym f))
 named-by false false o e f = refl
 
-named-other : (name : List ℕ) (o : Option RecordKind) → bytes_eq name (codes "at") ≡ false → bytes_eq name (codes "leg") ≡ false → enc.kind_named 2 name ≡ o → kind_named name ≡ option_map SharedKind o
-named-other name o point leg is = named-by (bytes_eq name (codes "at")) (bytes_eq name (codes "leg")) (enc.kind_named 2 name) point leg ∙ ap (option_map SharedKind) is
+pub named-other : (version : ℕ) (name : List ℕ) (o : Option RecordKind) → bytes_eq name (codes "at") ≡ false → bytes_eq name (codes "leg") ≡ false → enc.kind_named version name ≡ o → kind_named version name ≡ option_map SharedKind o
+named-other version name o point leg is = named-by (bytes_eq name (codes "at")) (bytes_eq name (codes "leg")) (enc.kind_named version name) point leg ∙ ap (option_map SharedKind) is
 
 other-told : (earlier : List TrackRecord) (fields : List (List ℕ)) (o : Option RecordKind) → IsGoing earlier → bytes_eq (field fields 0) (codes "at") ≡ false → bytes_eq (field fields 0) (codes "craft") ≡ false
-    → bytes_eq (field fields 0) (codes "leg") ≡ false → enc.kind_named 2 (field fields 0) ≡ o → IsToldAs earlier fields (as_shared (says.record_of 2 fields))
+    → bytes_eq (field fields 0) (codes "leg") ≡ false → enc.kind_named (version_of (shared_of earlier)) (field fields 0) ≡ o → IsToldAs earlier fields (as_shared (says.record_of (version_of (shared_of earlier)) fields))
 other-told earlier fields None going point craft leg is =
-    let read : says.record_of 2 fields ≡ Err code.Kind = record-told 2 fields ∙ ap (λ o. kind-result o fields) is in
-    rw read (unnamed-told earlier fields going (named-other (field fields 0) None point leg is))
+    let read : says.record_of (version_of (shared_of earlier)) fields ≡ Err code.Kind = record-told (version_of (shared_of earlier)) fields ∙ ap (λ o. kind-result o fields) is in
+    rw read (unnamed-told earlier fields going (named-other (version_of (shared_of earlier)) (field fields 0) None point leg is))
 other-told earlier fields (Some kind) going point craft leg is =
-    let read : says.record_of 2 fields ≡ read-by kind fields = record-told 2 fields ∙ ap (λ o. kind-result o fields) is in
-    let passes = found-passes (λ kind. bytes_eq (field fields 0) (kind_word kind)) (enc.kinds_of 2) kind is in
-    rw read (shared-told earlier fields kind going (named-other (field fields 0) (Some kind) point leg is) is read craft leg passes)
+    let read : says.record_of (version_of (shared_of earlier)) fields ≡ read-by kind fields = record-told (version_of (shared_of earlier)) fields ∙ ap (λ o. kind-result o fields) is in
+    let passes = found-passes (λ kind. bytes_eq (field fields 0) (kind_word kind)) (enc.kinds_of (version_of (shared_of earlier))) kind is in
+    rw read (shared-told earlier fields kind going (named-other (version_of (shared_of earlier)) (field fields 0) (Some kind) point leg is) is read craft leg passes)
 
 -- Each record.
-pub record-told-as : (earlier : List TrackRecord) (fields : List (List ℕ)) → IsGoing earlier → fault_after earlier (record_of fields) ≡ lowest_of (has_text_fault earlier (Some fields))
+pub record-told-as : (earlier : List TrackRecord) (fields : List (List ℕ)) → IsGoing earlier → fault_after earlier (record_of (version_of (shared_of earlier)) fields) ≡ lowest_of (has_text_fault earlier (Some fields))
 record-told-as earlier fields going = at (bytes_eq (field fields 0) (codes "at")) (bytes_eq (field fields 0) (codes "craft")) (bytes_eq (field fields 0) (codes "leg")) refl refl refl where
   at : (a b c : Bool) → bytes_eq (field fields 0) (codes "at") ≡ a → bytes_eq (field fields 0) (codes "craft") ≡ b → bytes_eq (field fields 0) (codes "leg") ≡ c
-      → fault_after earlier (if a then point_of fields else if b then craft_of fields else if c then Err code.Kind else as_shared (says.record_of 2 fields)) ≡ lowest_of (has_text_fault earlier (Some fields))
+      → fault_after earlier (if a then point_of fields else if b then craft_of fields else if c then Err code.Kind else as_shared (says.record_of (version_of (shared_of earlier)) fields)) ≡ lowest_of (has_text_fault earlier (Some fields))
   at true b c point craft leg = point-told earlier fields going (rw point refl)
-  at false true c point craft leg = craft-told earlier fields going (ap kind_named (name-is (field fields 0) (codes "craft") craft))
+  at false true c point craft leg = craft-told earlier fields going (ap (kind_named (version_of (shared_of earlier))) (name-is (field fields 0) (codes "craft") craft))
   at false false true point craft leg = unnamed-told earlier fields going (rw (point, leg) refl)
-  at false false false point craft leg = other-told earlier fields (enc.kind_named 2 (field fields 0)) going point craft leg refl
+  at false false false point craft leg = other-told earlier fields (enc.kind_named (version_of (shared_of earlier)) (field fields 0)) going point craft leg refl

@@ -1,39 +1,37 @@
 -- The faults of a record of tracks as the rules state them: one condition for each code. Where a record is one of an
 -- encounter, the condition is that of the encounter's text.
-use Rattle.std.specs.Prelude.{◌≡◌, ℕ, ℤ, ◌+◌, ◌==◌, ◌<◌, ◌&&◌, ◌||◌, not, Bool, true, false, pos, neg_ℤ, if◌then◌else◌, List, [], ◌∷◌, length, codes, Option, Some, None, option_map, is_none, is_some, slice_get, take, Result, Ok, Err}
+use Rattle.std.specs.Prelude.{◌≡◌, ℕ, ℤ, ◌+◌, ◌==◌, ◌<◌, ◌&&◌, ◌||◌, not, Bool, true, false, pos, neg_ℤ, if◌then◌else◌, List, [], ◌∷◌, length, codes, Option, Some, None, option_map, is_none, is_some, slice_get, take, Result, Ok}
 use Rattle.std.specs.List.{list_any}
 use Rattle.std.specs.Str.{bytes_eq}
 use Rattle.acas_base.specs.declared.craft.CraftSpec.{CraftSpec}
 use Rattle.enc_file.specs.Conditions as enc
 use Rattle.enc_file.specs.Conditions.{CraftKind, RecordKind, if_going, if_said, is_first, is_stranger, no_address, no_number}
-use Rattle.enc_file.specs.Earlier.{crafts_of, for_index, has_ended}
+use Rattle.enc_file.specs.Earlier.{crafts_of, for_index, has_ended, version_of}
 use Rattle.enc_file.specs.Faults.{holds}
 use Rattle.enc_file.specs.Spelling.{end_record}
 use Rattle.enc_file.specs.Values.{address_in, field, kind_in, number_in}
-use Rattle.enc_file.specs.declared.record.Record.TheVariants as said
 use Rattle.enc_file.specs.declared.refusal.Code.{Code}
 use Rattle.enc_file.specs.declared.refusal.Code.TheVariants as code
 use Rattle.track_file.specs.Along.{IsFaultOf, craft_at}
 use Rattle.track_file.specs.Track.{is_from}
 use Rattle.track_text.specs.Codes.{fault_number}
 use Rattle.track_text.specs.Earlier.{cycles_of, shared_of, track_of, tracks_of}
-use Rattle.track_text.specs.Saying.{is_header, record_of}
+use Rattle.track_text.specs.Saying.{header_of, record_of, version_in}
 use Rattle.track_text.specs.declared.record.TrackRecord.{TrackRecord}
-use Rattle.track_text.specs.declared.record.TrackRecord.TheVariants.{Shared}
 use Rattle.track_text.specs.declared.refusal.Fault.{Fault}
 use Rattle.track_text.specs.declared.refusal.Fault.TheVariants.{Text, Track}
 use Rattle.track_text.specs.declared.refusal.Refusal.{Refusal}
 
--- The kinds of the records after the header: a point, and those of an encounter of format 2 but the leg.
+-- The kinds of the records after the header: a point, and those of the encounter but the leg.
 pub data TrackKind : Type 0 where
   PointKind : TrackKind
   SharedKind : RecordKind → TrackKind
 
--- The kind that the first field names.
-abbrev pub kind_named : List ℕ → Option TrackKind
-kind_named name =
+-- The kind that the first field names, where the header stands for this version of the encounter.
+abbrev pub kind_named : ℕ → List ℕ → Option TrackKind
+kind_named version name =
     if bytes_eq name (codes "at") then Some PointKind else
-    if bytes_eq name (codes "leg") then None else option_map SharedKind (enc.kind_named 2 name)
+    if bytes_eq name (codes "leg") then None else option_map SharedKind (enc.kind_named version name)
 
 -- A point has six fields, and an aircraft three.
 abbrev pub is_count_wrong : TrackKind → List (List ℕ) → Bool
@@ -73,17 +71,17 @@ is_masked (SharedKind kind) fields = enc.is_masked kind fields
 
 -- A test of the kind and the fields of a record after the header and before the end.
 abbrev pub if_kind : List TrackRecord → Option (List (List ℕ)) → (TrackKind → List (List ℕ) → Bool) → Bool
-if_kind earlier next test = if_going (shared_of earlier) next (λ fields. if_said (kind_named (field fields 0)) (λ kind. test kind fields))
+if_kind earlier next test = if_going (shared_of earlier) next (λ fields. if_said (kind_named (version_of (shared_of earlier)) (field fields 0)) (λ kind. test kind fields))
 
 abbrev pub is_headed : Option (List (List ℕ)) → Bool
 is_headed None = false
-is_headed (Some fields) = is_header fields
+is_headed (Some fields) = is_some (version_in fields)
 
 -- The next record has a fault of this code after the earlier ones, one that the text of an encounter can have, too.
 -- Where there is no next record, that itself is the fault. No aircraft is outside the box.
 unfoldable pub has_text_fault : List TrackRecord → Option (List (List ℕ)) → Code → Bool
 has_text_fault earlier next code.Header = is_first (shared_of earlier) && not (is_headed next)
-has_text_fault earlier next code.Kind = if_going (shared_of earlier) next (λ fields. is_none (kind_named (field fields 0)))
+has_text_fault earlier next code.Kind = if_going (shared_of earlier) next (λ fields. is_none (kind_named (version_of (shared_of earlier)) (field fields 0)))
 has_text_fault earlier next code.Fields = if_kind earlier next is_count_wrong
 has_text_fault earlier next code.Number = if_kind earlier next is_number_wrong
 has_text_fault earlier next code.Address = if_kind earlier next is_address_wrong
@@ -113,14 +111,10 @@ pub record IsLowestFault (earlier : List TrackRecord) (next : Option (List (List
 abbrev pub HasNoFault : List TrackRecord → Option (List (List ℕ)) → Type 0
 HasNoFault earlier next = (why : Fault) → HasFault earlier next why → ⊥
 
--- The header stands for that of an encounter of format 2.
-abbrev pub header_of : List (List ℕ) → Result TrackRecord Code
-header_of fields = if is_header fields then Ok (Shared (said.Header 2)) else Err code.Header
-
 -- What a record says by itself. The first record is the header.
 abbrev pub said_by : List TrackRecord → List (List ℕ) → Result TrackRecord Code
 said_by [] fields = header_of fields
-said_by (last ∷ earlier) fields = record_of fields
+said_by (last ∷ earlier) fields = record_of (version_of (shared_of (last ∷ earlier))) fields
 
 -- These records have no fault, each after those before it. `all` is what they and the earlier records say.
 abbrev pub ArePassed : List TrackRecord → List (List (List ℕ)) → List TrackRecord → Type 0

@@ -1,5 +1,5 @@
 -- The kinds of records that a text of tracks has, and what has to stand in the records that are its own.
-use Rattle.std.specs.Prelude.{◌≡◌, ℕ, Bool, true, false, List, [], ◌∷◌, codes}
+use Rattle.std.specs.Prelude.{◌≡◌, ℕ, Bool, true, false, List, [], ◌∷◌, codes, Some}
 use Rattle.enc_file.specs.Conditions.{CraftKind}
 use Rattle.enc_file.specs.Values.{field}
 use Rattle.fault_text.specs.Lines.{fields_in}
@@ -8,7 +8,7 @@ use Rattle.fault_text.specs.declared.names.FieldName.{FieldName}
 use Rattle.fault_text.specs.declared.names.FieldName.TheVariants as name
 use Rattle.fault_text.specs.declared.names.RecordKind.{RecordKind}
 use Rattle.fault_text.specs.declared.names.RecordKind.TheVariants as kind
-use Rattle.track_text.specs.Conditions.{PointKind, SharedKind, TrackKind}
+use Rattle.track_text.specs.Conditions.{PointKind, SharedKind, TrackKind, kind_named}
 use Rattle.track_text.specs.declared.kinds.LineKind.{LineKind}
 use Rattle.track_text.specs.declared.kinds.LineKind.TheVariants as of
 use Rattle.track_text.specs.declared.kinds.OwnKind.{OwnKind}
@@ -42,7 +42,16 @@ abbrev pub stated_line : LineKind → TrackKind
 stated_line (of.Own own) = stated_own own
 stated_line (of.Shared kind) = SharedKind (stated_kind kind)
 
+-- A word names this kind.
+abbrev pub IsWordOf : LineKind → List ℕ → Type 0
+IsWordOf (of.Own own) word = own_word own ≡ word
+IsWordOf (of.Shared kind) word = (word_text kind ≡ word) × (is_shared kind ≡ true)
+
 -- The first field of a line names this kind.
 abbrev pub IsLineKind : List ℕ → LineKind → Type 0
-IsLineKind line (of.Own own) = own_word own ≡ field (fields_in line) 0
-IsLineKind line (of.Shared kind) = (word_text kind ≡ field (fields_in line) 0) × (is_shared kind ≡ true)
+IsLineKind line kind = IsWordOf kind (field (fields_in line) 0)
+
+-- A word names this kind, where the header stands for this version of the encounter.
+pub record IsKindNamed (version : ℕ) (word : List ℕ) (kind : LineKind) : Type 0 where
+  pub names : IsWordOf kind word
+  pub named : kind_named version word ≡ Some (stated_line kind)

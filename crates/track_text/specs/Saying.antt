@@ -1,5 +1,5 @@
 -- What a record of tracks says by itself.
-use Rattle.std.specs.Prelude.{◌==◌, ◌&&◌, if◌then◌else◌, Bool, ℕ, pos, List, length, codes, None, Result, Ok, Err}
+use Rattle.std.specs.Prelude.{◌==◌, ◌&&◌, if◌then◌else◌, ℕ, pos, List, length, codes, Option, Some, None, Result, Ok, Err}
 use Rattle.std.specs.Str.{bytes_eq}
 use Rattle.enc_file.specs.Saying as enc
 use Rattle.enc_file.specs.Saying.{needs, needs_address, needs_number}
@@ -11,9 +11,18 @@ use Rattle.enc_file.specs.declared.refusal.Code.TheVariants as code
 use Rattle.track_text.specs.declared.record.TrackRecord.{TrackRecord}
 use Rattle.track_text.specs.declared.record.TrackRecord.TheVariants.{Shared, At}
 
--- The header is `tracks,1`.
-abbrev pub is_header : List (List ℕ) → Bool
-is_header fields = length fields == 2 && bytes_eq (field fields 0) (codes "tracks") && bytes_eq (field fields 1) (codes "1")
+-- The header is `tracks,1` or `tracks,2`. It stands for that of an encounter of format 2, or of format 3.
+abbrev pub version_named : List ℕ → Option ℕ
+version_named format =
+    if bytes_eq format (codes "1") then Some 2 else
+    if bytes_eq format (codes "2") then Some 3 else None
+
+unfoldable pub version_in : List (List ℕ) → Option ℕ
+version_in fields = if length fields == 2 && bytes_eq (field fields 0) (codes "tracks") then version_named (field fields 1) else None
+
+-- The first record.
+abbrev pub header_of : List (List ℕ) → Result TrackRecord Code
+header_of fields = needs (version_in fields) code.Header (λ version. Ok (Shared (said.Header version)))
 
 -- A record of `count` fields.
 abbrev pub with_fields : List (List ℕ) → ℕ → Result TrackRecord Code → Result TrackRecord Code
@@ -43,13 +52,13 @@ abbrev pub as_shared : Result Record Code → Result TrackRecord Code
 as_shared (Err why) = Err why
 as_shared (Ok now) = Ok (Shared now)
 
--- A record that is read as in an encounter of format 2.
-abbrev pub read_shared : List (List ℕ) → Result TrackRecord Code
-read_shared fields = as_shared (enc.record_of 2 fields)
+-- A record that is read as in an encounter of this format.
+abbrev pub read_shared : ℕ → List (List ℕ) → Result TrackRecord Code
+read_shared version fields = as_shared (enc.record_of version fields)
 
 -- A record after the header, by its kind. There are no legs.
-abbrev pub record_of : List (List ℕ) → Result TrackRecord Code
-record_of fields =
+abbrev pub record_of : ℕ → List (List ℕ) → Result TrackRecord Code
+record_of version fields =
     if bytes_eq (field fields 0) (codes "at") then point_of fields else
     if bytes_eq (field fields 0) (codes "craft") then craft_of fields else
-    if bytes_eq (field fields 0) (codes "leg") then Err code.Kind else read_shared fields
+    if bytes_eq (field fields 0) (codes "leg") then Err code.Kind else read_shared version fields

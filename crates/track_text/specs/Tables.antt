@@ -25,10 +25,11 @@ use Rattle.track_text.specs.declared.refusal.Fault.TheVariants.{Text, Track}
 use Rattle.track_text.specs.declared.refusal.ReadError.{ReadError}
 use Rattle.track_text.specs.declared.tables.TrackTables.{TrackTables}
 
--- The fields that a record says by itself are in their ranges.
-abbrev pub IsTrackSaid : TrackRecord → Type 0
-IsTrackSaid (Shared now) = IsSaid now × IsOfFormat 2 now
-IsTrackSaid (At address point) = IsPoint point
+-- The fields that a record says by itself are in their ranges, and it is of a kind that this version of the encounter
+-- has.
+abbrev pub IsTrackSaid : ℕ → TrackRecord → Type 0
+IsTrackSaid version (Shared now) = IsSaid now × IsOfFormat version now
+IsTrackSaid version (At address point) = IsPoint point
 
 -- What is wrong with a record after those before it, of what can be wrong in the text of an encounter, too. Of several
 -- codes it is the lowest.
@@ -57,11 +58,6 @@ pub record IsFine (earlier : List TrackRecord) (now : TrackRecord) : Type 0 wher
   pub sound : fault_of earlier now ≡ None
   pub flown : ends now ≡ true → CanBeFlown (cycles_of earlier) (tracks_of earlier)
 
--- The tables of an encounter have the header from the start.
-abbrev pub headed : List Record → List Record
-headed [] = said.Header 2 ∷ []
-headed (last ∷ earlier) = last ∷ earlier
-
 -- Room for the tracks of all aircraft that there may be, and no point.
 abbrev pub AreBare : List (Vec Point Global) → Type 0
 AreBare tracks = map (λ points. points.items) tracks ≡ replicate CRAFTS []
@@ -70,8 +66,8 @@ AreBare tracks = map (λ points. points.items) tracks ≡ replicate CRAFTS []
 pub record KeepsTracks (earlier : List TrackRecord) (t : TrackTables) : Type 0 where
   pub count : t.count ≡ length earlier
   pub unended : has_ended (shared_of earlier) ≡ false
-  pub format : version_of (headed (shared_of earlier)) ≡ 2
-  pub tables : Holds (headed (shared_of earlier)) t.tables
+  pub version : t.version ≡ version_of (shared_of earlier)
+  pub tables : Holds (shared_of earlier) t.tables
   pub many : length t.tracks.items ≡ CRAFTS
   pub points : (craft : ℕ) (d : Vec Point Global) → craft < CRAFTS → (get_or t.tracks.items craft d).items ≡ track_of craft earlier
   pub rising : All (λ points. IsTrack points.items) t.tracks.items

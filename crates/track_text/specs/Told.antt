@@ -1,7 +1,8 @@
 -- What is told of a record of tracks, by the code of its fault. What an encounter's text can have, too, is told as there.
 use Rattle.std.specs.Prelude.{◌≡◌, ℕ, ◌+◌, ◌≤◌, ℤ, ◌≤ℤ◌, ◌==◌, Bool, true, false, pos, neg_ℤ, List, [], length, map, Option, Some, None}
-use Rattle.acas_base.specs.Encounter.{most_crafts}
-use Rattle.enc_file.specs.Earlier.{crafts_of}
+use Rattle.acas_base.specs.declared.TheConstants.{CRAFTS}
+use Rattle.enc_file.specs.Conditions.{is_first}
+use Rattle.enc_file.specs.Earlier.{crafts_of, version_of}
 use Rattle.enc_file.specs.Records.{records_of}
 use Rattle.enc_file.specs.Values.{address_in, field, number_in}
 use Rattle.enc_file.specs.declared.record.Record.{Record}
@@ -19,6 +20,7 @@ use Rattle.fault_text.specs.declared.names.FieldName.TheVariants as name
 use Rattle.fault_text.specs.declared.names.RecordKind.TheVariants as kind
 use Rattle.track_file.specs.declared.track.Point.{Point}
 use Rattle.track_text.specs.Conditions.{IsRefused, TrackKind, is_address_wrong, is_count_wrong, is_masked, is_miscounted, is_number_wrong, is_repeat, is_unknown, kind_named}
+use Rattle.track_text.specs.Earlier.{shared_of}
 use Rattle.track_text.specs.Kinds.{IsLineKind, own_names, stated_own}
 use Rattle.track_text.specs.declared.kinds.LineKind.{LineKind}
 use Rattle.track_text.specs.declared.kinds.LineKind.TheVariants as of
@@ -31,16 +33,21 @@ use Rattle.track_text.specs.declared.refusal.Refusal.{Refusal}
 use Rattle.track_text.specs.declared.why.TrackWhy.{TrackWhy}
 use Rattle.track_text.specs.declared.why.TrackWhy.TheVariants as why
 
+-- The records before a refused one of this text, where there are any, have a header that stands for this version of the
+-- encounter.
+abbrev pub IsFormat : List ℕ → ℕ → Type 0
+IsFormat text version = (refusal : Refusal) (r : IsRefused (records_of text) refusal) → is_first (shared_of r.earlier) ≡ false → version_of (shared_of r.earlier) ≡ version
+
 -- No header.
 abbrev pub TellsHeader : List ℕ → TrackWhy → Type 0
 TellsHeader line why.NoRecord = line ≡ []
 TellsHeader line (why.NoHeader found) = (found.now ≡ line) × (is_written line ≡ true)
 TellsHeader line other = ⊥
 
--- A first field that names no kind.
-abbrev pub TellsName : List ℕ → TrackWhy → Type 0
-TellsName line (why.NoKind found) = (found.now ≡ field (fields_in line) 0) × (kind_named found.now ≡ None)
-TellsName line other = ⊥
+-- A first field that names no kind, where the header stands for this version of the encounter.
+abbrev pub TellsName : ℕ → List ℕ → TrackWhy → Type 0
+TellsName version line (why.NoKind told found) = (told ≡ version) × (found.now ≡ field (fields_in line) 0) × (kind_named version found.now ≡ None)
+TellsName version line other = ⊥
 
 -- A number of fields that this kind hasn't.
 abbrev pub TellsFieldCount : LineKind → List ℕ → TrackWhy → Type 0
@@ -121,7 +128,7 @@ TellsUnknownIn earlier kind fields other = ⊥
 
 -- One aircraft too many; or what is wanting at the end.
 abbrev pub TellsCountedIn : List TrackRecord → LineKind → TrackWhy → Type 0
-TellsCountedIn earlier (of.Own own.Craft) why.ManyCrafts = most_crafts 2 ≤ length (crafts_of (records_in (all_shared earlier)))
+TellsCountedIn earlier (of.Own own.Craft) why.ManyCrafts = CRAFTS ≤ length (crafts_of (records_in (all_shared earlier)))
 TellsCountedIn earlier (of.Shared kind) (why.Shared now) = TellsCounted (records_in (all_shared earlier)) kind now
 TellsCountedIn earlier kind other = ⊥
 
@@ -144,7 +151,7 @@ TellsOf line P = (kind : LineKind) × IsLineKind line kind × P kind
 -- What is wrong, by the code.
 abbrev pub TellsText : Code → List ℕ → List TrackRecord → ℕ → List ℕ → TrackWhy → Type 0
 TellsText code.Header text earlier at line w = TellsHeader line w
-TellsText code.Kind text earlier at line w = TellsName line w
+TellsText code.Kind text earlier at line w = TellsName (version_of (shared_of earlier)) line w
 TellsText code.Fields text earlier at line w = TellsOf line (λ kind. TellsFields code.Fields kind line w)
 TellsText code.Number text earlier at line w = TellsOf line (λ kind. TellsFields code.Number kind line w)
 TellsText code.Address text earlier at line w = TellsOf line (λ kind. TellsFields code.Address kind line w)
@@ -203,6 +210,7 @@ against_by other earlier kind fields = false
 pub record IsAgainst (text : List ℕ) (refusal : Refusal) (c : Code) (kind : TrackKind) (line : List ℕ) : Type 0 where
   pub refused : IsRefused (records_of text) refusal
   pub fault : against_by c refused.earlier kind (fields_in line) ≡ true
+  pub some : is_first (shared_of refused.earlier) ≡ false
   pub enough : refusal.at ≤ length (written (file_lines text)) + 1
 
 -- What is told of it. The records before it are those that `IsRefused` names.

@@ -7,7 +7,7 @@ ghost use Rattle.track_text.specs.Told.{IsAgainst, TellsEarlier, ms_in};
 ghost use Rattle.track_text.specs.declared.kinds.LineKind.TheVariants as of;
 ghost use Rattle.track_text.specs.declared.kinds.OwnKind.TheVariants as own;
 
-use crate::kinds::{LineKind, OwnKind};
+use crate::kinds::{LineKind, OwnKind, format_of};
 use crate::refusal::Refusal;
 use crate::why::TrackWhy;
 use acas_base::Address;
@@ -133,7 +133,7 @@ fn count_why(text: &[u8], refusal: Refusal, kind: LineKind, line: &[u8]) -> Trac
             OwnKind::Craft => TrackWhy::ManyCrafts,
             OwnKind::Point => unreachable!(),
         },
-        LineKind::Shared(_) => TrackWhy::Shared(end_why(text, refusal.at)),
+        LineKind::Shared(_) => TrackWhy::Shared(end_why(text, refusal.at, format_of(text))),
     }
 }
 

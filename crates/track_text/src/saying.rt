@@ -1,7 +1,8 @@
 // What a record of tracks says by itself.
-ghost use Rattle.std.specs.Prelude.{◌≡◌, IfOk};
+ghost use Rattle.std.specs.Prelude.{◌≡◌, ℕ, IfOk, IfSome};
+ghost use Rattle.acas_base.specs.Encounter.{IsVersion};
 ghost use Rattle.csv.specs.Records.{fields_of};
-ghost use Rattle.track_text.specs.Saying.{craft_of, is_header, point_of, read_shared, record_of};
+ghost use Rattle.track_text.specs.Saying.{craft_of, point_of, read_shared, record_of, version_in};
 ghost use Rattle.track_text.specs.Tables.{IsTrackSaid};
 
 use crate::record::TrackRecord;
@@ -10,26 +11,32 @@ use csv::ByteRecord;
 use enc_file::{Code, Record, address_in, field, kind_in, number_in};
 use track_file::Point;
 
-// The version of the encounter that a text of tracks says.
-pub(crate) const VERSION: u8 = 2;
-
-/// Whether a record is the header.
-pub(crate) fn is_header(row: &ByteRecord) -> bool
-    ensures { result ≡ is_header (fields_of row.now) }
+/// The version of the encounter that a header stands for.
+#[tactic(auto, unfolding(crate::specs::Saying::version_in))]
+pub(crate) fn version_in(row: &ByteRecord) -> Option<u8>
+    ensures value { result ≡ version_in (fields_of row.now) }
+    ensures range { IfSome result IsVersion }
 {
     if row.len() != 2 {
-        return false;
+        return None;
     }
     if field(row, 0) != b"tracks".as_slice() {
-        return false;
+        return None;
     }
-    field(row, 1) == b"1".as_slice()
+    let format = field(row, 1);
+    if format == b"1".as_slice() {
+        return Some(2);
+    }
+    if format == b"2".as_slice() {
+        return Some(3);
+    }
+    None
 }
 
 #[tactic(auto, unfolding(crate::specs::Saying::point_of))]
 fn point_of(row: &ByteRecord) -> Result<TrackRecord, Code>
     ensures value { result ≡ point_of (fields_of row.now) }
-    ensures ranges { IfOk result IsTrackSaid }
+    ensures ranges { (version : ℕ) → IfOk result (IsTrackSaid version) }
 {
     if row.len() != 6 {
         return Err(Code::Fields);
@@ -58,7 +65,7 @@ fn point_of(row: &ByteRecord) -> Result<TrackRecord, Code>
 #[tactic(auto, unfolding(crate::specs::Saying::craft_of))]
 fn craft_of(row: &ByteRecord) -> Result<TrackRecord, Code>
     ensures value { result ≡ craft_of (fields_of row.now) }
-    ensures ranges { IfOk result IsTrackSaid }
+    ensures ranges { (version : ℕ) → IfOk result (IsTrackSaid version) }
 {
     if row.len() != 3 {
         return Err(Code::Fields);
@@ -79,21 +86,21 @@ fn craft_of(row: &ByteRecord) -> Result<TrackRecord, Code>
     })))
 }
 
-// A record that is read as in an encounter.
-fn shared_of(row: &ByteRecord) -> Result<TrackRecord, Code>
-    ensures value { result ≡ read_shared (fields_of row.now) }
-    ensures ranges { IfOk result IsTrackSaid }
+// A record that is read as in an encounter of this format.
+fn shared_of(version: u8, row: &ByteRecord) -> Result<TrackRecord, Code>
+    ensures value { result ≡ read_shared version (fields_of row.now) }
+    ensures ranges { IfOk result (IsTrackSaid version) }
 {
-    match enc_file::record_of(VERSION, row) {
+    match enc_file::record_of(version, row) {
         Ok(record) => Ok(TrackRecord::Shared(record)),
         Err(code) => Err(code),
     }
 }
 
-/// A record after the header, by its kind.
-pub(crate) fn record_of(row: &ByteRecord) -> Result<TrackRecord, Code>
-    ensures value { result ≡ record_of (fields_of row.now) }
-    ensures ranges { IfOk result IsTrackSaid }
+/// A record after the header, by its kind. The header stands for this version of the encounter.
+pub(crate) fn record_of(version: u8, row: &ByteRecord) -> Result<TrackRecord, Code>
+    ensures value { result ≡ record_of version (fields_of row.now) }
+    ensures ranges { IfOk result (IsTrackSaid version) }
 {
     let kind = field(row, 0);
     if kind == b"at".as_slice() {
@@ -105,5 +112,5 @@ pub(crate) fn record_of(row: &ByteRecord) -> Result<TrackRecord, Code>
     if kind == b"leg".as_slice() {
         return Err(Code::Kind);
     }
-    shared_of(row)
+    shared_of(version, row)
 }

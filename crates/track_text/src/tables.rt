@@ -13,7 +13,7 @@ ghost use Rattle.track_text.specs.declared.record.TrackRecord.{TrackRecord};
 
 use crate::record::TrackRecord;
 use crate::refusal::{Fault, ReadError, Refusal};
-use crate::saying::{VERSION, is_header, record_of};
+use crate::saying::{record_of, version_in};
 use acas_base::{Address, CRAFTS, CraftSpec, Encounter};
 use csv::ByteRecord;
 use enc_file::{Code, ReadError as SharedError, Record, Tables, index_of, missing_after};
@@ -36,6 +36,8 @@ fn is_since(points: &[Point], time: i32) -> bool
 #[derive(Drop)]
 pub(crate) struct TrackTables {
     count: u32,
+    // The version of the encounter; 0 before the header.
+    version: u8,
     tables: Tables,
     tracks: Vec<Vec<Point>>,
     made: Option<Encounter>,
@@ -67,7 +69,8 @@ impl TrackTables {
     {
         Ok(TrackTables {
             count: 0,
-            tables: Tables::begun(alloc, VERSION)?,
+            version: 0,
+            tables: Tables::new(alloc)?,
             tracks: no_tracks(alloc)?,
             made: None,
         })
@@ -85,13 +88,15 @@ impl TrackTables {
     }
 
     // The first record.
-    fn add_header(&mut self, row: &ByteRecord) -> Result<(), ReadError>
+    fn add_header(&mut self, alloc: Global, row: &ByteRecord) -> Result<(), ReadError>
         requires { self.old.count ≡ 0 }
         ensures { HoldsTracks [] self.old → Takes [] (fields_of row.now) self.new result }
     {
-        if !is_header(row) {
+        let Some(version) = version_in(row) else {
             return Err(self.refused(Fault::Text(Code::Header)));
-        }
+        };
+        self.tables = Tables::begun(alloc, version)?;
+        self.version = version;
         self.count = 1;
         Ok(())
     }
@@ -117,7 +122,7 @@ impl TrackTables {
     fn add_shared(&mut self, alloc: Global, now: Record) -> Result<(), ReadError>
         requires room { self.old.count < 2 ^ 32 - 1 }
         requires kept { IsKept self.old }
-        requires said { IsTrackSaid (TrackRecord.Shared now) }
+        requires said { IsTrackSaid self.old.version (TrackRecord.Shared now) }
         requires more { is_end now ≡ false }
         ensures { (earlier : List TrackRecord) → AreBegun earlier → KeepsTracks earlier self.old → Adds earlier (TrackRecord.Shared now) self.new result }
     {
@@ -158,7 +163,7 @@ impl TrackTables {
     fn add_record(&mut self, alloc: Global, now: Record) -> Result<(), ReadError>
         requires room { self.old.count < 2 ^ 32 - 1 }
         requires kept { IsKept self.old }
-        requires said { IsTrackSaid (TrackRecord.Shared now) }
+        requires said { IsTrackSaid self.old.version (TrackRecord.Shared now) }
         ensures { (earlier : List TrackRecord) → AreBegun earlier → KeepsTracks earlier self.old → Adds earlier (TrackRecord.Shared now) self.new result }
     {
         match now {
@@ -171,7 +176,7 @@ impl TrackTables {
     fn add(&mut self, alloc: Global, now: TrackRecord) -> Result<(), ReadError>
         requires room { self.old.count < 2 ^ 32 - 1 }
         requires kept { IsKept self.old }
-        requires said { IsTrackSaid now }
+        requires said { IsTrackSaid self.old.version now }
         ensures { (earlier : List TrackRecord) → AreBegun earlier → KeepsTracks earlier self.old → Adds earlier now self.new result }
     {
         match now {
@@ -187,12 +192,12 @@ impl TrackTables {
         ensures { (earlier : List TrackRecord) → HoldsTracks earlier self.old → Takes earlier (fields_of row.now) self.new result }
     {
         if self.count == 0 {
-            return self.add_header(row);
+            return self.add_header(alloc, row);
         }
         if self.made.is_some() {
             return Err(self.refused(Fault::Text(Code::After)));
         }
-        match record_of(row) {
+        match record_of(self.version, row) {
             Ok(now) => self.add(alloc, now),
             Err(code) => Err(self.refused(Fault::Text(code))),
         }

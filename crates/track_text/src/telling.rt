@@ -8,7 +8,7 @@ ghost use Rattle.track_text.specs.Told.{Tells, is_of_earlier, is_of_fields};
 ghost use Rattle.track_text.specs.declared.refusal.Fault.TheVariants as fault;
 
 use crate::against::against_why;
-use crate::kinds::line_kind;
+use crate::kinds::{format_of, line_kind};
 use crate::refusal::{Fault, Refusal};
 use crate::why::{TrackWhy, fields_why, header_why};
 use enc_file::Code;
@@ -24,7 +24,7 @@ fn record_why<'a>(text: &[u8], refusal: Refusal, code: Code, line: &'a [u8]) -> 
     requires place { IsRecord (file_lines text.now) refusal.at line.now }
     ensures { Tells text.now refusal line.now result }
 {
-    let Some(kind) = line_kind(line) else {
+    let Some(kind) = line_kind(format_of(text), line) else {
         unreachable!();
     };
     fields_why(code, kind, line)
@@ -39,7 +39,7 @@ fn earlier_why<'a>(text: &[u8], refusal: Refusal, code: Code, line: &'a [u8]) ->
     requires place { IsRecord (file_lines text.now) refusal.at line.now }
     ensures { Tells text.now refusal line.now result }
 {
-    let Some(kind) = line_kind(line) else {
+    let Some(kind) = line_kind(format_of(text), line) else {
         unreachable!();
     };
     against_why(text, refusal, code, kind, line)
@@ -57,6 +57,7 @@ fn text_why<'a>(text: &[u8], refusal: Refusal, code: Code, line: &'a [u8]) -> Tr
     match code {
         Code::Header => header_why(line),
         Code::Kind => TrackWhy::NoKind {
+            version: format_of(text),
             found: field(line, 0),
         },
         Code::Fields | Code::Number | Code::Address | Code::Mask => {

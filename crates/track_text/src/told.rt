@@ -2,9 +2,10 @@
 ghost use Rattle.std.specs.Prelude.{◌≡◌, ◌+◌, ◌-◌, ◌<◌, ◌≤◌, ◌^◌, ◌++◌, length};
 ghost use Rattle.enc_file.specs.Records.{records_of};
 ghost use Rattle.track_text.specs.Conditions.{IsRefused};
-ghost use Rattle.track_text.specs.Sentences.{address_text, no_kind_text, not_above_text, track_fault, track_why_text};
+ghost use Rattle.track_text.specs.Sentences.{address_text, is_newer, kinds_text, no_kind_text, not_above_text, track_fault, track_why_text};
 ghost use Rattle.track_text.specs.Telling.{IsExplained};
 
+use crate::kinds::word_kind;
 use crate::refusal::Refusal;
 use crate::telling::why_of;
 use crate::why::TrackWhy;
@@ -47,15 +48,36 @@ fn add_track_fault(line: &mut Line, fault: TrackFault, address: u32)
     }
 }
 
+// What is said of a word that is none of the kinds behind a header, which stands for this version of the encounter.
+fn kinds_text(version: u8) -> &'static str
+    ensures text { result.now ≡ kinds_text version }
+    ensures short { length result.now ≤ 120 }
+{
+    if version < 3 {
+        return " is no kind of record of \"tracks,1\" (run, gains, craft, climb, at, miss, plan, fate, end)";
+    }
+    " is no kind of record of \"tracks,2\" (profile, name, clock, run, gains, craft, call, climb, at, miss, plan, fate, end)"
+}
+
+// Whether `tracks,2` alone has a kind, and the header is `tracks,1`.
+fn is_newer(version: u8, found: &[u8]) -> bool
+    ensures { result ≡ is_newer version found.now }
+{
+    version < 3 && word_kind(3, found).is_some()
+}
+
 // What is said of a word that names no kind of record of tracks.
-fn no_kind_text(found: &[u8]) -> &'static str
-    ensures text { result.now ≡ no_kind_text found.now }
-    ensures short { length result.now ≤ 100 }
+fn no_kind_text(version: u8, found: &[u8]) -> &'static str
+    ensures text { result.now ≡ no_kind_text version found.now }
+    ensures short { length result.now ≤ 120 }
 {
     if found == b"tracks".as_slice() {
         return " can only be the first record";
     }
-    " is no kind of record of tracks (run, gains, craft, climb, at, miss, plan, fate, end)"
+    if is_newer(version, found) {
+        return " is a kind of record of \"tracks,2\" alone; the first record is \"tracks,1\"";
+    }
+    kinds_text(version)
 }
 
 // Adds that the time of a point isn't above that of the last point of its aircraft.
@@ -80,15 +102,15 @@ fn add_track_why(line: &mut Line, why: &TrackWhy<'_>)
 {
     match *why {
         TrackWhy::NoRecord => {
-            line.text("there is no record; the first one has to be \"tracks,1\"");
+            line.text("there is no record; the first one has to be \"tracks,1\" or \"tracks,2\"");
         }
         TrackWhy::NoHeader { found } => {
-            line.text("the first record has to be \"tracks,1\", and is ");
+            line.text("the first record has to be \"tracks,1\" or \"tracks,2\", and is ");
             add_shown(line, found);
         }
-        TrackWhy::NoKind { found } => {
+        TrackWhy::NoKind { version, found } => {
             add_shown(line, found);
-            line.text(no_kind_text(found));
+            line.text(no_kind_text(version, found));
         }
         TrackWhy::FieldCount { kind, count } => {
             add_field_count(line, kind.word(), count, kind.form());

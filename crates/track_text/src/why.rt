@@ -19,8 +19,8 @@ pub enum TrackWhy<'a> {
     NoRecord,
     /// The first record is no header.
     NoHeader { found: &'a [u8] },
-    /// The first field names no kind of record of tracks.
-    NoKind { found: &'a [u8] },
+    /// The first field names no kind of record of tracks. The header stands for this version of the encounter: 2 or 3.
+    NoKind { version: u8, found: &'a [u8] },
     /// A record of this kind hasn't so many fields.
     FieldCount { kind: OwnKind, count: u32 },
     /// The time of a point, in ms, isn't above that of the last earlier point of its aircraft, which stands in this line.

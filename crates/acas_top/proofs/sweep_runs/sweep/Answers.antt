@@ -10,7 +10,7 @@ use Rattle.acas_top.proofs.sweep_runs.sweep.Goals as goal
 
 pub total-total-requires : goal.total-total-requires
 total-total-requires g c =
-    let sizes : Sizes = record { crafts = c.args.crafts; cycles = c.args.cycles } in
+    let sizes : Sizes = record { profile = c.args.profile; crafts = c.args.crafts; cycles = c.args.cycles } in
     let row = numbers c.args.first c.from.result in
     let counted = subst (λ (s : Sizes). AllZip (HasCounted s) row c.in_ok-list.list.items) c.new-job.ensures c.in_ok-list.ensures in
     let short : length row ≤ 4096 = (let n = length-map-range_with_len (number_at c.args.first) 0 c.from.result in omega (arith, n, c.from.ensures, c.requires.count)) in

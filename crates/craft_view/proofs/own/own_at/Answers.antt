@@ -1,4 +1,4 @@
-use Rattle.std.proofs.Common.{◌≡◌, ◌-ℤ◌, Some, ◌∙◌, ap, rules, w32}
+use Rattle.std.proofs.Common.{Some, ◌∙◌, ap, rules, w32}
 use Rattle.std.proofs.lemmas.Int.{to_z-of_z}
 use Rattle.craft_view.specs.Own.{resolution_row}
 use Rattle.craft_view.proofs.own.own_at.Goals as goal

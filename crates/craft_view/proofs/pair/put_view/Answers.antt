@@ -1,4 +1,4 @@
-use Rattle.std.proofs.Common.{Bool, false, ap, sym, ◌∙◌}
+use Rattle.std.proofs.Common.{false, ap, sym, ◌∙◌}
 use Rattle.std.specs.Option.{option_copied}
 use Rattle.craft_view.proofs.Showing.{shown-tested, shown-untested}
 use Rattle.craft_view.specs.Views.{asks_for, plain_view}

@@ -2,7 +2,7 @@ use Rattle.std.proofs.Common.{◌≡◌, pos, ◌-ℤ◌, ◌∙◌, true, false
 use Rattle.std.proofs.lemmas.Int.{to_z-of_z}
 use Rattle.acas_base.specs.declared.advisory.Sense.TheVariants.{Down, Up}
 use Rattle.acas_base.specs.declared.view.View.{View}
-use Rattle.craft_view.specs.ProfileTwo.{chases_in, crosses_at, holds_in_range, passes_far, threatens}
+use Rattle.craft_view.specs.ProfileTwo.{chases_in, crosses_at, holds_in_range, threatens}
 use Rattle.craft_view.proofs.profile_two.put_outline.Goals as goal
 use Rattle.craft_view.proofs.profile_two.put_outline.Goals.{then-view+then-not-view, then-view+else-not-view, else-view}
 

@@ -10,12 +10,12 @@ use Rattle.enc_gen.proofs.making.make.Goals.{After-make}
 -- The lists make up the encounter.
 whole : (c : After-make)
     → encounter_of c.setting_for-setting.result c.new-calls.result.items
-    c.in_ok-list.list.items c.in_ok-legs.legs.items c.in_ok-misses.misses.items c.new-plans.result.items c.in_ok-fates.fates.items
-    ≡ generated c.args.number c.args.crafts c.args.cycles
+    c.in_ok-begin.begin.items c.in_ok-legs.legs.items c.in_ok-misses.misses.items c.new-plans.result.items c.in_ok-fates.fates.items
+    ≡ generated c.args.profile c.args.number c.args.crafts c.args.cycles
 whole c =
-    parts-made c.args.number c.args.crafts c.args.cycles c.new-draws.result c.draw_drafts.new.draws c.draw_misses.new.draws c.draw_fates.new.draws
-    c.in_ok-drafts.drafts.items c.deref.result.now c.deref-2.result.now c.in_ok-list.list.items c.deref-3.result.now c.deref-4.result.now
-    c.in_ok-legs.legs.items c.in_ok-misses.misses.items c.in_ok-fates.fates.items c.setting_for-setting.result c.new-calls.result.items c.new-plans.result.items
+    parts-made c.args.profile c.args.number c.args.crafts c.args.cycles c.new-draws.result c.draw_drafts.new.draws c.draw_misses.new.draws c.draw_fates.new.draws
+    c.in_ok-drafts.drafts.items c.deref.result.now c.deref-2.result.now c.deref-5.result.now c.in_ok-list.list.items c.deref-3.result.now c.deref-4.result.now
+    c.in_ok-begin.begin.items c.in_ok-legs.legs.items c.in_ok-misses.misses.items c.in_ok-fates.fates.items c.setting_for-setting.result c.new-calls.result.items c.new-plans.result.items
     (record {
       seeded = c.new-draws.ensures;
       drawn = c.in_ok-drafts.ensures.made;
@@ -27,6 +27,8 @@ whole c =
       miss = c.in_ok-misses.ensures;
       second = c.deref-4.ensures.value;
       fate = c.in_ok-fates.ensures;
+      third = c.deref-5.ensures.value;
+      begins = c.in_ok-begin.ensures;
     })
     c.setting_for-setting.ensures c.new-calls.ensures.items c.new-plans.ensures.items
 
@@ -36,7 +38,7 @@ neither {X} made some none = cc (some, none)
 pub unreachable-requires : goal.unreachable-requires
 unreachable-requires c =
     let P : Parts → Type 0 = λ e. IsEncounter e in
-    let valid = subst P (sym (whole (goal.at.unreachable-requires c).After-make)) (made-valid c.args.number c.args.crafts c.args.cycles c.requires.some c.requires.few c.requires.cycles) in
+    let valid = subst P (sym (whole (goal.at.unreachable-requires c).After-make)) (made-valid c.args.profile c.args.number c.args.crafts c.args.cycles c.requires.some c.requires.few c.requires.cycles) in
     neither c.make.result (c.make.ensures.some.1 valid) c.in-None.is
 
 pub returns-clause-value : goal.returns-clause-value
@@ -45,4 +47,4 @@ returns-clause-value c = c.in-Some.ensures.value ∙ whole (goal.at.returns-clau
 pub returns-clause-inside : goal.returns-clause-inside
 returns-clause-inside c =
     let P : Parts → Type 0 = λ e. IsInside e in
-    subst P (sym (c.in-Some.ensures.value ∙ whole (goal.at.returns-clause-inside c).After-make)) (made-inside c.args.number c.args.crafts c.args.cycles c.requires.few c.requires.cycles)
+    subst P (sym (c.in-Some.ensures.value ∙ whole (goal.at.returns-clause-inside c).After-make)) (made-inside c.args.profile c.args.number c.args.crafts c.args.cycles c.requires.few c.requires.cycles)

@@ -1,13 +1,28 @@
-use Rattle.std.proofs.Common.{refl}
+use Rattle.std.proofs.Common.{◌≡◌, ◌∙◌, sym, true, nat_le, arith}
+use Rattle.std.specs.List.{list_any}
+use Rattle.enc_file.specs.Earlier.{version_of}
+use Rattle.fault_text.specs.Before.{is_about}
+use Rattle.fault_text.specs.Rows.{records_in}
 use Rattle.fault_text.specs.declared.names.RecordKind.TheVariants as kind
-use Rattle.fault_text.proofs.AfterOthers.{last-as, run-none, run-some}
+use Rattle.fault_text.proofs.AfterOthers.{nobody-active, older-format, profile-given, profile-none, run-none, third-format}
 use Rattle.fault_text.proofs.Repeats.{of-kind}
+use Rattle.fault_text.specs.Lines.{fields_in}
 use Rattle.fault_text.proofs.against.end_why.Goals as goal
 
-pub returns-in-Some : goal.returns-in-Some
-returns-in-Some c = λ line earlier a.
-    run-some c.args.text.now c.args.at line earlier c.in-Some.field-0 a (last-as c.args.text.now c.args.at (of-kind kind.Run) (of-kind kind.Run) c.last_before.result _ refl c.in-Some.is c.last_before.ensures)
+pub returns-then-not-is_given : goal.returns-then-not-is_given
+returns-then-not-is_given c = λ line earlier version a. run-none (records_in earlier) (sym (c.is_given.ensures earlier a.before) ∙ c.if-not-is_given.true)
 
-pub returns-in-None : goal.returns-in-None
-returns-in-None c = λ line earlier a.
-    run-none c.args.text.now c.args.at line earlier a (last-as c.args.text.now c.args.at (of-kind kind.Run) (of-kind kind.Run) c.last_before.result _ refl c.in-None.is c.last_before.ensures)
+pub returns-then-version-lt3 : goal.returns-then-version-lt3
+returns-then-version-lt3 c = λ line earlier version a.
+    let run : list_any (is_about (of-kind kind.Run)) (records_in earlier) ≡ true = sym (c.is_given.ensures earlier a.before) ∙ c.if-not-is_given.false in
+    nobody-active (records_in earlier) (fields_in line) a.fault run (older-format (version_of (records_in earlier)) _ (omega (arith, version, c.if-version-lt3.true)))
+
+pub returns-then-not-is_given-2 : goal.returns-then-not-is_given-2
+returns-then-not-is_given-2 c = λ line earlier version a.
+    let run : list_any (is_about (of-kind kind.Run)) (records_in earlier) ≡ true = sym (c.is_given.ensures earlier a.before) ∙ c.if-not-is_given.false in
+    profile-none (records_in earlier) run (third-format (version_of (records_in earlier)) (omega (arith, version, c.if-version-lt3.false))) (sym (c.is_given-2.ensures earlier a.before) ∙ c.if-not-is_given-2.true)
+
+pub returns : goal.returns
+returns c = λ line earlier version a.
+    let run : list_any (is_about (of-kind kind.Run)) (records_in earlier) ≡ true = sym (c.is_given.ensures earlier a.before) ∙ c.if-not-is_given.false in
+    nobody-active (records_in earlier) (fields_in line) a.fault run (profile-given (nat_le 3 (version_of (records_in earlier))) _ (sym (c.is_given-2.ensures earlier a.before) ∙ c.if-not-is_given-2.false))

@@ -4,13 +4,12 @@ use Rattle.enc_file.specs.Values.{count_in, field}
 use Rattle.fault_text.specs.Before.{alike}
 use Rattle.fault_text.specs.Lines.{fields_in}
 use Rattle.fault_text.specs.Rows.{rises}
-use Rattle.fault_text.proofs.AfterOthers.{last-as, repeat-found, repeat-some, risen, tells-above, tells-again}
+use Rattle.fault_text.proofs.AfterOthers.{last-as, repeat-found, risen, tells-above, tells-again}
 use Rattle.fault_text.proofs.against.repeat_why.Goals as goal
 
-pub unreachable-requires : goal.unreachable-requires
-unreachable-requires c =
-    repeat-some c.args.text.now c.args.at c.args.kind c.args.line.now c.requires.against.0 c.requires.against.1
-    (last-as c.args.text.now c.args.at c.alike-sought.result (alike c.args.kind (fields_in c.args.line.now)) c.last_before.result _ c.alike-sought.ensures c.in_default.is c.last_before.ensures)
+pub called_why-requires-clause-none : goal.called_why-requires-clause-none
+called_why-requires-clause-none c =
+    last-as c.args.text.now c.args.at c.alike-sought.result (alike c.args.kind (fields_in c.args.line.now)) c.last_before.result _ c.alike-sought.ensures c.in_default.is c.last_before.ensures
 
 pub number_at-reached-requires : goal.number_at-reached-requires
 number_at-reached-requires c =

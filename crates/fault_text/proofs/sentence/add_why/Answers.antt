@@ -52,3 +52,11 @@ returns-in-Outside-clause-added c =
     three c.args.line.now c.text-in-Outside.new.self c.add_named.new.line c.add_leaving.new.line (codes "aircraft") (named_text (codes " ") (address_in c.in-Outside.craft.now)) _
     c.text-in-Outside.ensures.added (c.add_named.ensures.added ∙ ap (λ o. c.text-in-Outside.new.self ++ named_text (codes " ") o) c.address_in.ensures) added
     ∙ ap (λ w. c.args.line.now ++ why_text w) (sym c.in-Outside.is)
+
+pub returns-in-Called-clause-added : goal.returns-in-Called-clause-added
+returns-in-Called-clause-added c =
+    three c.args.line.now c.add_found-in-Called.new.line c.text-in-Called.new.self c.u32-in-Called.new.self _ _ _ c.add_found-in-Called.ensures.added c.text-in-Called.ensures.added c.u32-in-Called.ensures.added
+    ∙ ap (λ w. c.args.line.now ++ why_text w) (sym c.in-Called.is)
+
+pub returns-in-NoProfile-clause-added : goal.returns-in-NoProfile-clause-added
+returns-in-NoProfile-clause-added c = c.text-in-NoProfile.ensures.added ∙ ap (λ w. c.args.line.now ++ why_text w) (sym c.in-NoProfile.is)

@@ -5,6 +5,7 @@ pub returns : goal.returns
 returns c =
     rw (
       c.text.ensures.added,
+      c.add_rule.ensures.added,
       c.add_decided.ensures.added,
       c.add_told.ensures.added,
       c.add_continued.ensures.added,
@@ -13,4 +14,4 @@ returns c =
       c.add_own.ensures.added,
       c.add_reply.ensures.added,
       c.set_named.ensures.added,
-    ) (line-is c.args.reason.now)
+    ) (line-is c.args.profile c.args.reason.now)

@@ -12,7 +12,7 @@ invariant-entries g l = record {
   encounter : l.reader.encounter ≡ l.state.encounter;
   journal : l.reader.journal ≡ l.state.journal;
   ready : AreReady l.state.encounter (commits l.reader.read) l.surveillance.crafts;
-  lines : g.S.LineSink.took l.fn.sink l.sink (map reason_line (reasons_of l.state.encounter l.reader.read));
+  lines : g.S.LineSink.took l.fn.sink l.sink (map (reason_line l.state.encounter.profile) (reasons_of l.state.encounter l.reader.read));
 }
 
 abbrev pub decreases-entries : goal.decreases-entries

@@ -18,4 +18,4 @@ returns-in-Shared c =
     let k = c.in-Shared.field-0 in
     let named = subst (IsLineKind c.args.line.now) c.in-Shared.is c.requires.named in
     tells-kind c.args.text.now c.args.refusal code.Count c.args.kind (of.Shared k) c.args.line.now (why.Shared c.end_why.result) c.in-Shared.is
-    (end-counted c.args.text.now c.args.refusal k c.args.line.now c.end_why.result named.1 (against-as c.args.text.now c.args.refusal code.Count c.args.kind (of.Shared k) c.args.line.now c.in-Shared.is c.requires.against) c.end_why.ensures)
+    (end-counted c.args.text.now c.args.refusal k c.args.line.now c.end_why.result c.format_of.result named.1 c.format_of.ensures (against-as c.args.text.now c.args.refusal code.Count c.args.kind (of.Shared k) c.args.line.now c.in-Shared.is c.requires.against) c.end_why.ensures)

@@ -1,7 +1,9 @@
-use Rattle.std.proofs.Common.{◌∙◌, ap}
+use Rattle.std.proofs.Common.{◌∙◌, ap, sym}
 use Rattle.enc_file.specs.declared.refusal.Code.TheVariants as code
 use Rattle.fault_text.specs.declared.fault.Why.TheVariants as shared
+use Rattle.enc_file.specs.Earlier.{version_of}
 use Rattle.track_text.specs.Conditions.{kind_named}
+use Rattle.track_text.specs.Earlier.{shared_of}
 use Rattle.track_text.specs.declared.refusal.Fault.TheVariants.{Text}
 use Rattle.track_text.specs.declared.why.TrackWhy.TheVariants as why
 use Rattle.track_text.proofs.RefusedTracks.{after-at, after-counted, no-box, tells-by, unnamed-line}
@@ -17,8 +19,9 @@ place_of-requires-clause-counted c = after-counted (records_of c.args.text.now) 
 pub returns-in-Kind : goal.returns-in-Kind
 returns-in-Kind c =
     let is = c.requires.code ∙ ap Text c.in-Kind.is in
-    tells-by c.args.text.now c.args.refusal c.requires.refused c.args.line.now (why.NoKind c.field.result) (Text code.Kind) is
-    (c.field.ensures, ap kind_named c.field.ensures ∙ unnamed-line c.args.text.now c.args.refusal c.requires.refused c.args.line.now is c.requires.place)
+    let u = unnamed-line c.args.text.now c.args.refusal c.requires.refused c.args.line.now is c.requires.place in
+    tells-by c.args.text.now c.args.refusal c.requires.refused c.args.line.now (why.NoKind c.format_of.result c.field.result) (Text code.Kind) is
+    (sym (c.format_of.ensures c.args.refusal c.requires.refused u.some), c.field.ensures, ap (kind_named (version_of (shared_of c.requires.refused.earlier))) c.field.ensures ∙ u.named)
 
 pub returns-in-After : goal.returns-in-After
 returns-in-After c =

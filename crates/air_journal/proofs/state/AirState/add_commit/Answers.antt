@@ -1,4 +1,4 @@
-use Rattle.std.proofs.Common.{◌≡◌, ℕ, ◌+◌, ◌<◌, ◌≤◌, true, get_or, sym, ap, ◌∙◌, subst, arith}
+use Rattle.std.proofs.Common.{◌≡◌, ℕ, ◌+◌, ◌<◌, ◌≤◌, true, get_or, sym, ap, subst, arith}
 use Rattle.acas_base.specs.declared.TheConstants.{CRAFTS}
 use Rattle.air_journal.proofs.Adding.{CommitFits, commit-fits, committed-whole, may-commit}
 use Rattle.air_journal.proofs.Bounds.{active-is, below, below-all}
@@ -73,13 +73,15 @@ next_cells-cells-requires-clause-age c =
     λ j it hj e. ages c.self.invariant.whole c.args.own (own p) (free p).left j it hj e
 
 pub push_commit-requires-clause-own : goal.push_commit-requires-clause-own
-push_commit-requires-clause-own c = own (goal.at.push_commit-requires-clause-own c).After-len-position
+push_commit-requires-clause-own c =
+    let p = (goal.at.push_commit-requires-clause-own c).After-len-position in
+    (fit (goal.at.push_commit-requires-clause-own c).After-next_cells-cells p (active p) (free p)).seat
 
 pub push_commit-requires-clause-last : goal.push_commit-requires-clause-last
 push_commit-requires-clause-last c =
     let p = (goal.at.push_commit-requires-clause-last c).After-len-position in
     let f = fit (goal.at.push_commit-requires-clause-last c).After-next_cells-cells p (active p) (free p) in
-    omega (arith, f.places, ap (λ m. m.commits) c.made-cycle.ensures)
+    rw c.made-cycle.ensures f.places
 
 pub push_commit-requires-clause-new : goal.push_commit-requires-clause-new
 push_commit-requires-clause-new c =
@@ -107,7 +109,7 @@ commit-requires-clause-size c = c.next_cells-cells.ensures.size
 
 whole : (c : After-commit) → is_active (air_of c.self.inside.encounter) c.args.own ≡ true → IsFree (air_of c.self.inside.encounter) c.self.inside.journal.entries c.args.own → IsWhole c.self.inside.encounter c.push_commit.new.self c.commit.new.self
 whole c a f = committed-whole c.self.invariant.whole c.args.own (c.made-cycle.result.commits + 1) c.next_cells-cells.result c.has_many-many.result a f (ap (λ m. m.commits + 1) c.made-cycle.ensures) c.next_cells-cells.ensures c.has_many-many.ensures
-    (record { entries = c.push_commit.ensures.entries; room = c.push_commit.ensures.room; places = c.push_commit.ensures.places }) c.commit.ensures
+    (record { entries = c.push_commit.ensures.entries; room = c.push_commit.ensures.room; crafts = c.push_commit.ensures.crafts; places = c.push_commit.ensures.places }) c.commit.ensures
 
 pub invariant_of-self : goal.invariant_of-self
 invariant_of-self c = let p = (goal.at.invariant_of-self c).After-len-position in record { usual = c.self.invariant.usual; whole = whole c (active p) (free p) }

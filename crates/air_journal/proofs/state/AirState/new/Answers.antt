@@ -1,4 +1,4 @@
-use Rattle.std.proofs.Common.{◌≡◌, List, sym, ap, subst, arith}
+use Rattle.std.proofs.Common.{◌≡◌, ℕ, ◌*◌, List, length, sym, ap, ap₂, ◌∙◌, subst, arith}
 use Rattle.acas_base.specs.Encounter.{IsEncounter, Parts}
 use Rattle.acas_base.specs.declared.entry.Entry.{Entry}
 use Rattle.air_journal.proofs.Steps.{blank-kept}
@@ -16,6 +16,7 @@ invariant_of-result c =
     let same : e ≡ c.args.enc.now = c.in_ok-encounter.ensures in
     let most : most_entries (air_of e) ≡ most_entries (air_of c.args.enc.now) = ap (λ (p : Parts). most_entries (air_of p)) same in
     let cycles : e.cycles ≡ c.args.enc.now.cycles = ap (λ (p : Parts). p.cycles) same in
+    let count : c.count_of.result ≡ length e.crafts = c.count_of.ensures.value ∙ ap (λ (p : Parts). length p.crafts) (sym same) in
     record {
       usual = subst (λ (p : Parts). AreUsual p c.in_ok-usual.usual) (sym same) c.in_ok-usual.ensures;
       whole = record {
@@ -27,6 +28,7 @@ invariant_of-result c =
         kept = subst (λ (J : List Entry). IsKept (air_of e) J c.in_ok-tables.tables) (sym c.in_ok-journal.ensures.entries) (blank-kept (air_of e) c.in_ok-tables.tables c.in_ok-tables.ensures.blank);
         queues = subst (λ (p : Parts). HaveRoom (air_of p) c.in_ok-tables.tables) (sym same) c.in_ok-tables.ensures.room;
         room = omega (arith, c.pages_for.ensures.enough, c.in_ok-journal.ensures.room);
-        places = omega (arith, c.in_ok-journal.ensures.places, c.from.ensures, c.cycles.ensures.value);
+        crafts = c.in_ok-journal.ensures.crafts ∙ count;
+        places = c.in_ok-journal.ensures.places ∙ ap₂ (λ (m n : ℕ). m * n) (c.cycles.ensures.value ∙ sym cycles) count;
       };
     }

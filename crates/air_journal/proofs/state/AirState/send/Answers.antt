@@ -55,6 +55,7 @@ written : (c : After-send) → WritesOn c.self.inside.journal c.push_send.new.se
 written c = record {
   entries = c.push_send.ensures.entries ∙ ap (λ (w : ℕ). kinds.Send c.args.own c.in-Some.owing.target (c.link-number.result.sends + 1) w ∷ c.self.inside.journal.entries) c.encode-word.ensures.value;
   room = c.push_send.ensures.room;
+  crafts = c.push_send.ensures.crafts;
   places = c.push_send.ensures.places;
 }
 

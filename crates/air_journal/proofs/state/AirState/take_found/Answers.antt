@@ -41,6 +41,7 @@ whole c p a f = taken-whole c.self.invariant.whole c.args.own c.args.found a f
     (record {
       entries = c.push_take.ensures.entries ∙ ap (λ (g : Bool). kinds.Take c.args.own c.args.found.waiting.send c.args.found.waiting.copy g ∷ c.self.inside.journal.entries) c.is_some-good.ensures;
       room = c.push_take.ensures.room;
+      crafts = c.push_take.ensures.crafts;
       places = c.push_take.ensures.places;
     }) c.take.ensures
 

@@ -1,11 +1,10 @@
-use Rattle.std.proofs.Common.{◌≡◌, ℤ, List, ◌∷◌, length, ◌+◌, ◌<◌, ◌∙◌, ap, sym, subst, arith, rules, w32, to_z, of_z}
+use Rattle.std.proofs.Common.{◌≡◌, ◌+◌, ◌<◌, ◌∙◌, ap, sym, subst, arith, rules, w32, to_z, of_z}
 use Rattle.std.proofs.lemmas.Int.{ints, to_z-of_z}
-use Rattle.acas_base.specs.Encounter.{Parts}
 use Rattle.craft_view.specs.Kept.{Belongs, Kept}
-use Rattle.sens_table.specs.Above.{above_of}
+use Rattle.flight.specs.Measurement.{own_altitude}
 use Rattle.craft_view.specs.KnownTracks.{own_track, tracks_of}
 use Rattle.craft_view.specs.Sight.{sight_of}
-use Rattle.craft_view.proofs.Stepping.{above-next, active-within, own-next, then-next}
+use Rattle.craft_view.proofs.Stepping.{active-within, own-next, then-next}
 use Rattle.craft_view.proofs.craft.Craft.step.Goals as goal
 
 pub own_altitude-altitude-requires : goal.own_altitude-altitude-requires
@@ -39,11 +38,8 @@ returns-clause-belongs c =
       inside = before.inside;
       active = before.active;
       cycle = omega (arith, left);
-      above = above-next e kept.own kept.cycle cycle kept.above c.above_next-self-inside.result (to_z w32 (of_z w32 c.own_altitude-altitude.result)) next
-          (to_z-of_z w32 c.own_altitude-altitude.result (search rules) ∙ c.own_altitude-altitude.ensures.value) before.above
-          (subst (λ (d : Parts). (earlier : List ℤ) → length earlier ≡ kept.cycle → kept.above ≡ above_of d.profile d.elevation earlier → c.above_next-self-inside.result ≡ above_of d.profile d.elevation (to_z w32 (of_z w32 c.own_altitude-altitude.result) ∷ earlier))
-          c.encounter-encounter.ensures c.above_next-self-inside.ensures)
-          ∙ ap (λ n. above_of e.profile e.elevation (sight_of e kept.own n).own) next;
+      above = (rw c.encounter-encounter.ensures at c.go_on-self-inside.ensures kept.own) before.above
+          (to_z-of_z w32 c.own_altitude-altitude.result (search rules) ∙ c.own_altitude-altitude.ensures.value ∙ ap (own_altitude e kept.own) next);
       altitude = own-next e kept.own kept.cycle cycle kept.altitude c.step.new.self (to_z w32 (of_z w32 c.own_altitude-altitude.result)) c.altitude_gains.result next
           (rw c.encounter-encounter.ensures at c.altitude_gains.ensures)
           (to_z-of_z w32 c.own_altitude-altitude.result (search rules) ∙ c.own_altitude-altitude.ensures.value) before.altitude c.step.ensures.track

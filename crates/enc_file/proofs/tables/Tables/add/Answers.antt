@@ -1,4 +1,4 @@
-use Rattle.std.proofs.Common.{◌≡◌, ◌∙◌, sym, arith, pos, neg_ℤ, w32}
+use Rattle.std.proofs.Common.{◌≤◌, arith, pos, neg_ℤ, subst, w32}
 use Rattle.std.proofs.lemmas.Int.{to_z-of_z}
 use Rattle.acas_base.specs.Encounter.{IsAltitude}
 use Rattle.enc_file.proofs.Spelled.{fits-between}
@@ -36,12 +36,32 @@ returns-in-End c = λ earlier going h. rw c.in-End.is (c.add_end.ensures earlier
 
 pub returns-in-Plan : goal.returns-in-Plan
 returns-in-Plan c = λ earlier going h.
-    let format : c.args.self.now.version ≡ 2 = rw c.in-Plan.is at c.requires.format in
-    rw c.in-Plan.is (c.add_plan.ensures earlier going (sym h.version ∙ format) h)
+    let format : 2 ≤ c.args.self.now.version = rw c.in-Plan.is at c.requires.format in
+    rw c.in-Plan.is (c.add_plan.ensures earlier going (subst (λ n. 2 ≤ n) h.version format) h)
 
 pub returns-in-Climb : goal.returns-in-Climb
 returns-in-Climb c = λ earlier going h.
     let said : IsAltitude c.in-Climb.limit = rw c.in-Climb.is at c.requires.said in
     let fits = fits-between (neg_ℤ (pos 1000)) (pos 60000) c.in-Climb.limit (record { sfits = omega arith }) (record { sfits = omega arith }) said in
-    let format : c.args.self.now.version ≡ 2 = rw c.in-Climb.is at c.requires.format in
-    rw c.in-Climb.is (rw (to_z-of_z w32 c.in-Climb.limit fits) at (c.add_climb.ensures earlier going (sym h.version ∙ format) h))
+    let format : 2 ≤ c.args.self.now.version = rw c.in-Climb.is at c.requires.format in
+    rw c.in-Climb.is (rw (to_z-of_z w32 c.in-Climb.limit fits) at (c.add_climb.ensures earlier going (subst (λ n. 2 ≤ n) h.version format) h))
+
+pub returns-in-Profile : goal.returns-in-Profile
+returns-in-Profile c = λ earlier going h.
+    let format : 3 ≤ c.args.self.now.version = rw c.in-Profile.is at c.requires.format in
+    rw c.in-Profile.is (c.add_profile.ensures earlier going (subst (λ n. 3 ≤ n) h.version format) h)
+
+pub returns-in-Name : goal.returns-in-Name
+returns-in-Name c = λ earlier going h.
+    let format : 3 ≤ c.args.self.now.version = rw c.in-Name.is at c.requires.format in
+    rw c.in-Name.is (c.add_name.ensures earlier going (subst (λ n. 3 ≤ n) h.version format) h)
+
+pub returns-in-Clock : goal.returns-in-Clock
+returns-in-Clock c = λ earlier going h.
+    let format : 3 ≤ c.args.self.now.version = rw c.in-Clock.is at c.requires.format in
+    rw c.in-Clock.is (c.add_clock.ensures earlier going (subst (λ n. 3 ≤ n) h.version format) h)
+
+pub returns-in-Call : goal.returns-in-Call
+returns-in-Call c = λ earlier going h.
+    let format : 3 ≤ c.args.self.now.version = rw c.in-Call.is at c.requires.format in
+    rw c.in-Call.is (c.add_call.ensures earlier going (subst (λ n. 3 ≤ n) h.version format) h)
